@@ -1,0 +1,112 @@
+-- Tests over the numbers below k: every one passes, some one passes, the first that passes, how many pass. Assumes nothing.
+use mathlib.Core.Path.{_≡_, refl, sym, ap, _∙_}
+use mathlib.Core.Logic.{_≢_}
+use mathlib.Core.Bool.{Bool, true, false, not, cond, _&&_, _||_, and-false}
+use Prim.Native.Nat.{ℕ, zero, suc, _+_, _≤_, _<_}
+use native.Mathlib.Numerals.{add-one}
+use native.Mathlib.Omega.{arith}
+use native.Mathlib.Nat.{le-antisymm, lt-of-not-le, le-of-suc-le-suc}
+use lib.Dec.{eqb}
+use borrow.Author.Tests.{eqb-true, eqb-false, eq-eqb, ne-eqb, not-false, not-true}
+use Rattle.sets.specs.Cases.{contra, cases, both, either, or-left, or-right, not-so, lt-suc}
+
+-- ---- every one
+
+unfoldable pub every : ℕ → (ℕ → Bool) → Bool
+every zero f = true
+every (suc k) f = every k f && f k
+
+pub every-at : (k : ℕ) (f : ℕ → Bool) (p : ℕ) → every k f ≡ true → p < k → f p ≡ true
+unfolding every
+every-at zero f p e h = absurd (omega arith)
+every-at (suc k) f p e h = let t = both (every k f) (f k) e in lt-suc h (λ q. rw q (t .1)) (λ l. every-at k f p (t .0) l)
+
+pub every-of : (k : ℕ) (f : ℕ → Bool) → ((p : ℕ) → p < k → f p ≡ true) → every k f ≡ true
+unfolding every
+every-of zero f h = refl
+every-of (suc k) f h = rw (every-of k f (λ p l. h p (omega arith)), h k (omega arith))
+
+-- one that fails
+pub every-no : (k : ℕ) (f : ℕ → Bool) (p : ℕ) → p < k → f p ≡ false → every k f ≡ false
+every-no k f p h e = not-so (λ t. contra (every-at k f p t h) e)
+
+pub every-same : (k : ℕ) (f g : ℕ → Bool) → ((p : ℕ) → p < k → f p ≡ g p) → every k f ≡ every k g
+unfolding every
+every-same zero f g h = refl
+every-same (suc k) f g h = rw (every-same k f g (λ p l. h p (omega arith)), h k (omega arith))
+
+-- one turn of a loop that goes up
+pub every-step : (k : ℕ) (f : ℕ → Bool) → every (k + 1) f ≡ (every k f && f k)
+unfolding every
+every-step k f = rw add-one
+
+-- ---- some one
+
+unfoldable pub some : ℕ → (ℕ → Bool) → Bool
+some zero f = false
+some (suc k) f = some k f || f k
+
+pub some-of : (k : ℕ) (f : ℕ → Bool) (p : ℕ) → p < k → f p ≡ true → some k f ≡ true
+unfolding some
+some-of zero f p h e = absurd (omega arith)
+some-of (suc k) f p h e = lt-suc h (λ q. or-right (some k f) (f k) (rw q at e)) (λ l. or-left (some k f) (f k) (some-of k f p l e))
+
+pub some-at : (k : ℕ) (f : ℕ → Bool) → some k f ≡ true → (p : ℕ) × (p < k) × (f p ≡ true)
+unfolding some
+some-at zero f e = contra e refl
+some-at (suc k) f e =
+    either (some k f) (f k) e (λ x. let t = some-at k f x in (t .0, omega arith, t .2)) (λ x. (k, omega arith, x))
+
+pub some-none : (k : ℕ) (f : ℕ → Bool) → ((p : ℕ) → p < k → f p ≡ false) → some k f ≡ false
+some-none k f h = not-so (λ e. let t = some-at k f e in contra (t .2) (h (t .0) (t .1)))
+
+pub some-same : (k : ℕ) (f g : ℕ → Bool) → ((p : ℕ) → p < k → f p ≡ g p) → some k f ≡ some k g
+unfolding some
+some-same zero f g h = refl
+some-same (suc k) f g h = rw (some-same k f g (λ p l. h p (omega arith)), h k (omega arith))
+
+pub some-step : (k : ℕ) (f : ℕ → Bool) → some (k + 1) f ≡ (some k f || f k)
+unfolding some
+some-step k f = rw add-one
+
+-- ---- the first: the lowest number below k that passes, or k
+
+unfoldable pub first : ℕ → (ℕ → Bool) → ℕ
+first zero f = zero
+first (suc k) f = cond (eqb (first k f) k) (cond (f k) k (suc k)) (first k f)
+
+pub record First (k : ℕ) (f : ℕ → Bool) (r : ℕ) : Type 0 where
+  pub fits : r ≤ k
+  pub passes : r < k → f r ≡ true
+  pub lowest : (p : ℕ) → p < r → f p ≡ false
+
+pub first-is : (k : ℕ) (f : ℕ → Bool) → First k f (first k f)
+unfolding first
+first-is zero f = record { fits = omega arith; passes = λ h. absurd (omega arith); lowest = λ p h. absurd (omega arith) }
+first-is (suc k) f =
+    let l = first-is k f in
+    cases (eqb (first k f) k)
+    (λ e. cases (f k)
+    (λ g. rw (e, g) (record { fits = omega arith; passes = λ h. g; lowest = λ p h. l .lowest p (rw (eqb-true (first k f) k e) h) }))
+    (λ g. rw (e, g) (record { fits = omega arith; passes = λ h. absurd (omega arith); lowest = λ p h. lt-suc h (λ s. rw s g) (λ i. l .lowest p (rw (eqb-true (first k f) k e) i)) })))
+    (λ e. let n : first k f ≢ k = eqb-false (first k f) k e in let i = l .fits in rw e (record { fits = omega arith; passes = λ h. l .passes (omega arith); lowest = l .lowest }))
+
+pub first-unique : (k : ℕ) (f : ℕ → Bool) (r s : ℕ) → First k f r → First k f s → r ≡ s
+first-unique k f r s a b = le-antisymm (half r s a b) (half s r b a)
+  where
+    half : (r s : ℕ) → First k f r → First k f s → r ≤ s
+    half r s a b = le-of-suc-le-suc (lt-of-not-le (λ (h : suc s ≤ r). let i = a .fits in contra (b .passes (omega arith)) (a .lowest s h)))
+
+-- where a scan upwards stops: everything below r failed, and r passes or is the end
+pub first-found : (k : ℕ) (f : ℕ → Bool) (r : ℕ) → r < k → ((p : ℕ) → p < r → f p ≡ false) → f r ≡ true → r ≡ first k f
+first-found k f r h l e =
+    first-unique k f r (first k f) (record { fits = omega arith; passes = λ i. e; lowest = l }) (first-is k f)
+
+pub first-none : (k : ℕ) (f : ℕ → Bool) → ((p : ℕ) → p < k → f p ≡ false) → k ≡ first k f
+first-none k f l = first-unique k f k (first k f) (record { fits = omega arith; passes = λ h. absurd (omega arith); lowest = l }) (first-is k f)
+
+-- ---- how many
+
+unfoldable pub tally : ℕ → (ℕ → Bool) → ℕ
+tally zero f = zero
+tally (suc k) f = cond (f k) 1 0 + tally k f
