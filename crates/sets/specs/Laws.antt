@@ -13,9 +13,9 @@ use lib.Dec.{lit<, ltb, eqb, eqb·zero-suc, eqb·suc-zero, eqb·suc-suc}
 use borrow.Author.Tests.{eq-eqb, ne-eqb, lt-ltb, le-ltb, ltb-true, ltb-false, eqb-true, eqb-false}
 use lib.Bits.{bitwise-step, bitAnd, bitOr, and-step, or-step, and-mask, or-shifted-r}
 use lib.Count.{trailingZeros, ones, onesIn, ones-step, ones-cat}
-use Rattle.sets.specs.Cases.{contra, not-so}
+use Rattle.sets.specs.Cases.{contra, not-so, cases, both, neither, same-test}
 use Rattle.sets.specs.Below.{tally}
-use Rattle.sets.specs.Set.{isSet, has, union, inter, minus, only, size, lowest, within, putIf, collect}
+use Rattle.sets.specs.Set.{isSet, allBelow, has, union, inter, minus, only, size, lowest, within, putIf, collect}
 
 two-pos : zero < 2
 two-pos = zero-lt-suc 1
@@ -317,3 +317,43 @@ size-collect (suc n) p = go (p n) (collect n p) (collect-lt n p) (size-collect n
     go true s l ih =
         ap (λ (x : ℕ). size (union s x)) (sym (one-mul (2 ^ n))) ∙ ap ones (or-shifted-r 1 n s l) ∙ ones-cat n 1 s l ∙ ap (λ (x : ℕ). 1 + x) ih
     go false s l ih = ih ∙ sym (zero-add (tally n p))
+
+-- ---- all below n
+
+pub has-all : (n e : ℕ) → has (allBelow n) e ≡ ltb e n
+has-all zero e = has-empty e ∙ rw (le-ltb e 0 (omega arith))
+has-all (suc n) zero =
+    let p : 2 ^ suc n ≡ 2 ^ n * 2 = pow-suc 2 n in
+    let q : 1 ≤ 2 ^ n = pow-pos n in
+    let d : allBelow (suc n) % 2 ≡ 1 = omega arith in
+    has-zero (allBelow (suc n)) ∙ ap isSet d ∙ sym (lt-ltb 0 (suc n) (omega arith))
+has-all (suc n) (suc e) =
+    let p : 2 ^ suc n ≡ 2 ^ n * 2 = pow-suc 2 n in
+    let q : 1 ≤ 2 ^ n = pow-pos n in
+    let h : allBelow (suc n) / 2 ≡ allBelow n = omega arith in
+    has-suc (allBelow (suc n)) e ∙ ap (λ (x : ℕ). has x e) h ∙ has-all n e ∙ ltb-both e n
+  where
+    ltb-both : (e n : ℕ) → ltb e n ≡ ltb (suc e) (suc n)
+    ltb-both e n = same-test (ltb e n) (ltb (suc e) (suc n)) (λ t. let h : e < n = ltb-true e n t in lt-ltb (suc e) (suc n) (omega arith)) (λ t. let h : suc e < suc n = ltb-true (suc e) (suc n) t in lt-ltb e n (omega arith))
+
+-- what the code makes of 64 digits: `(1 << n) - 1`, and every digit
+pub union-zero : (a b : ℕ) → eqb (union a b) 0 ≡ (eqb a 0 && eqb b 0)
+union-zero a b =
+    same-test (eqb (union a b) 0) (eqb a 0 && eqb b 0)
+    (λ t. let z : union a b ≡ 0 = eqb-true (union a b) 0 t in
+    let none : (e : ℕ) → (has a e || has b e) ≡ false = λ e. sym (has-union a b e) ∙ ap (λ (x : ℕ). has x e) z ∙ has-empty e in
+    let p : a ≡ 0 = none-zero a (λ e. neither (has a e) (has b e) (none e) .0) in
+    let q : b ≡ 0 = none-zero b (λ e. neither (has a e) (has b e) (none e) .1) in
+    rw (eq-eqb a 0 p, eq-eqb b 0 q))
+    (λ t. let u = both (eqb a 0) (eqb b 0) t in
+    eq-eqb (union a b) 0 (none-zero (union a b) (λ e. has-union a b e ∙ rw (eqb-true a 0 (u .0), eqb-true b 0 (u .1), has-empty e))))
+
+-- s has nothing that t has not
+pub minus-none : (s t : ℕ) → minus s t ≡ 0 → (e : ℕ) → has s e ≡ true → has t e ≡ true
+minus-none s t z e h = cases (has t e) (λ x. x) (λ x. contra (has-minus s t e ∙ rw (h, x)) (ap (λ (y : ℕ). has y e) z ∙ has-empty e))
+
+pub none-minus : (s t : ℕ) → ((e : ℕ) → has s e ≡ true → has t e ≡ true) → minus s t ≡ 0
+none-minus s t h = none-zero (minus s t) (λ e. has-minus s t e ∙ cases (has s e) (λ x. rw (x, h e x)) (λ x. rw x))
+
+pub all-wide : (n : ℕ) → n ≤ 64 → 64 ≤ n → 2 ^ 64 - 1 ≡ allBelow n
+all-wide n h l = let e : 64 ≡ n = omega arith in ap allBelow e

@@ -1,0 +1,13 @@
+-- `graph::row_spill` meets its contract. Assumes nothing.
+use Rattle.graph.specs.Tests.{rowSpill}
+use borrow.Author.Needs.{needs}
+use Rattle.graph.proofs.row_spill.Statement.{statement}
+use Rattle.graph.proofs.row_spill.Tie as tie
+
+pub row-spill-spec : {M : Type 1} → statement M
+row-spill-spec =
+    tie.close
+    (tie.spec
+    (λ c κs. search needs)
+    (λ c κs. search needs)
+    (λ c. unfold rowSpill in cc))

@@ -1,0 +1,58 @@
+-- The flat chart's five relations by kind, and what fit means. Assumes nothing.
+use Prim.Native.Nat.{ℕ, _≤_, _<_}
+use mathlib.Core.Path.{_≡_}
+use mathlib.Core.Bool.{Bool, true}
+use mathlib.Core.List.{List}
+use lib.ListN.{getD, replicate}
+use Rattle.paper.specs.Limits.{maxEvents}
+use Rattle.sets.specs.Set.{has}
+use Rattle.graph.specs.declared.FlatChart.{FlatChart}
+use Rattle.graph.specs.declared.Marking.{Marking}
+
+pub data Kind : Type 0 where
+  condition response milestone include exclude : Kind
+
+abbrev pub table : FlatChart → Kind → List ℕ
+table c condition = c .conditions
+table c response = c .responses
+table c milestone = c .milestones
+table c include = c .includes
+table c exclude = c .excludes
+
+-- the set of event e
+abbrev pub setOf : FlatChart → Kind → ℕ → ℕ
+setOf c k e = getD (table c k) e 0
+
+-- f is a member of s
+abbrev pub In : ℕ → ℕ → Type 0
+In s f = has s f ≡ true
+
+-- "A flat chart is fit if the count is 1 to 64, no bit stands outside it, every set past it is empty, and no pair has both include and exclude."
+pub record Fit (c : FlatChart) : Type 0 where
+  pub some : 1 ≤ c .count
+  pub few : c .count ≤ maxEvents
+  pub inside : (k : Kind) (e f : ℕ) → e < c .count → In (setOf c k e) f → f < c .count
+  pub past : (k : Kind) (e : ℕ) → c .count ≤ e → e < maxEvents → setOf c k e ≡ 0
+  pub apart : (e f : ℕ) → e < maxEvents → In (setOf c include e) f → In (setOf c exclude e) f → ⊥
+
+-- "A marking is three sets: Ex, Re, In; it is fit if no bit stands outside the count."
+pub record FitMarking (n : ℕ) (m : Marking) : Type 0 where
+  pub executed : (f : ℕ) → In (m .executed) f → f < n
+  pub pending : (f : ℕ) → In (m .pending) f → f < n
+  pub included : (f : ℕ) → In (m .included) f → f < n
+
+-- ---- what a refused reading gives
+
+unfoldable pub emptyChart : FlatChart
+emptyChart =
+    record {
+      count = 0;
+      conditions = replicate maxEvents 0;
+      responses = replicate maxEvents 0;
+      milestones = replicate maxEvents 0;
+      includes = replicate maxEvents 0;
+      excludes = replicate maxEvents 0;
+    }
+
+abbrev pub emptyMarking : Marking
+emptyMarking = record { executed = 0; pending = 0; included = 0 }

@@ -1,0 +1,4 @@
+-- The root of the crate's specs.
+pub mod Chart
+pub mod Tests
+pub mod Fitness

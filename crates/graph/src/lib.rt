@@ -1,0 +1,151 @@
+// The flat chart and its marking, and the test that they are fit.
+ghost use mathlib.Core.Path.{_≡_};
+ghost use mathlib.Core.Bool.{Bool, cond};
+ghost use Prim.Native.Nat.{_≤_};
+ghost use lib.Dec.{ltb};
+ghost use Rattle.graph.specs.Chart.{emptyChart, emptyMarking};
+ghost use Rattle.graph.specs.Tests.{allowedAt, rowSpill, spillOf, fitTables, fitChart, fitMarking, fit};
+use paper::MAX_EVENTS;
+
+// One set for each event and kind. Entry e of conditions and milestones is who holds e back; of the others, what e reaches.
+#[repr(C)]
+pub struct FlatChart {
+    pub count: u32,
+    pub conditions: [u64; MAX_EVENTS],
+    pub responses: [u64; MAX_EVENTS],
+    pub milestones: [u64; MAX_EVENTS],
+    pub includes: [u64; MAX_EVENTS],
+    pub excludes: [u64; MAX_EVENTS],
+}
+
+// Ex, Re and In.
+#[repr(C)]
+pub struct Marking {
+    pub executed: u64,
+    pub pending: u64,
+    pub included: u64,
+}
+
+// What a set of event e may hold: every event of the chart, and past the count nothing.
+fn allowed_at(all: u64, e: usize, n: usize) -> u64
+    ensures { λ r. ⌜ r ≡ allowedAt all e n ⌝ }
+{
+    if e < n {
+        return all;
+    }
+    0
+}
+
+// What one event's sets hold that they may not.
+fn row_spill(
+    allowed: u64,
+    conditions: u64,
+    responses: u64,
+    milestones: u64,
+    includes: u64,
+    excludes: u64,
+) -> u64
+    ensures { λ r. ⌜ r ≡ rowSpill allowed conditions responses milestones includes excludes ⌝ }
+{
+    sets::join(
+        sets::less(
+            conditions | responses | milestones | includes | excludes,
+            allowed,
+        ),
+        includes & excludes,
+    )
+}
+
+// Every row's spill in one set, so that the loop has no branch.
+fn spill<'a>(
+    n: usize,
+    conditions: &'a [u64; MAX_EVENTS],
+    responses: &'a [u64; MAX_EVENTS],
+    milestones: &'a [u64; MAX_EVENTS],
+    includes: &'a [u64; MAX_EVENTS],
+    excludes: &'a [u64; MAX_EVENTS],
+) -> u64
+    requires { ⌜ n ≤ 64 ⌝ }
+    ensures { λ r. ⌜ r ≡ spillOf n (now (conditions .entry)) (now (responses .entry)) (now (milestones .entry)) (now (includes .entry)) (now (excludes .entry)) 64 ⌝ }
+{
+    let all = sets::all_below(n);
+    let mut over: u64 = 0;
+    let mut e = 0;
+    while e < MAX_EVENTS {
+        let row = row_spill(
+            allowed_at(all, e, n),
+            conditions[e],
+            responses[e],
+            milestones[e],
+            includes[e],
+            excludes[e],
+        );
+        over = sets::join(over, row);
+        e += 1;
+    }
+    over
+}
+
+impl FlatChart {
+    pub fn empty() -> FlatChart
+        ensures { λ r. ⌜ r ≡ emptyChart ⌝ }
+    {
+        FlatChart {
+            count: 0,
+            conditions: [0u64; MAX_EVENTS],
+            responses: [0u64; MAX_EVENTS],
+            milestones: [0u64; MAX_EVENTS],
+            includes: [0u64; MAX_EVENTS],
+            excludes: [0u64; MAX_EVENTS],
+        }
+    }
+
+    pub fn is_fit(self) -> bool
+        ensures { λ r. ⌜ r ≡ fitChart self ⌝ }
+    {
+        let n = self.count as usize;
+        if n < 1 {
+            return false;
+        }
+        if MAX_EVENTS < n {
+            return false;
+        }
+        spill(
+            n,
+            &self.conditions,
+            &self.responses,
+            &self.milestones,
+            &self.includes,
+            &self.excludes,
+        ) == 0
+    }
+}
+
+impl Marking {
+    pub fn empty() -> Marking
+        ensures { λ r. ⌜ r ≡ emptyMarking ⌝ }
+    {
+        Marking {
+            executed: 0,
+            pending: 0,
+            included: 0,
+        }
+    }
+
+    // Whether no bit stands outside a count of events.
+    pub fn is_fit(self, count: u32) -> bool
+        ensures { λ r. ⌜ r ≡ fitMarking count self ⌝ }
+    {
+        sets::inside(
+            self.executed | self.pending | self.included,
+            count as usize,
+        )
+    }
+}
+
+// Whether the chart is fit, and the marking for it.
+pub fn both_fit(chart: FlatChart, marking: Marking) -> bool
+    ensures { λ r. ⌜ r ≡ fit chart marking ⌝ }
+{
+    marking.is_fit(chart.count) & chart.is_fit()
+}
