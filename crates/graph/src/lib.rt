@@ -117,7 +117,8 @@ impl FlatChart {
             &self.milestones,
             &self.includes,
             &self.excludes,
-        ) == 0
+        )
+            == 0
     }
 }
 
@@ -136,10 +137,7 @@ impl Marking {
     pub fn is_fit(self, count: u32) -> bool
         ensures { λ r. ⌜ r ≡ fitMarking count self ⌝ }
     {
-        sets::inside(
-            self.executed | self.pending | self.included,
-            count as usize,
-        )
+        sets::inside(self.executed | self.pending | self.included, count as usize)
     }
 }
 

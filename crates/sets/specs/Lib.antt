@@ -3,3 +3,4 @@ pub mod Cases
 pub mod Below
 pub mod Set
 pub mod Laws
+pub mod Tables

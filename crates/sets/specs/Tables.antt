@@ -1,0 +1,22 @@
+-- Lists made number by number. Assumes nothing.
+use Prim.Native.Nat.{ℕ, zero, suc, _<_}
+use mathlib.Core.Path.{_≡_, refl}
+use mathlib.Core.List.{List, [], _∷_}
+use native.Mathlib.Omega.{arith}
+use lib.ListN.{length, getD}
+
+-- the values of f below n, in order
+unfoldable pub tabulate : {A : Type 0} → ℕ → (ℕ → A) → List A
+tabulate zero f = []
+tabulate (suc n) f = f zero ∷ tabulate n (λ k. f (suc k))
+
+pub length-tabulate : {A : Type 0} (n : ℕ) (f : ℕ → A) → length (tabulate n f) ≡ n
+unfolding tabulate
+length-tabulate zero f = refl
+length-tabulate (suc n) f = rw (length-tabulate n (λ k. f (suc k)))
+
+pub getD-tabulate : {A : Type 0} (n : ℕ) (f : ℕ → A) (k : ℕ) (d : A) → k < n → getD (tabulate n f) k d ≡ f k
+unfolding tabulate
+getD-tabulate zero f k d h = absurd (omega arith)
+getD-tabulate (suc n) f zero d h = refl
+getD-tabulate (suc n) f (suc k) d h = getD-tabulate n (λ k. f (suc k)) k d (omega arith)
