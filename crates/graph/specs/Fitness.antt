@@ -1,2 +1,159 @@
--- The tests say what fit means. Assumes nothing.
-use Prim.Native.Nat.{ℕ, zero, suc, _≤_, _<_}
+-- The tests say exactly what fit means. Assumes nothing.
+use Prim.Native.Nat.{ℕ, zero, suc, _^_, _≤_, _<_}
+use mathlib.Core.Path.{_≡_, refl, sym, ap, _∙_}
+use mathlib.Core.Bool.{Bool, true, false, _&&_, _||_, cond, or-true}
+use mathlib.Core.Logic.{_↔_}
+use mathlib.Core.List.{List}
+use native.Mathlib.Omega.{arith}
+use lib.ListN.{getD}
+use lib.Dec.{eqb, leb, ltb}
+use borrow.Author.Tests.{lt-ltb, le-ltb, ltb-true, ltb-false, le-leb, leb-true, eq-eqb, eqb-true}
+use Rattle.paper.specs.Limits.{maxEvents}
+use Rattle.sets.specs.Cases.{contra, cases, both, all3, either, or-left, or-right, not-so}
+use Rattle.sets.specs.Below.{every, every-at, every-of}
+use Rattle.sets.specs.Set.{has, union, inter, minus, within, allBelow}
+use Rattle.sets.specs.Laws.{has-union, has-empty, has-all, none-zero, union-zero, minus-none, none-minus, apart-not, not-apart, within-lt, lt-within}
+use Rattle.graph.specs.declared.FlatChart.{FlatChart}
+use Rattle.graph.specs.declared.Marking.{Marking}
+use Rattle.graph.specs.Chart.{Kind, condition, response, milestone, include, exclude, table, setOf, In, Fit, FitMarking}
+use Rattle.graph.specs.Tests.{allowedAt, rowSpill, spillAt, spillOf, fitTables, fitChart, fitMarking, fit}
+
+-- ---- one row: nothing spills exactly if each set keeps to what it may hold, and nothing is both included and excluded
+
+-- the sets of event e together, and what they may hold
+module _ (c : FlatChart) (e w : ℕ) where
+  unfoldable all-sets : ℕ
+  all-sets = union (union (union (union (setOf c condition e) (setOf c response e)) (setOf c milestone e)) (setOf c include e)) (setOf c exclude e)
+
+  member : Kind → ℕ → Bool
+  member k f = has (setOf c k e) f
+
+  has-all-sets : (f : ℕ) → has all-sets f ≡ ((((member condition f || member response f) || member milestone f) || member include f) || member exclude f)
+  unfolding all-sets member
+  has-all-sets f = simp has-union
+
+  each-in : (k : Kind) (f : ℕ) → In (setOf c k e) f → In all-sets f
+  unfolding member
+  each-in condition f h = has-all-sets f ∙ simp h
+  each-in response f h = has-all-sets f ∙ simp (h, or-true)
+  each-in milestone f h = has-all-sets f ∙ simp (h, or-true)
+  each-in include f h = has-all-sets f ∙ simp (h, or-true)
+  each-in exclude f h = has-all-sets f ∙ simp (h, or-true)
+
+  in-each : (C : Type 0) (f : ℕ) → In all-sets f → ((k : Kind) → In (setOf c k e) f → C) → C
+  unfolding member
+  in-each C f h g =
+      let a : Bool = member condition f in
+      let b : Bool = member response f in
+      let d : Bool = member milestone f in
+      let i : Bool = member include f in
+      either (((a || b) || d) || i) (member exclude f) (sym (has-all-sets f) ∙ h)
+      (λ h. either ((a || b) || d) i h (λ h. either (a || b) d h (λ h. either a b h (g condition) (g response)) (g milestone)) (g include))
+      (g exclude)
+
+  row-clean : ((k : Kind) (f : ℕ) → In (setOf c k e) f → In w f) → ((f : ℕ) → In (setOf c include e) f → In (setOf c exclude e) f → ⊥)
+      → eqb (rowSpill w (setOf c condition e) (setOf c response e) (setOf c milestone e) (setOf c include e) (setOf c exclude e)) 0 ≡ true
+  unfolding rowSpill all-sets
+  row-clean h g =
+      union-zero (minus all-sets w) (inter (setOf c include e) (setOf c exclude e))
+      ∙ rw (
+        eq-eqb (minus all-sets w) 0 (none-minus all-sets w (λ f i. in-each (In w f) f i (λ k. h k f))),
+        eq-eqb (inter (setOf c include e) (setOf c exclude e)) 0 (not-apart (setOf c include e) (setOf c exclude e) g),
+      )
+
+  clean-row : eqb (rowSpill w (setOf c condition e) (setOf c response e) (setOf c milestone e) (setOf c include e) (setOf c exclude e)) 0 ≡ true
+      → ((k : Kind) (f : ℕ) → In (setOf c k e) f → In w f) × ((f : ℕ) → In (setOf c include e) f → In (setOf c exclude e) f → ⊥)
+  unfolding rowSpill all-sets
+  clean-row t =
+      let u = both (eqb (minus all-sets w) 0) (eqb (inter (setOf c include e) (setOf c exclude e)) 0)
+      (sym (union-zero (minus all-sets w) (inter (setOf c include e) (setOf c exclude e))) ∙ t) in (
+        λ k f h. minus-none all-sets w (eqb-true _ 0 (u .0)) f (each-in k f h),
+        λ f. apart-not (setOf c include e) (setOf c exclude e) f (eqb-true _ 0 (u .1)),
+      )
+
+-- ---- all rows
+
+abbrev clean : FlatChart → ℕ → ℕ → Bool
+clean c n e = eqb (spillAt n (c .conditions) (c .responses) (c .milestones) (c .includes) (c .excludes) e) 0
+
+spill-every : (c : FlatChart) (n k : ℕ) → eqb (spillOf n (c .conditions) (c .responses) (c .milestones) (c .includes) (c .excludes) k) 0 ≡ every k (clean c n)
+unfolding spillOf every
+spill-every c n zero = refl
+spill-every c n (suc k) =
+    union-zero (spillOf n (c .conditions) (c .responses) (c .milestones) (c .includes) (c .excludes) k) (spillAt n (c .conditions) (c .responses) (c .milestones) (c .includes) (c .excludes) k)
+    ∙ rw (spill-every c n k)
+
+-- ---- the test and the sentence
+
+module _ (c : FlatChart) where
+  pub fit-tested : Fit c → fitChart c ≡ true
+  unfolding fitChart fitTables spillAt
+  fit-tested t =
+      rw (
+        le-leb 1 (c .count) (t .some),
+        le-leb (c .count) maxEvents (t .few),
+        spill-every c (c .count) maxEvents,
+        every-of maxEvents (clean c (c .count)) (λ e l. row-clean c e (allowedAt (allBelow (c .count)) e (c .count)) (λ k f h. kept k e f l h) (λ f. t .apart e f l)),
+      )
+    where
+      kept : (k : Kind) (e f : ℕ) → e < maxEvents → In (setOf c k e) f → In (allowedAt (allBelow (c .count)) e (c .count)) f
+      kept k e f l h =
+          cases (ltb e (c .count))
+          (λ b. rw b (has-all (c .count) f ∙ lt-ltb f (c .count) (t .inside k e f (ltb-true e (c .count) b) h)))
+          (λ b. contra h (ap (λ (s : ℕ). has s f) (t .past k e (ltb-false e (c .count) b) l) ∙ has-empty f))
+
+  module _ (h : fitChart c ≡ true) where
+    tested : (leb 1 (c .count) ≡ true) × (leb (c .count) maxEvents ≡ true) × (fitTables (c .count) c ≡ true)
+    unfolding fitChart
+    tested = all3 _ _ _ h
+
+    row : (e : ℕ) → e < maxEvents
+        → ((k : Kind) (f : ℕ) → In (setOf c k e) f → In (allowedAt (allBelow (c .count)) e (c .count)) f) × ((f : ℕ) → In (setOf c include e) f → In (setOf c exclude e) f → ⊥)
+    unfolding fitTables spillAt
+    row e l = clean-row c e _ (every-at maxEvents (clean c (c .count)) e (sym (spill-every c (c .count) maxEvents) ∙ tested .2) l)
+
+    pub tested-fit : Fit c
+    tested-fit =
+        record {
+          some = leb-true 1 (c .count) (tested .0);
+          few = leb-true (c .count) maxEvents (tested .1);
+          inside = λ k e f l i.
+              let m : c .count ≤ maxEvents = leb-true (c .count) maxEvents (tested .1) in
+              ltb-true f (c .count) (sym (has-all (c .count) f) ∙ rw (lt-ltb e (c .count) l) at (row e (omega arith) .0 k f i));
+          past = λ k e l m. none-zero (setOf c k e) (λ f. not-so (λ i. contra (rw (le-ltb e (c .count) l) at (row e m .0 k f i)) (has-empty f)));
+          apart = λ e f l. row e l .1 f;
+        }
+
+pub fit-chart : (c : FlatChart) → (fitChart c ≡ true) ↔ Fit c
+fit-chart c = (tested-fit c, fit-tested c)
+
+-- ---- markings
+
+module _ (n : ℕ) (m : Marking) where
+  unfoldable marked : ℕ
+  marked = union (union (m .executed) (m .pending)) (m .included)
+
+  has-marked : (f : ℕ) → has marked f ≡ ((has (m .executed) f || has (m .pending) f) || has (m .included) f)
+  unfolding marked
+  has-marked f = simp has-union
+
+  pub fit-marking : (fitMarking n m ≡ true) ↔ FitMarking n m
+  unfolding fitMarking marked
+  fit-marking = (
+    λ h. record {
+      executed = λ f i. within-lt n marked f h (has-marked f ∙ simp i);
+      pending = λ f i. within-lt n marked f h (has-marked f ∙ simp (i, or-true));
+      included = λ f i. within-lt n marked f h (has-marked f ∙ simp (i, or-true));
+    },
+    λ t. lt-within n marked (λ f i.
+        either (has (m .executed) f || has (m .pending) f) (has (m .included) f) (sym (has-marked f) ∙ i)
+        (λ i. either (has (m .executed) f) (has (m .pending) f) i (t .executed f) (t .pending f)) (t .included f)),
+  )
+
+pub fit-both : (c : FlatChart) (m : Marking) → fit c m ≡ true → Fit c × FitMarking (c .count) m
+unfolding fit
+fit-both c m h = let t = both (fitMarking (c .count) m) (fitChart c) h in (tested-fit c (t .1), fit-marking (c .count) m .0 (t .0))
+
+pub both-fit : (c : FlatChart) (m : Marking) → Fit c → FitMarking (c .count) m → fit c m ≡ true
+unfolding fit
+both-fit c m t u = rw (fit-marking (c .count) m .1 u, fit-tested c t)
