@@ -2,3 +2,4 @@
 pub mod Chart
 pub mod Tests
 pub mod Fitness
+pub mod Steps

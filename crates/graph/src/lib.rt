@@ -1,4 +1,6 @@
-// The flat chart and its marking, and the test that they are fit.
+// The flat chart and its marking, and the test that they are fit. What a marking does is in steps.rt.
+pub mod steps;
+
 ghost use mathlib.Core.Path.{_≡_};
 ghost use mathlib.Core.Bool.{Bool, cond};
 ghost use Prim.Native.Nat.{_≤_};

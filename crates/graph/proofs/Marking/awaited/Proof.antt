@@ -1,0 +1,12 @@
+-- `graph::Marking::awaited` meets its contract. Assumes nothing.
+use Rattle.graph.specs.Steps.{awaitedOf}
+use borrow.Author.Needs.{needs}
+use mathlib.Core.Path.{refl}
+use Rattle.graph.proofs.Marking.awaited.Statement.{statement}
+use Rattle.graph.proofs.Marking.awaited.Tie as tie
+
+pub awaited-spec : {M : Type 1} → statement M
+awaited-spec =
+    tie.close
+    (tie.spec
+    (λ c. unfold awaitedOf in refl))

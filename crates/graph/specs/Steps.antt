@@ -1,0 +1,175 @@
+-- Steps as the code takes them: the open rule, executing, counting and the finished test, and the law for each return. Assumes nothing.
+use Prim.Native.Nat.{ℕ, _+_, _≤_, _<_, _^_}
+use mathlib.Core.Path.{_≡_, refl, sym, ap, _∙_}
+use mathlib.Core.Bool.{Bool, true, false, not, _&&_, cond}
+use mathlib.Core.List.{List}
+use native.Mathlib.Omega.{arith}
+use native.Mathlib.Nat.{le-trans}
+use lib.ListN.{getD}
+use lib.Dec.{eqb, leb}
+use lib.Bits.{and-le-l}
+use borrow.Author.Tests.{not-true, not-false, eq-eqb, ne-eqb, le-leb, lt-leb}
+use Rattle.paper.specs.Limits.{maxEvents, noSuchEvent, notIncluded, conditionWanting, milestoneWanting, unfit}
+use Rattle.paper.specs.Answers.{answer, granted, refusal}
+use Rattle.paper.specs.declared.Answer.{Answer}
+use Rattle.sets.specs.Cases.{not-so}
+use Rattle.sets.specs.Set.{has, union, inter, minus, only, within, lowest, size, collect, putIf}
+use Rattle.sets.specs.Laws.{lowest-wide, minus-le, below, collect-step}
+use Rattle.graph.specs.Chart.{setOf, condition, response, milestone, include, exclude, Fit, FitMarking}
+use Rattle.graph.specs.Tests.{fit}
+use Rattle.graph.specs.Fitness.{fit-both}
+use Rattle.graph.specs.declared.FlatChart.{FlatChart}
+use Rattle.graph.specs.declared.Marking.{Marking}
+use Rattle.graph.specs.declared.steps.Step.{Step}
+use Rattle.graph.specs.declared.steps.OpenCount.{OpenCount}
+use Rattle.graph.specs.declared.steps.Finished.{Finished}
+
+-- ---- the open rule
+
+-- the included of some conditions that are not executed
+unfoldable pub unmetOf : Marking → ℕ → ℕ
+unmetOf m conditions = minus (inter (m .included) conditions) (m .executed)
+
+-- the included of some milestones that are pending
+unfoldable pub awaitedOf : Marking → ℕ → ℕ
+awaitedOf m milestones = inter (inter (m .included) milestones) (m .pending)
+
+unfoldable pub openWith : Marking → ℕ → ℕ → ℕ → Bool
+openWith m e conditions milestones = has (m .included) e && eqb (unmetOf m conditions) 0 && eqb (awaitedOf m milestones) 0
+
+abbrev pub isOpen : FlatChart → Marking → ℕ → Bool
+isOpen c m e = openWith m e (setOf c condition e) (setOf c milestone e)
+
+-- ---- executing
+
+-- "Ex gains e; Re loses e, then gains e's responses; In loses what e excludes, then gains what e includes."
+unfoldable pub afterWith : Marking → ℕ → ℕ → ℕ → ℕ → Marking
+afterWith m e responses includes excludes =
+    record {
+      executed = union (m .executed) (only e);
+      pending = union (minus (m .pending) (only e)) responses;
+      included = union (minus (m .included) excludes) includes;
+    }
+
+abbrev pub after : FlatChart → Marking → ℕ → Marking
+after c m e = afterWith m e (setOf c response e) (setOf c include e) (setOf c exclude e)
+
+-- a refusal hands back the marking that it was given
+abbrev pub refusing : ℕ → ℕ → Marking → Step
+refusing code place m = record { answer = answer code place 0; marking = m }
+
+abbrev pub granting : Marking → Step
+granting m = record { answer = granted; marking = m }
+
+unfoldable pub executing : FlatChart → Marking → ℕ → Step
+executing c m e =
+    cond (not (fit c m)) (refusing unfit 0 m)
+    (cond (leb (c .count) e) (refusing noSuchEvent 0 m)
+    (cond (not (has (m .included) e)) (refusing notIncluded 0 m)
+    (cond (not (eqb (unmetOf m (setOf c condition e)) 0)) (refusing conditionWanting (lowest (c .count) (unmetOf m (setOf c condition e))) m)
+    (cond (not (eqb (awaitedOf m (setOf c milestone e)) 0)) (refusing milestoneWanting (lowest (c .count) (awaitedOf m (setOf c milestone e))) m)
+    (granting (after c m e))))))
+
+-- ---- counting
+
+unfoldable pub openAmong : Marking → List ℕ → List ℕ → ℕ → ℕ
+openAmong m conditions milestones n = collect n (λ e. openWith m e (getD conditions e 0) (getD milestones e 0))
+
+module _ (m : Marking) (conditions milestones : List ℕ) where
+  pub among-more : (e : ℕ) {s t : ℕ} {o : Bool} → s ≡ openAmong m conditions milestones e → o ≡ openWith m e (getD conditions e 0) (getD milestones e 0)
+      → t ≡ putIf s e o → t ≡ openAmong m conditions milestones (e + 1)
+  unfolding openAmong
+  among-more e p q h = rw (collect-step, h, p, q)
+
+  pub among-end : (e n s : ℕ) → e ≤ n → n ≤ e → s ≡ openAmong m conditions milestones e → s ≡ openAmong m conditions milestones n
+  among-end e n s h l p = let z : e ≡ n = omega arith in p ∙ ap (openAmong m conditions milestones) z
+
+abbrev pub openSet : FlatChart → Marking → ℕ
+openSet c m = openAmong m (c .conditions) (c .milestones) (c .count)
+
+unfoldable pub counting : FlatChart → Marking → OpenCount
+counting c m =
+    cond (not (fit c m)) (record { answer = refusal unfit; count = 0; lowest = maxEvents })
+    (record { answer = granted; count = size (openSet c m); lowest = lowest maxEvents (openSet c m) })
+
+-- ---- the finished test
+
+unfoldable pub finishing : FlatChart → Marking → Finished
+finishing c m =
+    cond (not (fit c m)) (record { answer = refusal unfit; yes = false })
+    (record { answer = granted; yes = eqb (inter (m .included) (m .pending)) 0 })
+
+-- ---- what a fit chart and marking give
+
+module _ (c : FlatChart) (m : Marking) (r : Bool) (p : r ≡ fit c m) (q : not r ≡ false) where
+  ok : fit c m ≡ true
+  ok = sym p ∙ not-false r q
+
+  pub fit-few : c .count ≤ maxEvents
+  fit-few = fit-both c m ok .0 .few
+
+  pub fit-index : (e : ℕ) → e < c .count → e < maxEvents
+  fit-index e h = let l : c .count ≤ maxEvents = fit-few in omega arith
+
+  -- a set of included events has its lowest below the count
+  pub fit-lowest : (s : ℕ) → s ≤ m .included → (s ≡ 0 → ⊥) → lowest maxEvents s ≡ lowest (c .count) s
+  fit-lowest s l n =
+      let i : m .included < 2 ^ c .count = below (c .count) (m .included) (λ f h. not-in f h) in
+      lowest-wide (c .count) maxEvents s (omega arith) (omega arith) fit-few
+    where
+      not-in : (f : ℕ) → c .count ≤ f → has (m .included) f ≡ false
+      not-in f h = not-so (λ i. let l : f < c .count = fit-both c m ok .1 .included f i in absurd (omega arith))
+
+-- ---- the cases, in the form in which the code meets them
+
+pub step-unfit : (c : FlatChart) (m : Marking) (e : ℕ) (r : Bool) (s : Step) → r ≡ fit c m → not r ≡ true → s ≡ refusing unfit 0 m → s ≡ executing c m e
+unfolding executing
+step-unfit c m e r s p q h = h ∙ rw (← p, not-true r q)
+
+module _ (c : FlatChart) (m : Marking) (e : ℕ) (r : Bool) (p : r ≡ fit c m) (q : not r ≡ false) where
+  pub step-gone : (s : Step) → c .count ≤ e → s ≡ refusing noSuchEvent 0 m → s ≡ executing c m e
+  unfolding executing
+  step-gone s h z = z ∙ rw (ok c m r p q, le-leb (c .count) e h)
+
+  module _ (h : e < c .count) (i : Bool) (pi : i ≡ has (m .included) e) where
+    pub step-excluded : (s : Step) → not i ≡ true → s ≡ refusing notIncluded 0 m → s ≡ executing c m e
+    unfolding executing
+    step-excluded s qi z = z ∙ rw (ok c m r p q, lt-leb (c .count) e h, ← pi, not-true i qi)
+
+    module _ (qi : not i ≡ false) (u : ℕ) (pu : u ≡ unmetOf m (setOf c condition e)) where
+      pub step-unmet : (u ≡ 0 → ⊥) → (l : ℕ) (s : Step) → l ≡ lowest maxEvents u → s ≡ refusing conditionWanting l m → s ≡ executing c m e
+      unfolding executing unmetOf
+      step-unmet qu l s pl z =
+          z ∙ rw (ok c m r p q, lt-leb (c .count) e h, ← pi, not-false i qi, ← pu, ne-eqb u 0 qu, pl)
+          (ap (λ (x : ℕ). refusing conditionWanting x m) (fit-lowest c m r p q u (rw pu (le-trans (minus-le _ _) (and-le-l _ _))) qu))
+
+      module _ (zu : u ≡ 0) (w : ℕ) (pw : w ≡ awaitedOf m (setOf c milestone e)) where
+        pub step-awaited : (w ≡ 0 → ⊥) → (l : ℕ) (s : Step) → l ≡ lowest maxEvents w → s ≡ refusing milestoneWanting l m → s ≡ executing c m e
+        unfolding executing awaitedOf
+        step-awaited qw l s pl z =
+            z ∙ rw (ok c m r p q, lt-leb (c .count) e h, ← pi, not-false i qi, ← pu, eq-eqb u 0 zu, ← pw, ne-eqb w 0 qw, pl)
+            (ap (λ (x : ℕ). refusing milestoneWanting x m) (fit-lowest c m r p q w (rw pw (le-trans (and-le-l _ _) (and-le-l _ _))) qw))
+
+        pub step-done : w ≡ 0 → (a : Answer) (n : Marking) → a ≡ granted → n ≡ after c m e → record { answer = a; marking = n } ≡ executing c m e
+        unfolding executing
+        step-done zw a n pa pn = rw (ok c m r p q, lt-leb (c .count) e h, ← pi, not-false i qi, ← pu, eq-eqb u 0 zu, ← pw, eq-eqb w 0 zw, pa, pn)
+
+pub count-unfit : (c : FlatChart) (m : Marking) (r : Bool) (a : Answer) → r ≡ fit c m → not r ≡ true → a ≡ refusal unfit
+    → record { answer = a; count = 0; lowest = maxEvents } ≡ counting c m
+unfolding counting
+count-unfit c m r a p q z = rw (← p, not-true r q, z)
+
+pub count-open : (c : FlatChart) (m : Marking) (r : Bool) (a : Answer) (s k l : ℕ) → r ≡ fit c m → not r ≡ false → s ≡ openSet c m → a ≡ granted
+    → k ≡ size s → l ≡ lowest maxEvents s → record { answer = a; count = k; lowest = l } ≡ counting c m
+unfolding counting
+count-open c m r a s k l p q hs z hk hl = rw (ok c m r p q, z, hk, hl, hs)
+
+pub finish-unfit : (c : FlatChart) (m : Marking) (r : Bool) (a : Answer) → r ≡ fit c m → not r ≡ true → a ≡ refusal unfit
+    → record { answer = a; yes = false } ≡ finishing c m
+unfolding finishing
+finish-unfit c m r a p q z = rw (← p, not-true r q, z)
+
+pub finish-told : (c : FlatChart) (m : Marking) (r : Bool) (a : Answer) → r ≡ fit c m → not r ≡ false → a ≡ granted
+    → record { answer = a; yes = eqb (inter (m .included) (m .pending)) 0 } ≡ finishing c m
+unfolding finishing
+finish-told c m r a p q z = rw (ok c m r p q, z)

@@ -1,0 +1,156 @@
+// Steps of a flat chart: the open rule, executing, counting what is open, the finished test.
+ghost use mathlib.Core.Path.{_≡_};
+ghost use Prim.Native.Nat.{_<_, _≤_};
+ghost use Rattle.graph.specs.Steps.{unmetOf, awaitedOf, openWith, afterWith, refusing, openAmong, executing, counting, finishing};
+use crate::FlatChart;
+use crate::Marking;
+use paper::Answer;
+use paper::MAX_EVENTS;
+
+// What executing an event gives: the next marking, or the old one beside the refusal.
+#[repr(C)]
+pub struct Step {
+    pub answer: Answer,
+    pub marking: Marking,
+}
+
+// How many events are open and the lowest of them, MAX_EVENTS where there is none.
+#[repr(C)]
+pub struct OpenCount {
+    pub answer: Answer,
+    pub count: u32,
+    pub lowest: u32,
+}
+
+#[repr(C)]
+pub struct Finished {
+    pub answer: Answer,
+    pub yes: bool,
+}
+
+impl Marking {
+    // Which of an event's conditions are included and not executed.
+    fn unmet(self, conditions: u64) -> u64
+        ensures { λ r. ⌜ r ≡ unmetOf self conditions ⌝ }
+    {
+        sets::less(self.included & conditions, self.executed)
+    }
+
+    // Which of an event's milestones are included and pending.
+    fn awaited(self, milestones: u64) -> u64
+        ensures { λ r. ⌜ r ≡ awaitedOf self milestones ⌝ }
+    {
+        self.included & milestones & self.pending
+    }
+
+    fn is_open(self, e: usize, conditions: u64, milestones: u64) -> bool
+        ensures { λ r. ⌜ r ≡ openWith self e conditions milestones ⌝ }
+    {
+        let included = sets::member(self.included, e);
+        let unmet = self.unmet(conditions);
+        let awaited = self.awaited(milestones);
+        included & (unmet == 0) & (awaited == 0)
+    }
+
+    // The marking after e, which excludes before it includes.
+    fn after(self, e: usize, responses: u64, includes: u64, excludes: u64) -> Marking
+        requires { ⌜ e < 64 ⌝ }
+        ensures { λ r. ⌜ r ≡ afterWith self e responses includes excludes ⌝ }
+    {
+        let bit = sets::one(e);
+        Marking {
+            executed: self.executed | bit,
+            pending: sets::less(self.pending, bit) | responses,
+            included: sets::less(self.included, excludes) | includes,
+        }
+    }
+
+    fn refused(self, code: u32, place: u32) -> Step
+        ensures { λ r. ⌜ r ≡ refusing code place self ⌝ }
+    {
+        Step {
+            answer: paper::refused(code, place, 0),
+            marking: self,
+        }
+    }
+
+    pub fn execute(self, chart: FlatChart, event: u32) -> Step
+        ensures { λ r. ⌜ r ≡ executing chart self event ⌝ }
+    {
+        if !crate::both_fit(chart, self) {
+            return self.refused(paper::UNFIT, 0);
+        }
+        if chart.count <= event {
+            return self.refused(paper::NO_SUCH_EVENT, 0);
+        }
+        let e = event as usize;
+        if !sets::member(self.included, e) {
+            return self.refused(paper::NOT_INCLUDED, 0);
+        }
+        let unmet = self.unmet(chart.conditions[e]);
+        if unmet != 0 {
+            return self.refused(paper::CONDITION_WANTING, sets::least(unmet));
+        }
+        let awaited = self.awaited(chart.milestones[e]);
+        if awaited != 0 {
+            return self.refused(paper::MILESTONE_WANTING, sets::least(awaited));
+        }
+        Step {
+            answer: paper::granted(),
+            marking: self.after(e, chart.responses[e], chart.includes[e], chart.excludes[e]),
+        }
+    }
+
+    // The open events among the first n.
+    fn open_among<'a>(
+        self,
+        n: usize,
+        conditions: &'a [u64; MAX_EVENTS],
+        milestones: &'a [u64; MAX_EVENTS],
+    ) -> u64
+        requires { ⌜ n ≤ 64 ⌝ }
+        ensures { λ r. ⌜ r ≡ openAmong self (now (conditions .entry)) (now (milestones .entry)) n ⌝ }
+    {
+        let mut all: u64 = 0;
+        let mut e = 0;
+        while e < n {
+            all = sets::put_if(all, e, self.is_open(e, conditions[e], milestones[e]));
+            e += 1;
+        }
+        all
+    }
+
+    pub fn count_open(self, chart: FlatChart) -> OpenCount
+        ensures { λ r. ⌜ r ≡ counting chart self ⌝ }
+    {
+        if !crate::both_fit(chart, self) {
+            return OpenCount {
+                answer: paper::refused(paper::UNFIT, 0, 0),
+                count: 0,
+                lowest: MAX_EVENTS as u32,
+            };
+        }
+        let open = self.open_among(chart.count as usize, &chart.conditions, &chart.milestones);
+        OpenCount {
+            answer: paper::granted(),
+            count: sets::count(open),
+            lowest: sets::least(open),
+        }
+    }
+
+    // Whether no event is both included and pending.
+    pub fn finished(self, chart: FlatChart) -> Finished
+        ensures { λ r. ⌜ r ≡ finishing chart self ⌝ }
+    {
+        if !crate::both_fit(chart, self) {
+            return Finished {
+                answer: paper::refused(paper::UNFIT, 0, 0),
+                yes: false,
+            };
+        }
+        Finished {
+            answer: paper::granted(),
+            yes: self.included & self.pending == 0,
+        }
+    }
+}
