@@ -8,7 +8,6 @@ use borrow.Author.Tests.{eq-eqb}
 use Rattle.sets.specs.Cases.{or-left, or-right}
 use Rattle.book.specs.Text.{Snap, elem, holds, holds-local}
 use Rattle.book.specs.Book.{Book, ruleOf, textOf}
-use Rattle.book.specs.declared.Rule.{Rule}
 use Rattle.book.specs.declared.Trigger.{Trigger}
 use Rattle.book.specs.declared.Trigger.the-variants.{None, Completed, BecomeYes, BecomeNo}
 use Rattle.book.specs.declared.Sense.{Sense}

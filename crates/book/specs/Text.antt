@@ -2,10 +2,10 @@
 use mathlib.Core.Path.{_≡_, refl}
 use mathlib.Core.Bool.{Bool, true, false, not, cond, _&&_, _||_}
 use mathlib.Core.List.{List, [], _∷_}
-use Prim.Native.Nat.{ℕ, zero, suc, _+_, _-_}
-use lib.Dec.{eqb, ltb, leb}
+use Prim.Native.Nat.{ℕ}
+use lib.Dec.{eqb}
 use borrow.Author.Tests.{eq-eqb}
-use Rattle.paper.specs.Limits.{andWord, orWord, notWord, maxStack}
+use Rattle.paper.specs.Limits.{andWord, orWord, notWord}
 use Rattle.sets.specs.Cases.{or-right}
 
 -- a snapshot, for the theorems: each mark yes or no

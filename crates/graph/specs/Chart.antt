@@ -1,7 +1,7 @@
 -- The flat chart's five relations by kind, and what fit means. Assumes nothing.
 use Prim.Native.Nat.{ℕ, _≤_, _<_}
 use mathlib.Core.Path.{_≡_}
-use mathlib.Core.Bool.{Bool, true}
+use mathlib.Core.Bool.{true}
 use mathlib.Core.List.{List}
 use lib.ListN.{getD, replicate}
 use Rattle.paper.specs.Limits.{maxEvents}

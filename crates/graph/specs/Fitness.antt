@@ -1,21 +1,19 @@
 -- The tests say exactly what fit means. Assumes nothing.
-use Prim.Native.Nat.{ℕ, zero, suc, _^_, _≤_, _<_}
+use Prim.Native.Nat.{ℕ, zero, suc, _≤_, _<_}
 use mathlib.Core.Path.{_≡_, refl, sym, ap, _∙_}
-use mathlib.Core.Bool.{Bool, true, false, _&&_, _||_, cond, or-true}
+use mathlib.Core.Bool.{Bool, true, _||_, or-true}
 use mathlib.Core.Logic.{_↔_}
-use mathlib.Core.List.{List}
 use native.Mathlib.Omega.{arith}
-use lib.ListN.{getD}
 use lib.Dec.{eqb, leb, ltb}
 use borrow.Author.Tests.{lt-ltb, le-ltb, ltb-true, ltb-false, le-leb, leb-true, eq-eqb, eqb-true}
 use Rattle.paper.specs.Limits.{maxEvents}
-use Rattle.sets.specs.Cases.{contra, cases, both, all3, either, or-left, or-right, not-so}
+use Rattle.sets.specs.Cases.{contra, cases, both, all3, either, not-so}
 use Rattle.sets.specs.Below.{every, every-at, every-of}
-use Rattle.sets.specs.Set.{has, union, inter, minus, within, allBelow}
+use Rattle.sets.specs.Set.{has, union, inter, minus, allBelow}
 use Rattle.sets.specs.Laws.{has-union, has-empty, has-all, none-zero, union-zero, minus-none, none-minus, apart-not, not-apart, within-lt, lt-within}
 use Rattle.graph.specs.declared.FlatChart.{FlatChart}
 use Rattle.graph.specs.declared.Marking.{Marking}
-use Rattle.graph.specs.Chart.{Kind, condition, response, milestone, include, exclude, table, setOf, In, Fit, FitMarking}
+use Rattle.graph.specs.Chart.{Kind, condition, response, milestone, include, exclude, setOf, In, Fit, FitMarking}
 use Rattle.graph.specs.Tests.{allowedAt, rowSpill, spillAt, spillOf, fitTables, fitChart, fitMarking, fit}
 
 -- ---- one row: nothing spills exactly if each set keeps to what it may hold, and nothing is both included and excluded

@@ -3,3 +3,5 @@ pub mod Chart
 pub mod Tests
 pub mod Fitness
 pub mod Steps
+pub mod Execution
+pub mod Rows

@@ -1,6 +1,6 @@
 -- Steps as the code takes them: the open rule, executing, counting and the finished test, and the law for each return. Assumes nothing.
 use Prim.Native.Nat.{ℕ, _+_, _≤_, _<_, _^_}
-use mathlib.Core.Path.{_≡_, refl, sym, ap, _∙_}
+use mathlib.Core.Path.{_≡_, sym, ap, _∙_}
 use mathlib.Core.Bool.{Bool, true, false, not, _&&_, cond}
 use mathlib.Core.List.{List}
 use native.Mathlib.Omega.{arith}
@@ -13,9 +13,9 @@ use Rattle.paper.specs.Limits.{maxEvents, noSuchEvent, notIncluded, conditionWa
 use Rattle.paper.specs.Answers.{answer, granted, refusal}
 use Rattle.paper.specs.declared.Answer.{Answer}
 use Rattle.sets.specs.Cases.{not-so}
-use Rattle.sets.specs.Set.{has, union, inter, minus, only, within, lowest, size, collect, putIf}
+use Rattle.sets.specs.Set.{has, union, inter, minus, only, lowest, size, collect, putIf}
 use Rattle.sets.specs.Laws.{lowest-wide, minus-le, below, collect-step}
-use Rattle.graph.specs.Chart.{setOf, condition, response, milestone, include, exclude, Fit, FitMarking}
+use Rattle.graph.specs.Chart.{setOf, condition, response, milestone, include, exclude}
 use Rattle.graph.specs.Tests.{fit}
 use Rattle.graph.specs.Fitness.{fit-both}
 use Rattle.graph.specs.declared.FlatChart.{FlatChart}

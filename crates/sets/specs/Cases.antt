@@ -1,6 +1,6 @@
 -- Case splits as functions with a continuation for each case, so that a proof needs no helper of its own. Assumes nothing.
-use mathlib.Core.Path.{_≡_, refl, sym}
-use mathlib.Core.Bool.{Bool, true, false, not, _&&_, _||_}
+use mathlib.Core.Path.{_≡_, refl, sym, _∙_}
+use mathlib.Core.Bool.{Bool, true, false, _&&_, _||_}
 use Prim.Native.Nat.{ℕ, suc, _<_}
 use native.Mathlib.Omega.{arith}
 use native.Mathlib.Decide.{ℕ-discrete}
@@ -54,3 +54,7 @@ lt-suc {C} {p} {k} h f g = go (ℕ-discrete p k)
     go : Dec (p ≡ k) → C
     go (yes e) = f e
     go (no n) = g (omega arith)
+
+-- two results that meet one equation coincide
+pub coincide : {A : Type 0} {x y z : A} → x ≡ z → y ≡ z → x ≡ y
+coincide p q = p ∙ sym q

@@ -1,16 +1,16 @@
 -- The laws of membership, for all numbers.
 -- Assumes nothing.
 use Prim.Native.Nat.{ℕ, zero, suc, _+_, _-_, _*_, _/_, _%_, _^_, _≤_, _<_, min, max}
-use mathlib.Core.Path.{_≡_, refl, sym, ap, ap₂, _∙_, subst}
+use mathlib.Core.Path.{_≡_, refl, sym, ap, ap₂, _∙_}
 use mathlib.Core.Bool.{Bool, true, false, not, _&&_, _||_, cond, and-true, and-false, or-false, or-self}
 use mathlib.Core.Logic.{_⊎_, inl, inr}
-use native.Mathlib.Nat.{zero-min, min-zero, suc-min-suc, zero-max, max-zero, suc-max-suc, mod-lt, div-add-mod', zero-lt-suc, pow-suc, div-one, zero-div, zero-mod, div-div-eq-div-mul, mul-comm, sub-zero, zero-sub, not-suc-le-zero, le-of-suc-le-suc, mul-mod-left, mul-div-cancel, div-eq-of-lt, div-lt-iff-lt-mul, lt-of-lt-of-le, one-mul, zero-add, le-refl, lt-of-not-le, not-le-of-lt}
+use native.Mathlib.Nat.{zero-min, min-zero, suc-min-suc, zero-max, max-zero, suc-max-suc, mod-lt, zero-lt-suc, pow-suc, div-one, zero-div, zero-mod, div-div-eq-div-mul, mul-comm, sub-zero, zero-sub, not-suc-le-zero, le-of-suc-le-suc, mul-mod-left, mul-div-cancel, div-eq-of-lt, div-lt-iff-lt-mul, lt-of-lt-of-le, one-mul, zero-add, lt-of-not-le, not-le-of-lt}
 use native.Mathlib.Numerals.{add-one}
 use native.Mathlib.Omega.{arith}
 use lib.Arith.{digits-div, digits-mod, bin-ind, lt-one, lt-of-le-ne}
 use lib.Pow.{pow-pos, pow-mono, shr-shr, shl-exact}
 use lib.Dec.{lit<, ltb, eqb, eqb·zero-suc, eqb·suc-zero, eqb·suc-suc}
-use borrow.Author.Tests.{eq-eqb, ne-eqb, lt-ltb, le-ltb, ltb-true, ltb-false, eqb-true, eqb-false}
+use borrow.Author.Tests.{eq-eqb, lt-ltb, le-ltb, ltb-true, ltb-false, eqb-true, eqb-false}
 use lib.Bits.{bitwise-step, bitAnd, bitOr, and-step, or-step, and-mask, or-shifted-r}
 use lib.Count.{trailingZeros, ones, onesIn, ones-step, ones-cat}
 use Rattle.sets.specs.Cases.{contra, not-so, cases, both, neither, same-test}
@@ -200,6 +200,11 @@ lowest-lt (suc w) s p h = go (digit-cases s) (lowest-lt w (s / 2))
         let l : lowest w (s / 2) < w = ih (omega arith) (omega arith) in
         omega arith
     go (inr d) ih = let z : lowest (suc w) s ≡ zero = lowest-zero w s d in omega arith
+
+pub lowest-none : (w : ℕ) → lowest w zero ≡ w
+unfolding trailingZeros
+lowest-none zero = refl
+lowest-none (suc w) = lowest-suc w zero (zero-mod 2) ∙ rw (zero-div, lowest-none w)
 
 pub lowest-unique : (s m n : ℕ) → has s m ≡ true → has s n ≡ true → ((e : ℕ) → e < m → has s e ≡ false) → ((e : ℕ) → e < n → has s e ≡ false) → m ≡ n
 lowest-unique s m n hm hn lm ln =

@@ -1,0 +1,338 @@
+-- Document 000, Definitions 2 and 3, by membership, and what the paper says of executing, counting and the finished test. Assumes nothing.
+use Prim.Native.Nat.{ℕ, suc, _^_, _≤_, _<_}
+use mathlib.Core.Path.{_≡_, refl, sym, ap, ap₂, _∙_}
+use mathlib.Core.Bool.{true, false, not, _&&_}
+use mathlib.Core.Logic.{_↔_, _⊎_, inl, inr, ⊎-elim}
+use native.Mathlib.Omega.{arith}
+use native.Mathlib.Nat.{le-antisymm, lt-of-not-le, le-of-suc-le-suc}
+use lib.Dec.{eqb, leb, ltb}
+use borrow.Author.Tests.{eq-eqb, ne-eqb, eqb-true, eqb-false, le-leb, lt-leb, leb-true, leb-false, lt-ltb, ltb-true, not-true}
+use Rattle.paper.specs.Limits.{maxEvents, noSuchEvent, notIncluded, conditionWanting, milestoneWanting, unfit}
+use Rattle.paper.specs.Answers.{answer, granted, refusal}
+use Rattle.sets.specs.Cases.{contra, cases, both, all3, either, or-right, not-so, same-test, coincide}
+use Rattle.sets.specs.Below.{tally}
+use Rattle.sets.specs.Set.{has, inter, minus, only, lowest}
+use Rattle.sets.specs.Laws.{has-union, has-inter, has-minus, has-only, has-empty, none-zero, ext, lowest-has, lowest-lt, lowest-least, has-collect, size-collect, below, apart-not, not-apart, lowest-none}
+use Rattle.graph.specs.Chart.{condition, response, milestone, include, exclude, setOf, In, Fit, FitMarking}
+use Rattle.graph.specs.Tests.{fit}
+use Rattle.graph.specs.Fitness.{fit-both, both-fit}
+use Rattle.graph.specs.Steps.{unmetOf, awaitedOf, openWith, isOpen, afterWith, after, refusing, granting, executing, openAmong, openSet, counting, finishing}
+use Rattle.graph.specs.declared.FlatChart.{FlatChart}
+use Rattle.graph.specs.declared.Marking.{Marking}
+use Rattle.graph.specs.declared.steps.Step.{Step}
+use Rattle.graph.specs.declared.steps.OpenCount.{OpenCount}
+use Rattle.graph.specs.declared.steps.Finished.{Finished}
+
+-- ---- the definitions
+
+-- Definition 2: e is enabled if (a) it is included, (b) its included conditions are executed, (c) no included milestone of it is pending
+pub record Enabled (c : FlatChart) (m : Marking) (e : ℕ) : Type 0 where
+  pub included : In (m .included) e
+  pub met : (f : ℕ) → In (m .included) f → In (setOf c condition e) f → In (m .executed) f
+  pub answered : (f : ℕ) → In (m .included) f → In (setOf c milestone e) f → In (m .pending) f → ⊥
+
+-- Definition 3: Ex' = Ex ∪ {e}, Re' = (Re \ {e}) ∪ (e •→), In' = (In \ (e →%)) ∪ (e →+)
+pub record Executed (c : FlatChart) (m : Marking) (e : ℕ) (n : Marking) : Type 0 where
+  pub executed : (f : ℕ) → In (n .executed) f ↔ (In (m .executed) f ⊎ (e ≡ f))
+  pub pending : (f : ℕ) → In (n .pending) f ↔ ((In (m .pending) f × (e ≡ f → ⊥)) ⊎ In (setOf c response e) f)
+  pub included : (f : ℕ) → In (n .included) f ↔ ((In (m .included) f × (In (setOf c exclude e) f → ⊥)) ⊎ In (setOf c include e) f)
+
+-- f is an included condition of e that wants executing; an included milestone of e that is pending
+pub record Wanting (c : FlatChart) (m : Marking) (e f : ℕ) : Type 0 where
+  pub included : In (m .included) f
+  pub asked : In (setOf c condition e) f
+  pub missing : In (m .executed) f → ⊥
+
+pub record Awaiting (c : FlatChart) (m : Marking) (e f : ℕ) : Type 0 where
+  pub included : In (m .included) f
+  pub asked : In (setOf c milestone e) f
+  pub pending : In (m .pending) f
+
+-- the lowest number of which P holds
+pub record Lowest (P : ℕ → Type 0) (f : ℕ) : Type 0 where
+  pub holds : P f
+  pub least : (g : ℕ) → g < f → P g → ⊥
+
+-- "Executing gives 14, 10, 11, 12, 13": what the paper has a step give, case by case
+pub record Stands (c : FlatChart) (m : Marking) (e : ℕ) : Type 0 where
+  pub chart : Fit c
+  pub marking : FitMarking (c .count) m
+  pub exists : e < c .count
+
+pub data Executes (c : FlatChart) (m : Marking) (e : ℕ) : Step → Type 0 where
+  isUnfit : (Fit c → FitMarking (c .count) m → ⊥) → Executes c m e (refusing unfit 0 m)
+  isGone : Fit c → FitMarking (c .count) m → c .count ≤ e → Executes c m e (refusing noSuchEvent 0 m)
+  isExcluded : Stands c m e → (In (m .included) e → ⊥) → Executes c m e (refusing notIncluded 0 m)
+  isWanting : {f : ℕ} → Stands c m e → In (m .included) e → Lowest (Wanting c m e) f → Executes c m e (refusing conditionWanting f m)
+  isAwaiting : {f : ℕ} → Stands c m e → In (m .included) e → ((g : ℕ) → Wanting c m e g → ⊥) → Lowest (Awaiting c m e) f → Executes c m e (refusing milestoneWanting f m)
+  isDone : {n : Marking} → Stands c m e → Enabled c m e → Executed c m e n → Executes c m e (granting n)
+
+-- ---- the open rule
+
+module _ (c : FlatChart) (m : Marking) (e : ℕ) where
+  has-unmet : (f : ℕ) → has (unmetOf m (setOf c condition e)) f ≡ ((has (m .included) f && has (setOf c condition e) f) && not (has (m .executed) f))
+  unfolding unmetOf
+  has-unmet f = has-minus (inter (m .included) (setOf c condition e)) (m .executed) f ∙ rw (has-inter (m .included) (setOf c condition e) f)
+
+  has-awaited : (f : ℕ) → has (awaitedOf m (setOf c milestone e)) f ≡ ((has (m .included) f && has (setOf c milestone e) f) && has (m .pending) f)
+  unfolding awaitedOf
+  has-awaited f = has-inter (inter (m .included) (setOf c milestone e)) (m .pending) f ∙ rw (has-inter (m .included) (setOf c milestone e) f)
+
+  unmet-wanting : (f : ℕ) → In (unmetOf m (setOf c condition e)) f ↔ Wanting c m e f
+  unmet-wanting f = (
+    λ h. let t = all3 (has (m .included) f) (has (setOf c condition e) f) (not (has (m .executed) f)) (sym (has-unmet f) ∙ h) in
+        record { included = t .0; asked = t .1; missing = λ x. contra x (not-true (has (m .executed) f) (t .2)) },
+    λ w. has-unmet f ∙ rw (w .included, w .asked, not-so (w .missing)),
+  )
+
+  awaited-awaiting : (f : ℕ) → In (awaitedOf m (setOf c milestone e)) f ↔ Awaiting c m e f
+  awaited-awaiting f = (
+    λ h. let t = all3 (has (m .included) f) (has (setOf c milestone e) f) (has (m .pending) f) (sym (has-awaited f) ∙ h) in
+        record { included = t .0; asked = t .1; pending = t .2 },
+    λ w. has-awaited f ∙ rw (w .included, w .asked, w .pending),
+  )
+
+  none-of : (s : ℕ) → s ≡ 0 → (f : ℕ) → In s f → ⊥
+  none-of s z f h = contra h (ap (λ (x : ℕ). has x f) z ∙ has-empty f)
+
+  -- "Event e is open if it is in In, each included condition of e is in Ex, and no included milestone of e is in Re."
+  pub open-enabled : (isOpen c m e ≡ true) ↔ Enabled c m e
+  unfolding openWith
+  open-enabled = (
+    λ h. let t = all3 (has (m .included) e) (eqb (unmetOf m (setOf c condition e)) 0) (eqb (awaitedOf m (setOf c milestone e)) 0) h in
+        record {
+          included = t .0;
+          met = λ f i a. cases (has (m .executed) f) (λ x. x) (λ x. absurd (none-of _ (eqb-true _ 0 (t .1)) f (unmet-wanting f .1 (record { included = i; asked = a; missing = λ y. contra y x }))));
+          answered = λ f i a p. none-of _ (eqb-true _ 0 (t .2)) f (awaited-awaiting f .1 (record { included = i; asked = a; pending = p }));
+        },
+    λ t. rw (
+      t .included,
+      eq-eqb _ 0 (none-zero (unmetOf m (setOf c condition e)) (λ f. not-so (λ h. let w = unmet-wanting f .0 h in w .missing (t .met f (w .included) (w .asked))))),
+      eq-eqb _ 0 (none-zero (awaitedOf m (setOf c milestone e)) (λ f. not-so (λ h. let w = awaited-awaiting f .0 h in t .answered f (w .included) (w .asked) (w .pending)))),
+    ),
+  )
+
+  -- ---- the next marking
+
+  pub after-executed : Executed c m e (after c m e)
+  unfolding afterWith
+  after-executed =
+      record {
+        executed = λ f. (
+          λ h. either (has (m .executed) f) (has (only e) f) (sym (has-union (m .executed) (only e) f) ∙ h) inl (λ x. inr (eqb-true e f (sym (has-only e f) ∙ x))),
+          λ t. has-union (m .executed) (only e) f ∙ ⊎-elim (λ x. rw x) (λ x. or-right (has (m .executed) f) (has (only e) f) (has-only e f ∙ eq-eqb e f x)) t,
+        );
+        pending = λ f. (
+          λ h. either (has (minus (m .pending) (only e)) f) (has (setOf c response e) f) (sym (has-union (minus (m .pending) (only e)) (setOf c response e) f) ∙ h)
+              (λ x. let t = both (has (m .pending) f) (not (has (only e) f)) (sym (has-minus (m .pending) (only e) f) ∙ x) in
+              inl (t .0, λ z. contra (has-only e f ∙ eq-eqb e f z) (not-true _ (t .1)))) inr,
+          λ t. has-union (minus (m .pending) (only e)) (setOf c response e) f
+              ∙ ⊎-elim (λ x. rw (has-minus (m .pending) (only e) f, x .0, has-only e f, ne-eqb e f (x .1)))
+              (λ x. or-right (has (minus (m .pending) (only e)) f) (has (setOf c response e) f) x) t,
+        );
+        included = λ f. (
+          λ h. either (has (minus (m .included) (setOf c exclude e)) f) (has (setOf c include e) f) (sym (has-union (minus (m .included) (setOf c exclude e)) (setOf c include e) f) ∙ h)
+              (λ x. let t = both (has (m .included) f) (not (has (setOf c exclude e) f)) (sym (has-minus (m .included) (setOf c exclude e) f) ∙ x) in
+              inl (t .0, λ z. contra z (not-true _ (t .1)))) inr,
+          λ t. has-union (minus (m .included) (setOf c exclude e)) (setOf c include e) f
+              ∙ ⊎-elim (λ x. rw (has-minus (m .included) (setOf c exclude e) f, x .0, not-so (x .1)))
+              (λ x. or-right (has (minus (m .included) (setOf c exclude e)) f) (has (setOf c include e) f) x) t,
+        );
+      }
+
+-- two numbers that are the lowest with P are one
+pub lowest-one : (P : ℕ → Type 0) (f g : ℕ) → Lowest P f → Lowest P g → f ≡ g
+lowest-one P f g a b = le-antisymm (half f g a b) (half g f b a)
+  where
+    half : (f g : ℕ) → Lowest P f → Lowest P g → f ≤ g
+    half f g a b = le-of-suc-le-suc (lt-of-not-le (λ (h : suc g ≤ f). a .least g h (b .holds)))
+
+-- two markings that Definition 3 gives are one
+same-set : (s t : ℕ) (P : ℕ → Type 0) → ((f : ℕ) → In s f ↔ P f) → ((f : ℕ) → In t f ↔ P f) → s ≡ t
+same-set s t P a b = ext s t (λ f. same-test (has s f) (has t f) (λ h. b f .1 (a f .0 h)) (λ h. a f .1 (b f .0 h)))
+
+abbrev made : ℕ → ℕ → ℕ → Marking
+made x p i = record { executed = x; pending = p; included = i }
+
+pub executed-one : (c : FlatChart) (m : Marking) (e : ℕ) (n k : Marking) → Executed c m e n → Executed c m e k → n ≡ k
+executed-one c m e n k a b =
+    let x = same-set (n .executed) (k .executed) _ (a .executed) (b .executed) in
+    let p = same-set (n .pending) (k .pending) _ (a .pending) (b .pending) in
+    let i = same-set (n .included) (k .included) _ (a .included) (b .included) in
+    ap₂ (λ (x y : ℕ). made x y (n .included)) x p ∙ ap (made (k .executed) (k .pending)) i
+
+-- ---- executing is what the paper says
+
+module _ (c : FlatChart) (m : Marking) (e : ℕ) where
+  -- the lowest member of a set of included events
+  lowest-in : FitMarking (c .count) m → (P : ℕ → Type 0) (s : ℕ) → ((f : ℕ) → In s f ↔ P f) → ((f : ℕ) → P f → In (m .included) f) → (s ≡ 0 → ⊥) → Lowest P (lowest (c .count) s)
+  lowest-in t P s h i n =
+      let b : s < 2 ^ c .count = below (c .count) s (λ f l. not-so (λ x. let u : f < c .count = t .included f (i f (h f .0 x)) in absurd (omega arith))) in
+      record {
+        holds = h (lowest (c .count) s) .0 (lowest-has (c .count) s (lowest-lt (c .count) s (omega arith) b));
+        least = λ g l p. contra (h g .1 p) (lowest-least (c .count) s g l);
+      }
+
+  pub executes : Executes c m e (executing c m e)
+  unfolding executing openWith
+  executes =
+      cases (fit c m)
+      (λ ok. let t = fit-both c m ok in
+      cases (leb (c .count) e)
+      (λ g. rw (ok, g) (isGone (t .0) (t .1) (leb-true (c .count) e g)))
+      (λ g. let s : Stands c m e = record { chart = t .0; marking = t .1; exists = leb-false (c .count) e g } in
+      cases (has (m .included) e)
+      (λ i. cases (eqb (unmetOf m (setOf c condition e)) 0)
+      (λ u. cases (eqb (awaitedOf m (setOf c milestone e)) 0)
+      (λ w. rw (ok, g, i, u, w) (isDone s (open-enabled c m e .0 (opens i u w)) (after-executed c m e)))
+      (λ w. rw (ok, g, i, u, w) (isAwaiting s i (λ f x. contra (unmet-wanting c m e f .1 x) (ap (λ (y : ℕ). has y f) (eqb-true _ 0 u) ∙ has-empty f))
+      (lowest-in (t .1) (Awaiting c m e) (awaitedOf m (setOf c milestone e)) (awaited-awaiting c m e) (λ f x. x .included) (eqb-false _ 0 w)))))
+      (λ u. rw (ok, g, i, u) (isWanting s i (lowest-in (t .1) (Wanting c m e) (unmetOf m (setOf c condition e)) (unmet-wanting c m e) (λ f x. x .included) (eqb-false _ 0 u)))))
+      (λ i. rw (ok, g, i) (isExcluded s (λ x. contra x i)))))
+      (λ no. rw no (isUnfit (λ f t. contra (both-fit c m f t) no)))
+    where
+      opens : has (m .included) e ≡ true → eqb (unmetOf m (setOf c condition e)) 0 ≡ true → eqb (awaitedOf m (setOf c milestone e)) 0 ≡ true → isOpen c m e ≡ true
+      opens i u w = rw (i, u, w)
+
+  some-in : (s f : ℕ) → In s f → s ≡ 0 → ⊥
+  some-in s f h z = contra h (ap (λ (x : ℕ). has x f) z ∙ has-empty f)
+
+  -- and nothing else: whatever the paper's cases allow is what executing gives
+  pub executes-only : {s : Step} → Executes c m e s → s ≡ executing c m e
+  unfolding executing openWith
+  executes-only (isUnfit n) = let no : fit c m ≡ false = not-so (λ ok. let t = fit-both c m ok in n (t .0) (t .1)) in rw no
+  executes-only (isGone f t g) = rw (both-fit c m f t, le-leb (c .count) e g)
+  executes-only (isExcluded s x) = rw (both-fit c m (s .chart) (s .marking), lt-leb (c .count) e (s .exists), not-so x)
+  executes-only (isWanting {f} s i l) =
+      let u : unmetOf m (setOf c condition e) ≡ 0 → ⊥ = some-in _ f (unmet-wanting c m e f .1 (l .holds)) in
+      let o : f ≡ lowest (c .count) (unmetOf m (setOf c condition e)) = lowest-one (Wanting c m e) f _ l
+      (lowest-in (s .marking) (Wanting c m e) (unmetOf m (setOf c condition e)) (unmet-wanting c m e) (λ g x. x .included) u) in
+      rw (both-fit c m (s .chart) (s .marking), lt-leb (c .count) e (s .exists), i, ne-eqb _ 0 u) (ap (λ (x : ℕ). refusing conditionWanting x m) o)
+  executes-only (isAwaiting {f} s i n l) =
+      let z : unmetOf m (setOf c condition e) ≡ 0 = none-zero _ (λ g. not-so (λ h. n g (unmet-wanting c m e g .0 h))) in
+      let w : awaitedOf m (setOf c milestone e) ≡ 0 → ⊥ = some-in _ f (awaited-awaiting c m e f .1 (l .holds)) in
+      let o : f ≡ lowest (c .count) (awaitedOf m (setOf c milestone e)) = lowest-one (Awaiting c m e) f _ l
+      (lowest-in (s .marking) (Awaiting c m e) (awaitedOf m (setOf c milestone e)) (awaited-awaiting c m e) (λ g x. x .included) w) in
+      rw (both-fit c m (s .chart) (s .marking), lt-leb (c .count) e (s .exists), i, eq-eqb _ 0 z, ne-eqb _ 0 w) (ap (λ (x : ℕ). refusing milestoneWanting x m) o)
+  executes-only (isDone {n} s t x) =
+      let o = all3 (has (m .included) e) (eqb (unmetOf m (setOf c condition e)) 0) (eqb (awaitedOf m (setOf c milestone e)) 0) (open-enabled c m e .1 t) in
+      rw (both-fit c m (s .chart) (s .marking), lt-leb (c .count) e (s .exists), o .0, o .1, o .2) (ap granting (executed-one c m e n _ x (after-executed c m e)))
+
+  -- granted exactly if enabled
+  pub granted-enabled : (executing c m e .answer .code ≡ 0) ↔ (Stands c m e × Enabled c m e)
+  granted-enabled = (λ h. grants executes h, λ t. ap (λ (s : Step). s .answer .code) (sym (executes-only (isDone (t .0) (t .1) (after-executed c m e)))))
+    where
+      grants : {s : Step} → Executes c m e s → s .answer .code ≡ 0 → Stands c m e × Enabled c m e
+      grants (isUnfit _) h = absurd (omega arith)
+      grants (isGone _ _ _) h = absurd (omega arith)
+      grants (isExcluded _ _) h = absurd (omega arith)
+      grants (isWanting _ _ _) h = absurd (omega arith)
+      grants (isAwaiting _ _ _ _) h = absurd (omega arith)
+      grants (isDone s t _) h = (s, t)
+
+  -- a granted step is Definition 3's; a refused one returns its marking
+  pub granted-executed : executing c m e .answer .code ≡ 0 → Executed c m e (executing c m e .marking)
+  granted-executed h = told executes h
+    where
+      told : {s : Step} → Executes c m e s → s .answer .code ≡ 0 → Executed c m e (s .marking)
+      told (isUnfit _) h = absurd (omega arith)
+      told (isGone _ _ _) h = absurd (omega arith)
+      told (isExcluded _ _) h = absurd (omega arith)
+      told (isWanting _ _ _) h = absurd (omega arith)
+      told (isAwaiting _ _ _ _) h = absurd (omega arith)
+      told (isDone _ _ x) h = x
+
+  pub refused-kept : (executing c m e .answer .code ≡ 0 → ⊥) → executing c m e .marking ≡ m
+  refused-kept h = told executes h
+    where
+      told : {s : Step} → Executes c m e s → (s .answer .code ≡ 0 → ⊥) → s .marking ≡ m
+      told (isUnfit _) h = refl
+      told (isGone _ _ _) h = refl
+      told (isExcluded _ _) h = refl
+      told (isWanting _ _ _) h = refl
+      told (isAwaiting _ _ _ _) h = refl
+      told (isDone _ _ _) h = absurd (h refl)
+
+  -- a granted step keeps the marking fit
+  pub after-fit : Fit c → FitMarking (c .count) m → e < c .count → FitMarking (c .count) (after c m e)
+  after-fit f t h =
+      let x = after-executed c m e in
+      record {
+        executed = λ g i. ⊎-elim (t .executed g) (λ z. rw z at h) (x .executed g .0 i);
+        pending = λ g i. ⊎-elim (λ p. t .pending g (p .0)) (f .inside response e g h) (x .pending g .0 i);
+        included = λ g i. ⊎-elim (λ p. t .included g (p .0)) (f .inside include e g h) (x .included g .0 i);
+      }
+
+  pub step-fit : executing c m e .answer .code ≡ 0 → FitMarking (c .count) (executing c m e .marking)
+  step-fit h =
+      let t = granted-enabled .0 h in
+      let one : executing c m e ≡ granting (after c m e) = sym (executes-only (isDone (t .0) (t .1) (after-executed c m e))) in
+      rw one (after-fit (t .0 .chart) (t .0 .marking) (t .0 .exists))
+
+-- ---- counting and the finished test
+
+-- "A call reports the number of open events and the lowest-numbered one (64 if none)."
+pub record Counts (c : FlatChart) (m : Marking) (r : OpenCount) : Type 0 where
+  pub granting : r .answer ≡ granted
+  pub number : r .count ≡ tally (c .count) (isOpen c m)
+  pub lowest : (r .lowest < c .count → Lowest (Enabled c m) (r .lowest)) × ((r .lowest < c .count → ⊥) → (r .lowest ≡ maxEvents) × ((e : ℕ) → e < c .count → Enabled c m e → ⊥))
+
+module _ (c : FlatChart) (m : Marking) where
+  open-in : (e : ℕ) → In (openSet c m) e ↔ ((e < c .count) × Enabled c m e)
+  unfolding openAmong
+  open-in e = (
+    λ h. let t = both (ltb e (c .count)) (isOpen c m e) (sym (has-collect (c .count) (isOpen c m) e) ∙ h) in (ltb-true e (c .count) (t .0), open-enabled c m e .0 (t .1)),
+    λ t. has-collect (c .count) (isOpen c m) e ∙ rw (lt-ltb e (c .count) (t .0), open-enabled c m e .1 (t .1)),
+  )
+
+  pub counts : Fit c → FitMarking (c .count) m → Counts c m (counting c m)
+  unfolding counting openAmong
+  counts f t =
+      rw (both-fit c m f t)
+      (record {
+        granting = refl;
+        number = size-collect (c .count) (isOpen c m);
+        lowest = (
+          λ h. record {
+            holds = open-in (lowest maxEvents (openSet c m)) .0 (lowest-has maxEvents (openSet c m) (let l : c .count ≤ maxEvents = f .few in omega arith)) .1;
+            least = λ g l x. contra (open-in g .1 (omega arith, x)) (lowest-least maxEvents (openSet c m) g l);
+          },
+          λ h. none h,
+        );
+      })
+    where
+      none : (lowest maxEvents (openSet c m) < c .count → ⊥) → (lowest maxEvents (openSet c m) ≡ maxEvents) × ((e : ℕ) → e < c .count → Enabled c m e → ⊥)
+      none h =
+          let no : (e : ℕ) → e < c .count → Enabled c m e → ⊥ = λ e l x. contra (open-in e .1 (l, x)) (lowest-least maxEvents (openSet c m) e (omega arith)) in
+          let z : openSet c m ≡ 0 = none-zero (openSet c m) (λ e. not-so (λ i. let u = open-in e .0 i in no e (u .0) (u .1))) in
+          (rw z (lowest-none maxEvents), no)
+
+  -- "A marking is finished if no event is both in In and in Re."
+  pub finished-when : Fit c → FitMarking (c .count) m → (finishing c m .yes ≡ true) ↔ ((e : ℕ) → In (m .included) e → In (m .pending) e → ⊥)
+  unfolding finishing
+  finished-when f t =
+      rw (both-fit c m f t) (
+        λ h e. apart-not (m .included) (m .pending) e (eqb-true _ 0 h),
+        λ h. eq-eqb _ 0 (not-apart (m .included) (m .pending) h),
+      )
+
+  -- "a refused count 0 and 64; a refused finished test no"
+  pub count-refused : (Fit c → FitMarking (c .count) m → ⊥) → counting c m ≡ record { answer = refusal unfit; count = 0; lowest = maxEvents }
+  unfolding counting
+  count-refused n = let no : fit c m ≡ false = not-so (λ ok. let t = fit-both c m ok in n (t .0) (t .1)) in rw no
+
+  pub finish-refused : (Fit c → FitMarking (c .count) m → ⊥) → finishing c m ≡ record { answer = refusal unfit; yes = false }
+  unfolding finishing
+  finish-refused n = let no : fit c m ≡ false = not-so (λ ok. let t = fit-both c m ok in n (t .0) (t .1)) in rw no
+
+-- ---- two results that meet a call's contract coincide
+
+module _ (c : FlatChart) (m : Marking) where
+  pub execute-determined : (e : ℕ) (r s : Step) → r ≡ executing c m e → s ≡ executing c m e → r ≡ s
+  execute-determined e r s = coincide
+
+  pub count-determined : (r s : OpenCount) → r ≡ counting c m → s ≡ counting c m → r ≡ s
+  count-determined r s = coincide
+
+  pub finished-determined : (r s : Finished) → r ≡ finishing c m → s ≡ finishing c m → r ≡ s
+  finished-determined r s = coincide
