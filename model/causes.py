@@ -1,0 +1,676 @@
+# Every refusal by each of its causes, what is just inside a limit, and the largest sizes: requests with the answer meant.
+#
+# Each generator yields (answer, body). The answer is what the cause aims at, (code, place, other), or None where only
+# the model knows; a request whose expected line says otherwise is a mistake here and stops the program.
+
+import ozhimka as model
+from chances import (random_chart_image, random_flat, random_nodes, random_order, random_relations, random_snapshot,
+                     sound_book)
+from ozhimka import (AND, BECOME_NO, BECOME_YES, CLEAR, COMPLETED, CONDITION, EXCLUDE, GRANTED, INCLUDE, MILESTONE, NONE,
+                     NOT, OR, RESPONSE, SET, Book, FlatChart, Marking, Rule, book_image, chart_image, on_completion,
+                     without_trigger)
+from protocol import (bytes16, bytes32, check_request, complete_request, count_request, derive_request, execute_request,
+                      finished_request, matching_request, read_request)
+
+FREE = (NONE, 4)
+HUGE = 0xFFFFFFFF
+
+
+def plain(code, place=0, other=0):
+    return (code, place, other)
+
+
+def with_number16(image, at, number):
+    return image[:at] + bytes16(number) + image[at + 2:]
+
+
+def with_number32(image, at, number):
+    return image[:at] + bytes32(number) + image[at + 4:]
+
+
+# ---- charts
+
+def header_causes(rng):
+    """Codes 1, 2 and 3."""
+    image = model.PAPER_CHART
+    for length in range(8):
+        yield plain(1), read_request(image[:length])
+        yield plain(1), read_request(rng.randbytes(length))
+    for nodes, relations in ((0, 0), (0, 3), (129, 0), (129, 3), (65535, 0), (2, 4097), (2, 65535), (0, 4097), (32768, 0)):
+        changed = with_number16(with_number16(image, 0, nodes), 2, relations)
+        yield plain(2), read_request(changed)
+        yield plain(2), read_request(changed[:8])
+        exact = bytes16(nodes) + bytes16(relations) + bytes16(8) + bytes16((8 + 4 * nodes) % 65536)
+        yield plain(2), read_request(exact + bytes(min(4 * nodes + 6 * relations, 1000)))
+    for at, right in ((4, 8), (6, 16)):
+        for wrong in (0, right - 1, right + 1, right + 4, right + 256, 65535):
+            yield plain(3), read_request(with_number16(image, at, wrong))
+    for wrong in (image[:8], image[:-1], image[:-6], image[:16], image + b'\0', image + image[-6:], image * 2):
+        yield plain(3), read_request(wrong)
+    for nodes, relations in ((1, 3), (3, 3), (2, 2), (2, 4), (128, 4096)):  # the counts and the length disagree
+        changed = with_number16(with_number16(image, 0, nodes), 2, relations)
+        yield plain(3), read_request(with_number16(changed, 6, 8 + 4 * nodes))
+
+
+def node_causes(rng):
+    """Codes 4 and 5; what would get a higher code stands beside them."""
+    count = rng.randrange(4, 12)
+    relations = [(count, 0, 9), (0, 0, INCLUDE), (0, 0, EXCLUDE)]
+    for parent in (count, count + 1, 128, 32768, 65534):
+        n = rng.randrange(count)
+        nodes = [FREE] * count
+        nodes[n] = (parent, 4)
+        yield plain(4, n), read_request(chart_image(nodes, relations))
+    for flags in (8, 9, 15, 16, 32, 64, 128, 255, 256, 32768, 65535):
+        n = rng.randrange(count)
+        nodes = [FREE] * count
+        nodes[n] = (NONE, flags)
+        yield plain(4, n), read_request(chart_image(nodes, relations))
+    for first in (0, 1, count - 2):
+        nodes = [FREE] * first + [(count, 8)] + [(NONE, 8)] * (count - first - 1)
+        yield plain(4, first), read_request(chart_image(nodes, relations))
+    nodes = [(0, 7)] + [FREE] * (count - 2) + [(NONE, 8)]
+    yield plain(4, count - 1), read_request(chart_image(nodes, relations))
+
+    def loop_case(place, parents, flags=0):
+        nodes = [FREE] * 9
+        for n, parent in parents.items():
+            nodes[n] = (parent, flags)
+        return plain(5, place), read_request(chart_image(nodes, [(9, 9, 9)]))
+
+    for n in range(0, 9, 2):
+        yield loop_case(n, {n: n}, rng.randrange(8))  # a node that is its own parent
+    yield loop_case(2, {2: 5, 5: 2})
+    yield loop_case(3, {7: 3, 3: 8, 8: 7})
+    yield loop_case(4, {0: 4, 4: 6, 6: 4})  # node 0 leads into the loop and is not on it
+    yield loop_case(5, {0: 1, 1: 2, 2: 8, 8: 5, 5: 7, 7: 8})  # a chain that leads into a loop
+    yield loop_case(8, {0: 1, 1: 2, 2: 3, 3: 4, 4: 8, 8: 8})
+    yield loop_case(1, {1: 6, 6: 1, 4: 4})  # two loops
+    yield loop_case(2, {0: 5, 3: 7, 7: 3, 5: 2, 2: 5})
+    for count in (2, 3, 64, 127, 128):
+        row = list(range(count))
+        rng.shuffle(row)
+        parents = [0] * count
+        for i, n in enumerate(row):
+            parents[n] = row[i - 1]
+        yield plain(5, 0), read_request(chart_image([(parent, 0) for parent in parents], []))
+
+
+def group_causes(rng):
+    """Codes 6, 7 and 8."""
+    bad = [(200, 0, 0)]
+    for flags in range(1, 8):
+        yield plain(6, 1), read_request(chart_image([FREE, (NONE, flags), (1, 4), FREE], bad))
+    yield plain(6, 0), read_request(chart_image([(NONE, 1), (0, 2), (1, 4)], bad))
+    yield plain(6, 1), read_request(chart_image([(NONE, 0), (0, 2), (1, 4)], []))
+    yield plain(6, 2), read_request(chart_image([(2, 4), (3, 4), (NONE, 4), (NONE, 4)], []))
+    yield plain(6, 100), read_request(chart_image([(100, 4)] * 100 + [(NONE, 4)], bad))  # before 7
+
+    for count in (65, 66, 100, 128):
+        yield plain(7, count), read_request(chart_image([FREE] * count, bad))
+    for groups in (1, 2, 20, 62):
+        nodes = [(NONE, 0)] * groups + [(n % groups, 4) for n in range(65)]
+        yield plain(7, 65), read_request(chart_image(nodes, [(0, 1, INCLUDE), (0, 1, EXCLUDE)]))
+        yield plain(8, 0), read_request(chart_image(nodes[:-1], bad))
+
+    nodes = [(NONE, 0), (0, 4), (0, 6), FREE]
+    fight = [(3, 1, INCLUDE), (3, 1, EXCLUDE)]
+    for wrong in ((4, 0, 0), (65535, 0, 0), (0, 4, 0), (0, 65535, 0), (0, 0, 5), (0, 0, 65535), (0, 0, 256), (4, 4, 5)):
+        yield plain(8, 0), read_request(chart_image(nodes, [wrong]))
+        yield plain(8, 2), read_request(chart_image(nodes, fight + [wrong] + fight))
+        yield plain(8, 1), read_request(chart_image(nodes, [(0, 0, 0), wrong, wrong]))
+    yield plain(8, 5), read_request(chart_image([FREE], [(0, 0, 1)] * 5 + [(1, 0, 1)]))
+
+
+def conflict_causes(rng):
+    """Code 9: directly and through groups, at each end, with the lowest pair named."""
+    nested = [(NONE, 0), (0, 4), (0, 4), FREE]  # events 0 and 1 are nodes 1 and 2 of group 0; event 2 is node 3
+    yield plain(9, 2, 0), read_request(chart_image(nested, [(3, 0, INCLUDE), (3, 1, EXCLUDE)]))  # P8
+    yield plain(9, 2, 1), read_request(chart_image(nested, [(3, 2, INCLUDE), (3, 0, EXCLUDE)]))
+    yield plain(9, 0, 2), read_request(chart_image(nested, [(0, 3, INCLUDE), (1, 3, EXCLUDE)]))
+    yield plain(9, 1, 2), read_request(chart_image(nested, [(2, 3, EXCLUDE), (0, 3, INCLUDE)]))
+    yield plain(9, 0, 0), read_request(chart_image(nested, [(0, 0, INCLUDE), (0, 0, EXCLUDE)]))
+    yield plain(9, 0, 1), read_request(chart_image(nested, [(0, 2, INCLUDE), (1, 0, EXCLUDE)]))
+    yield plain(9, 1, 1), read_request(chart_image(nested, [(0, 0, EXCLUDE), (2, 2, INCLUDE)]))
+    yield plain(9, 0, 0), read_request(chart_image([FREE], [(0, 0, EXCLUDE), (0, 0, INCLUDE)]))
+    flat = [FREE] * 64
+    pairs = [(63, 63), (5, 9), (5, 8), (7, 0)]
+    relations = [(a, b, kind) for a, b in pairs for kind in (EXCLUDE, INCLUDE)]
+    yield plain(9, 5, 8), read_request(chart_image(flat, relations))
+    yield plain(9, 63, 63), read_request(chart_image(flat, relations[:2]))
+    deep = [(1, 4), (2, 0), (3, 0), (NONE, 0), FREE]  # node 0 in 1 in 2 in 3
+    yield plain(9, 0, 1), read_request(chart_image(deep, [(3, 4, INCLUDE), (1, 4, EXCLUDE)]))
+    yield plain(9, 1, 0), read_request(chart_image(deep, [(4, 3, INCLUDE), (4, 0, EXCLUDE)]))
+    for _ in range(8):
+        yield None, read_request(random_chart_image(rng, conflicts=1.0))
+
+
+def accepted_charts(rng):
+    yield GRANTED, read_request(model.PAPER_CHART)
+    for flags in range(8):
+        yield GRANTED, read_request(chart_image([(NONE, flags)], []))
+    nested = [(NONE, 0), (0, 4), (0, 4), FREE]
+    yield GRANTED, read_request(chart_image(nested, [(0, 3, CONDITION)]))  # P7
+    for kind in range(5):
+        for a, b in ((0, 0), (0, 1), (1, 0), (0, 3), (3, 0), (3, 3), (1, 2)):
+            yield GRANTED, read_request(chart_image(nested, [(a, b, kind)] * rng.randrange(1, 4)))
+    # node 1 stands below node 2 though it comes first, a group without relations, groups of one
+    yield GRANTED, read_request(chart_image([(2, 6), (2, 1), (3, 0), (NONE, 0), (5, 7), (NONE, 0)], [(3, 5, 2), (5, 3, 0)]))
+    for depth in (2, 3, 64, 127):
+        chain = [(n + 1, 0) for n in range(depth)] + [(NONE, 0)]
+        chain[0] = (chain[0][0], rng.randrange(8))
+        yield GRANTED, read_request(chart_image(chain, [(depth, 0, 1), (0, depth, 0), (depth // 2, depth // 2, 2)]))
+    for count in (63, 64):
+        yield GRANTED, read_request(chart_image([FREE] * count, [(0, count - 1, 3), (count - 1, 0, 4)]))
+    everyone = [(NONE, 0)] + [(0, rng.choice((4, 6))) for _ in range(64)]
+    yield GRANTED, read_request(chart_image(everyone, [(0, 0, kind) for kind in (0, 1, 2, 3)]))
+    yield GRANTED, read_request(chart_image(everyone, [(0, 0, kind) for kind in (0, 1, 2, 4)]))
+
+
+# ---- flat charts and markings
+
+def small_flat():
+    """Four events: 0 is a condition of 3, 1 a milestone of 3; 3 has 2 as response, includes 1 and excludes 0."""
+    chart = model.empty_chart(4)
+    chart.conditions[3] |= {0, 2}
+    chart.milestones[3] |= {1, 2}
+    chart.responses[3].add(2)
+    chart.includes[3].add(1)
+    chart.excludes[3].add(0)
+    return chart
+
+
+def copied(chart, count=None):
+    return FlatChart(chart.count if count is None else count, *[[set(entry) for entry in table] for table in chart[1:]])
+
+
+def unfit_flats(rng):
+    """Each way in which a flat chart is unfit."""
+    for count in (0, 65, 70, 256 + 4, 65536 + 4, HUGE):
+        yield copied(small_flat(), count)
+        yield model.empty_chart(count)
+    yield copied(small_flat(), 3)  # the count is too low for its sets
+    for table in range(1, 6):
+        count = rng.choice((1, 4, 31, 63))
+        for e, f in ((0, count), (count - 1, 63), (rng.randrange(count), rng.randrange(count, 64))):
+            outside = model.empty_chart(count)
+            outside[table][e].add(f)
+            yield outside
+        for e, f in ((count, 0), (63, count - 1)):
+            past = model.empty_chart(count)
+            past[table][e].add(f)
+            yield past
+    for e, f in ((0, 0), (0, 3), (3, 0), (2, 2)):
+        both = small_flat()
+        both.includes[e].add(f)
+        both.excludes[e].add(f)
+        yield both
+    both = random_flat(rng, 64, 0.3)
+    both.includes[63].add(63)
+    both.excludes[63].add(63)
+    yield both
+
+
+def unfit_causes(rng):
+    """Code 14 in each call that gives it; it comes before 10 to 13 and 15."""
+    start = Marking({0}, {1}, {0, 1, 2, 3})
+    makers = (lambda c, m: execute_request(c, m, rng.choice((0, 3, 4, 64, HUGE))), count_request, finished_request,
+              matching_request)
+    for chart in unfit_flats(rng):
+        marking = rng.choice((start, model.empty_marking(), Marking({63}, {62}, {61, 1})))
+        yield plain(14), rng.choice(makers)(chart, marking)
+        yield plain(14), derive_request(rng.choice((0, 31, 200000)), chart)
+    for part in range(3):
+        for count, bit in ((4, 4), (4, 63), (1, 1), (63, 63), (32, 40)):
+            chart = small_flat() if count == 4 else model.empty_chart(count)
+            marking = Marking(*[set(entry) for entry in (start if count == 4 else model.empty_marking())])
+            marking[part].add(bit)
+            yield plain(14), rng.choice(makers)(chart, marking)
+    for maker in makers:
+        yield plain(14), maker(small_flat(), Marking(set(), set(), {4}))
+        yield plain(14), maker(model.empty_chart(0), model.empty_marking())
+
+
+def step_causes(rng):
+    """Codes 10 to 13 in their order, and what does not hold an event back."""
+    chart, everyone = small_flat(), {0, 1, 2, 3}
+    for event in (4, 5, 63, 64, 70000, 65536, 65536 + 1, 1 << 31, HUGE):
+        yield plain(10), execute_request(chart, Marking(set(), set(), everyone), event)
+    full = model.empty_chart(64)
+    yield plain(10), execute_request(full, Marking(set(), set(), set(range(64))), 64)
+    yield GRANTED, execute_request(full, Marking(set(), set(), set(range(64))), 63)
+    yield plain(11), execute_request(chart, Marking(everyone, set(), {0, 1, 2}), 3)
+    yield plain(11), execute_request(chart, Marking(set(), everyone, {0, 1, 2}), 3)  # before 12 and 13
+    yield plain(12, 0), execute_request(chart, Marking(set(), set(), everyone), 3)
+    yield plain(12, 2), execute_request(chart, Marking({0}, {1, 2}, everyone), 3)  # before 13
+    yield plain(12, 2), execute_request(chart, Marking(set(), set(), {1, 2, 3}), 3)
+    yield plain(13, 1), execute_request(chart, Marking({0, 2}, {1, 2}, everyone), 3)
+    yield plain(13, 2), execute_request(chart, Marking({0, 2}, {0, 2, 3}, everyone), 3)
+    yield plain(13, 2), execute_request(chart, Marking({0, 2}, {1, 2}, {0, 2, 3}), 3)
+    yield GRANTED, execute_request(chart, Marking({0, 2}, {0, 3}, everyone), 3)
+    yield GRANTED, execute_request(chart, Marking(set(), {1}, {3}), 3)
+    own = model.empty_chart(1)
+    own.responses[0].add(0)
+    yield GRANTED, execute_request(own, Marking(set(), set(), {0}), 0)  # P4
+    yield GRANTED, execute_request(own, Marking({0}, {0}, {0}), 0)
+    for table, answer in ((0, plain(12, 0)), (2, plain(13, 0)), (3, GRANTED), (4, GRANTED)):
+        chart = model.empty_chart(1)
+        chart[1 + table][0].add(0)
+        yield answer, execute_request(chart, Marking(set(), {0}, {0}), 0)
+        yield GRANTED, execute_request(chart, Marking({0}, set(), {0}), 0)
+    free = model.empty_chart(2)
+    free.conditions[1].add(0)
+    yield GRANTED, execute_request(free, Marking(set(), set(), {1}), 1)  # P5
+    free = model.empty_chart(2)
+    free.milestones[1].add(0)
+    yield GRANTED, execute_request(free, Marking(set(), {0}, {1}), 1)  # P6
+    wide = model.empty_chart(64)
+    wide.conditions[63] |= {40, 62}
+    wide.milestones[63] |= {41, 63}
+    yield plain(12, 62), execute_request(wide, Marking({40}, {63}, set(range(64))), 63)
+    yield plain(13, 63), execute_request(wide, Marking({40, 62}, {63}, set(range(64))), 63)
+
+
+def marking_causes(rng):
+    """Counting, the finished test and the matching snapshot where they are granted."""
+    for count in (1, 2, 63, 64):
+        chart = model.empty_chart(count)
+        everyone = set(range(count))
+        for marking in (model.empty_marking(), Marking(set(), set(), everyone), Marking(everyone, everyone, everyone),
+                        Marking(everyone, everyone, set()), Marking(set(), {count - 1}, {count - 1})):
+            yield GRANTED, rng.choice((count_request, finished_request, matching_request))(chart, marking)
+    chart = small_flat()
+    for marking in (model.empty_marking(), Marking({0, 2}, set(), {3}), Marking({0, 2}, set(), {1, 3}),
+                    Marking(set(), {0}, {1}), Marking(set(), {0}, {0, 1}), Marking({0, 1, 2}, {2}, {0, 1, 2, 3})):
+        for maker in (count_request, finished_request, matching_request):
+            yield GRANTED, maker(chart, marking)
+
+
+def derive_causes(rng):
+    """Room of every kind around what is needed."""
+    own = model.empty_chart(1)
+    own.responses[0].add(0)
+    for chart in (model.empty_chart(1), own, small_flat(), model.read_chart(model.PAPER_CHART)[1], random_flat(rng, 9, 0.4)):
+        needed = len(book_image(model.derived_book(chart)))
+        for room in (0, 1, 31, 32, needed - 2, needed - 1):
+            yield plain(15, needed), derive_request(room, chart)
+        for room in (needed, needed + 1, needed + 1000):
+            yield GRANTED, derive_request(room, chart)
+
+
+# ---- books
+
+def sound_small():
+    """Three stages, eight marks, four rules, two conditions; it has no fault."""
+    return Book(3, 8, [on_completion(0, SET, 3), on_completion(1, CLEAR, 3), without_trigger(1, 0, SET, 4),
+                       Rule(BECOME_YES, 2, CLEAR, 0, 4, 1, 5)], [(0, 2), (2, 3)], [3, NOT, 3, 4, OR])
+
+
+def both_calls(rng, answer, image, rules):
+    """The check and a completion give codes 20 to 26 alike."""
+    snapshot = random_snapshot(rng, rng.choice((8, 256)))
+    if rng.random() < 0.5:
+        yield answer, check_request(rng.choice((0, rules, rules + 3)), image)
+    else:
+        order = [rng.randrange(rules + 2) for _ in range(rng.choice((0, rules, rules + 1)))]
+        yield answer, complete_request(rng.choice((0, 1, 64, HUGE)), snapshot, order, image)
+
+
+def book_header_causes(rng):
+    """Codes 20, 21 and 22."""
+    image = book_image(sound_small())
+    for length in (0, 1, 4, 8, 16, 30, 31):
+        yield from both_calls(rng, plain(20), image[:length], 4)
+    for field, numbers in ((0, (65, 256 + 1, 65536, HUGE, 9)), (1, (2, 0, 257, 65536 + 8, HUGE)), (2, (8385, 65536, HUGE)),
+                           (3, (257, 65536 + 2, HUGE)), (4, (41025, 65536, HUGE))):
+        for number in numbers:
+            yield from both_calls(rng, plain(21), with_number32(image, 4 * field, number), 4)
+            yield from both_calls(rng, plain(21), with_number32(image[:32], 4 * field, number), 4)
+    for field, right in ((5, 32), (6, 72), (7, 88)):
+        for number in (0, right - 1, right + 1, right + 65536, HUGE, right + (1 << 31)):
+            yield from both_calls(rng, plain(22), with_number32(image, 4 * field, number), 4)
+    for field, numbers in ((2, (0, 3, 5, 8384)), (3, (0, 1, 3, 256)), (4, (0, 4, 6, 41024))):
+        for number in numbers:
+            yield from both_calls(rng, plain(22), with_number32(image, 4 * field, number), 4)
+    for wrong in (image[:-1], image[:-2], image[:32], image + b'\0', image + b'\0\0'):
+        yield from both_calls(rng, plain(22), wrong, 4)
+
+
+def rule_causes(rng):
+    """Code 23 in each of its ways; a bad condition beside it waits."""
+    good = on_completion(0, SET, 3)
+    wrong = [good._replace(**change) for change in (
+        dict(trigger=4), dict(trigger=255), dict(sense=3), dict(sense=255), dict(effect=2), dict(effect=255), dict(zero=1),
+        dict(zero=255), dict(number=3), dict(number=8), dict(number=256), dict(number=65535), dict(target=8),
+        dict(target=256), dict(target=65535), dict(condition=1), dict(condition=256), dict(condition=65535),
+        dict(sense=1, condition=2), dict(sense=2, condition=256), dict(sense=1, condition=65535),
+        dict(trigger=0, number=1), dict(trigger=0, number=256), dict(trigger=0, number=65535),
+        dict(trigger=2, number=8), dict(trigger=3, number=8), dict(trigger=2, number=256), dict(trigger=3, number=65535))]
+    small = sound_small()
+    for bad in wrong:
+        place = rng.randrange(5)
+        rules = small.rules[:place] + [bad] + rng.choice(([], small.rules[place:], small.rules[place:] + [rng.choice(wrong)]))
+        conditions = rng.choice((small.conditions, [(0, 0), (9, 9)]))
+        yield from both_calls(rng, plain(23, place), book_image(small._replace(rules=rules, conditions=conditions)), len(rules))
+    # what just exists
+    for edge in (good._replace(number=2), good._replace(target=7), Rule(2, 0, 1, 0, 7, 0, 6), Rule(3, 0, 1, 0, 7, 0, 6),
+                 Rule(0, 1, 1, 0, 0, 1, 7)):
+        yield GRANTED, check_request(1, book_image(small._replace(rules=[edge])))
+    none = Book(0, 0, [], [], [])
+    for rule in (Rule(0, 0, 1, 0, 0, 0, 0), Rule(1, 0, 1, 0, 0, 0, 0), Rule(2, 0, 1, 0, 0, 0, 0), Rule(0, 1, 1, 0, 0, 0, 0)):
+        yield plain(23, 0), check_request(1, book_image(none._replace(rules=[rule])))
+        yield plain(23, 0), check_request(1, book_image(none._replace(rules=[rule], conditions=[(0, 1)], words=[0])))
+    yield plain(23, 0), check_request(1, book_image(Book(0, 1, [on_completion(0, SET, 0)], [], [])))
+    yield plain(23, 0), check_request(1, book_image(Book(0, 1, [without_trigger(1, 0, SET, 0)], [], [])))
+
+
+def condition_causes(rng):
+    """Code 24 in each of its ways. Conditions that no rule uses are judged; words in no condition are not."""
+    marks = 8
+    long = [3] + [4, AND] * 20
+
+    def case(answer, conditions, words):
+        rules = rng.choice(([], [without_trigger(1, 0, SET, 6)]))
+        return both_calls(rng, answer, book_image(Book(3, marks, rules, conditions, words)), len(rules))
+
+    width = len(long)
+    for span in ((0, 0), (width, 0), (HUGE, 0), (0, width + 1), (1, width), (width, 1), (width + 1, 1), (HUGE, 1), (HUGE, 2),
+                 (HUGE, HUGE), (1, HUGE), (2, HUGE), (HUGE - 5, 7), (1 << 31, 1 << 31), ((1 << 31) + 1, 1 << 31),
+                 (0, HUGE), (65536, 1), (0, 65536 + 1)):
+        yield from case(plain(24, 0), [span], long)
+        yield from case(plain(24, 1), [(0, 1), span, (0, 0)], long)
+    for words in ([marks], [256], [65532], [3, marks, AND], [marks, NOT], [32768], [3, 65532, OR],
+                  [AND], [OR], [NOT], [3, AND], [3, OR], [AND, 3], [NOT, 3], [3, 4, AND, OR], [3, NOT, AND], [OR, 3, 4],
+                  [3, 4], [3, 4, 5, AND], [3, NOT, 4], [3, 3, NOT]):
+        place = rng.randrange(3)
+        good = [(len(words), 1)]
+        yield from case(plain(24, place), good * place + [(0, len(words))] + good * rng.randrange(3), words + [0])
+    for joins in ([[AND]], [[OR]], [[AND], [OR]], [[OR], [NOT, AND], [AND, NOT, NOT]]):
+        for held, answer in ((16, GRANTED), (17, plain(24, 0)), (18, plain(24, 0)), (40, plain(24, 0))):
+            words = [rng.randrange(marks) for _ in range(held)]
+            for _ in range(held - 1):
+                words += rng.choice(joins)
+            yield from_check(answer, words, marks)
+    sixteen = [0] * 16
+    yield from_check(GRANTED, sixteen + [AND, 0] * 9 + [AND] * 15, marks)  # sixteen again and again
+    yield from_check(plain(24, 0), sixteen + [NOT, 0, AND] + [AND] * 15, marks)
+    # words that lie in no condition
+    yield GRANTED, check_request(0, book_image(Book(0, 1, [], [(1, 1)], [AND, 0, 60000, 65532])))
+    yield GRANTED, check_request(0, book_image(Book(0, 0, [], [], [AND, 0, 60000, 65532])))
+    yield plain(24, 0), check_request(0, book_image(Book(0, 0, [], [(0, 1)], [0])))
+    # overlapping, nested, equal
+    yield GRANTED, check_request(0, book_image(Book(0, 5, [], [(0, 5), (0, 1), (1, 1), (1, 2), (0, 4), (0, 5)], [3, 4, NOT, OR, NOT])))
+    yield plain(24, 3), check_request(0, book_image(Book(0, 5, [], [(0, 4), (0, 1), (1, 2), (2, 2)], [3, 4, NOT, OR])))
+
+
+def from_check(answer, words, marks):
+    return answer, check_request(0, book_image(Book(0, marks, [], [(0, len(words))], words)))
+
+
+def loop_causes(rng):
+    """Code 25: through conditions and become triggers, of any length, with the lowest mark named."""
+    def case(answer, stages, marks, rules, conditions=(), words=()):
+        return both_calls(rng, answer, book_image(Book(stages, marks, rules, list(conditions), list(words))), len(rules))
+
+    yield from case(plain(25, 0), 1, 1, [without_trigger(2, 0, SET, 0)], [(0, 1)], [0])  # P9
+    for trigger in (BECOME_YES, BECOME_NO):
+        for effect in (CLEAR, SET):
+            yield from case(plain(25, 2), 1, 3, [Rule(trigger, 0, effect, 0, 2, 0, 2)])
+            yield from case(plain(25, 1), 1, 3, [Rule(trigger, 0, effect, 0, 2, 0, 1), Rule(trigger, 0, effect, 0, 1, 0, 2)])
+            chain = [Rule(trigger, 0, effect, 0, 2, 0, 1), Rule(trigger, 0, effect, 0, 1, 0, 0)]
+            yield GRANTED, check_request(2, book_image(Book(0, 3, chain, [], [])))
+    # a completion refers to nothing: no loop, though stage 0 is targeted
+    yield GRANTED, check_request(2, book_image(Book(1, 2, [on_completion(0, SET, 1), Rule(0, 1, SET, 0, 0, 0, 0)], [(0, 1)], [1])))
+    yield GRANTED, check_request(1, book_image(Book(1, 1, [on_completion(0, CLEAR, 0)], [], [])))
+    # rules on completions of different stages still make a loop of the whole book
+    yield from case(plain(25, 2), 2, 4, [Rule(COMPLETED, 1, SET, 0, 0, 0, 3), Rule(COMPLETED, 1, SET, 0, 1, 1, 2)],
+                    [(0, 1), (1, 1)], [2, 3])
+    # rules that hang off the loop 4, 5: before it (0 to 4) and behind it (5 to 1)
+    hanging = [Rule(2, 0, 1, 0, 0, 0, 4), Rule(2, 0, 1, 0, 5, 0, 1), Rule(2, 0, 1, 0, 4, 0, 5), Rule(3, 0, 1, 0, 5, 0, 4),
+               Rule(3, 0, 1, 0, 1, 0, 2)]
+    for _ in range(4):
+        rng.shuffle(hanging)
+        yield from case(plain(25, 4), 1, 8, hanging)
+    yield from case(plain(25, 3), 1, 8, hanging + [Rule(2, 0, 1, 0, 7, 0, 3), Rule(2, 0, 1, 0, 3, 0, 7)])  # two loops
+    # a loop through the last word of a text, also where the mark does not matter to its value
+    yield from case(plain(25, 1), 1, 4, [without_trigger(1, 0, SET, 1)], [(0, 9)], [2, 2, NOT, OR, 3, OR, 1, OR, NOT][:9])
+    # the condition is there but no rule uses it; a rule with the same text through another record does
+    yield GRANTED, check_request(1, book_image(Book(1, 2, [Rule(0, 0, 1, 0, 0, 0, 1)], [(0, 1)], [1])))
+    yield from case(plain(25, 1), 1, 2, [without_trigger(1, 1, SET, 1)], [(0, 1), (1, 1)], [0, 1])
+    yield from case(plain(25, 1), 1, 2, [without_trigger(2, 1, CLEAR, 1)], [(0, 1), (0, 3)], [0, 1, AND])
+    # code 25 comes before 26
+    fighting = [on_completion(0, SET, 0), on_completion(0, CLEAR, 0)]
+    yield from case(plain(25, 1), 1, 2, fighting + [Rule(2, 0, 1, 0, 1, 0, 1)])
+    for length in (2, 3, 10, 64, 65, 128, 255, 256):
+        ring = list(range(256 - length, 256))
+        rng.shuffle(ring)
+        rules = [Rule(rng.choice((2, 3)), 0, rng.randrange(2), 0, ring[i - 1], 0, m) for i, m in enumerate(ring)]
+        rng.shuffle(rules)
+        yield from case(plain(25, 256 - length), 0, 256, rules)
+        opened = [rule for rule in rules if rule.target != 255]
+        yield None, check_request(length, book_image(Book(0, 256, opened, [], [])))
+
+
+def clash_causes(rng):
+    """Code 26: all pairs of triggers and senses, and the lowest pair."""
+    def case(answer, rules, conditions=((0, 1), (1, 1), (0, 1)), words=(5, 6)):
+        return both_calls(rng, answer, book_image(Book(4, 8, list(rules), list(conditions), list(words))), len(rules))
+
+    triggers = ((0, 0), (1, 0), (1, 1), (2, 5), (2, 6), (3, 5), (3, 6))
+    senses = ((0, 0), (1, 0), (2, 0), (1, 1), (2, 1), (1, 2), (2, 2))
+    firsts = [(trigger, sense) for trigger in triggers for sense in senses]
+    for (kind, number), (sense, condition) in firsts:
+        one = Rule(kind, sense, SET, 0, number, condition, 4)
+        for (kind, number), (sense, condition) in rng.sample(firsts, 4) + [((one.trigger, one.number), (3 - one.sense, one.condition))]:
+            if sense > 2 or (sense == 0 and condition):
+                continue
+            two = Rule(kind, sense, CLEAR, 0, number, condition, 4)
+            apart = (one.trigger == two.trigger == 1 and one.number != two.number) \
+                or (one.condition == two.condition and {one.sense, two.sense} == {1, 2})
+            pair = [one, two] if rng.random() < 0.5 else [two, one]
+            if apart:
+                yield GRANTED, check_request(2, book_image(Book(4, 8, pair, [(0, 1), (1, 1), (0, 1)], [5, 6])))
+            else:
+                yield from case(plain(26, 0, 1), pair)
+    yield GRANTED, check_request(2, book_image(Book(2, 2, [on_completion(0, SET, 1), on_completion(1, CLEAR, 1)], [], [])))  # P10
+    yield plain(26, 0, 1), check_request(2, book_image(Book(2, 2, [on_completion(0, SET, 1), on_completion(0, CLEAR, 1)], [], [])))
+    # the same effect never clashes, nor do different targets
+    yield GRANTED, check_request(3, book_image(Book(1, 3, [on_completion(0, SET, 1)] * 2 + [on_completion(0, CLEAR, 2)], [], [])))
+    # the lowest first rule, then the lowest second
+    quiet = [on_completion(1, SET, 7)]
+    fight = [on_completion(0, SET, 4), on_completion(0, CLEAR, 4)]
+    other = [on_completion(2, CLEAR, 3), without_trigger(0, 0, SET, 3)]
+    yield from case(plain(26, 1, 3), quiet + [fight[0], other[0], fight[1], other[1]])
+    yield from case(plain(26, 1, 4), quiet + [other[0], fight[0], fight[1], other[1]])
+    yield from case(plain(26, 0, 2), [fight[0], fight[0], fight[1], fight[1]])
+    yield from case(plain(26, 2, 3), quiet * 2 + [fight[1], fight[0], fight[0]])
+    # in a row of completions of different stages the one that repeats a stage clashes
+    row = [on_completion(0, SET, 4), on_completion(1, CLEAR, 4), on_completion(2, SET, 4), on_completion(3, CLEAR, 4)]
+    yield GRANTED, check_request(4, book_image(Book(4, 8, row, [], [])))
+    yield from case(plain(26, 2, 4), row + [on_completion(2, CLEAR, 4)])
+    yield from case(plain(26, 1, 4), row + [on_completion(1, SET, 4)])
+    yield from case(plain(26, 1, 4), row + [without_trigger(0, 0, SET, 4)])
+
+
+def order_causes(rng):
+    """Codes 27 to 31 in their order, on a sound book."""
+    book = sound_small()
+    image, order = book_image(book), [0, 1, 2, 3]
+    opened = [True] * 8 + [False] * 248
+    for wrong in ([], [0], [0, 1, 2], [0, 1, 2, 3, 3], [0, 1, 2, 3, 4], [0, 1, 2, 2], [0, 0, 2, 3], [0, 1, 2, 4], [0, 1, 2, 65535],
+                  [0, 1, 3, 2], [2, 0, 1, 3], [0, 2, 1, 3], [3, 2, 1, 0], [1, 2, 0, 3], [0, 1, 2, 256], [256, 1, 2, 3]):
+        yield plain(27), complete_request(rng.choice((0, 3, HUGE)), rng.choice((opened, [True] * 256)), wrong, image)
+    for right in (order, [1, 0, 2, 3]):
+        for stage in range(3):
+            yield GRANTED, complete_request(stage, opened, right, image)
+    for mark in (8, 9, 63, 64, 128, 254, 255):
+        snapshot = list(opened)
+        snapshot[mark] = True
+        yield plain(28), complete_request(rng.choice((0, 3, HUGE)), snapshot, order, image)
+    for stage in (3, 4, 63, 64, 255, 256, 65536, 65536 + 1, 1 << 31, HUGE):
+        yield plain(29), complete_request(stage, opened, order, image)
+        yield plain(29), complete_request(stage, [False] * 256, order, image)
+    for stage in range(3):
+        closed = [mark != stage and mark < 8 for mark in range(256)]
+        yield plain(30), complete_request(stage, closed, order, image)
+    empty = book_image(Book(1, 1, [], [], []))
+    yield GRANTED, complete_request(0, [True] + [False] * 255, [], empty)  # P11
+    yield plain(27), complete_request(0, [True] + [False] * 255, [0], empty)
+    pair = book_image(Book(2, 2, [on_completion(0, SET, 1), on_completion(1, CLEAR, 1)], [], []))
+    yield plain(27), complete_request(0, [True] + [False] * 255, [0, 0], pair)  # P12
+    for book in (Book(0, 0, [], [], []), Book(0, 256, [], [], []), Book(0, 3, [Rule(2, 0, 1, 0, 0, 0, 1)], [], [])):
+        order = list(range(len(book.rules)))
+        yield GRANTED, check_request(len(order), book_image(book))
+        yield plain(29), complete_request(0, [False] * 256, order, book_image(book))
+        if book.marks < 256:
+            yield plain(28), complete_request(0, [mark == book.marks for mark in range(256)], order, book_image(book))
+    for stages, marks in ((64, 64), (64, 256), (1, 256), (1, 1)):
+        image = book_image(Book(stages, marks, [], [], []))
+        everyone = [mark < marks for mark in range(256)]
+        yield GRANTED, complete_request(stages - 1, everyone, [], image)
+        yield plain(29), complete_request(stages, everyone, [], image)
+    sound = sound_book(rng, rules=12)
+    for room in (0, 1, 11):
+        yield plain(31, 12), check_request(room, book_image(sound))
+    for room in (12, 13, 100):
+        yield GRANTED, check_request(room, book_image(sound))
+    yield GRANTED, check_request(0, empty)
+    yield GRANTED, check_request(5, empty)
+    clash = [on_completion(0, SET, 1), on_completion(0, CLEAR, 1)]
+    yield plain(26, 0, 1), check_request(0, book_image(Book(2, 2, clash, [], [])))  # before 31
+
+
+def running_order_causes(rng):
+    """Books written against their order, where the scan has to go back."""
+    for length in (2, 3, 7, 20):
+        chain = [Rule(BECOME_YES, 0, SET, 0, m, 0, m + 1) for m in range(length)]
+        for rules in (chain, chain[::-1], rng.sample(chain, length), chain[::-1] * 2, rng.sample(chain * 3, 3 * length)):
+            book = Book(1, length + 1, rules, [], [])
+            yield GRANTED, check_request(len(rules), book_image(book))
+            snapshot = [mark == 0 for mark in range(256)]
+            yield GRANTED, complete_request(0, snapshot, model.running_order(book), book_image(book))
+    for _ in range(6):
+        book = sound_book(rng, stages=2, marks=14, rules=40)
+        yield GRANTED, check_request(40, book_image(book))
+        yield None, complete_request(0, [mark < 14 for mark in range(256)], random_order(rng, book), book_image(book))
+
+
+def firing_causes(rng):
+    """What fires: each trigger kind and sense on each value of its marks, also marks that change twice or not at all."""
+    for kind in (BECOME_YES, BECOME_NO):
+        for was in (False, True):
+            for effect in (CLEAR, SET):
+                # mark 1 is set or cleared on completion of 0; mark 2 tells whether it became yes or no
+                rules = [on_completion(0, effect, 1), Rule(kind, 0, SET, 0, 1, 0, 2), Rule(kind, 0, CLEAR, 0, 1, 0, 3)]
+                for rest in (False, True):
+                    snapshot = [True, was, rest, rest] + [False] * 252
+                    yield GRANTED, complete_request(0, snapshot, [0, 1, 2], book_image(Book(1, 4, rules, [], [])))
+    for sense in (1, 2):
+        for values in range(8):
+            a, b, c = [values >> i & 1 == 1 for i in range(3)]
+            for words in ([1, 2, AND], [1, 2, OR], [1, NOT], [1, 2, AND, 3, OR], [1, 2, 3, OR, AND], [1, NOT, 2, OR, 3, AND, NOT]):
+                book = Book(1, 6, [without_trigger(sense, 0, SET, 4), without_trigger(3 - sense, 0, CLEAR, 4)], [(0, len(words))], words)
+                snapshot = [True, a, b, c, rng.random() < 0.5, rng.random() < 0.5] + [False] * 250
+                yield GRANTED, complete_request(0, snapshot, [0, 1], book_image(book))
+    # another stage's completion does not fire; a completed stage does not close by itself
+    book = Book(2, 4, [on_completion(1, SET, 2), on_completion(0, SET, 3)], [], [])
+    for stage in (0, 1):
+        yield GRANTED, complete_request(stage, [True, True] + [False] * 254, [0, 1], book_image(book))
+    # a closing rule for the completed stage itself, and a rule that reads a mark settled before it
+    book = Book(1, 3, [on_completion(0, CLEAR, 0), Rule(BECOME_NO, 0, SET, 0, 0, 0, 1), without_trigger(2, 0, SET, 2)], [(0, 1)], [1])
+    yield GRANTED, complete_request(0, [True] + [False] * 255, [0, 1, 2], book_image(book))
+
+
+def bad_requests(rng):
+    """Unknown operations and bodies too short for their fields; the program goes on."""
+    chart, start = model.empty_chart(1), model.empty_marking()
+    yield None, b'\x00'
+    yield None, b'\xff' + rng.randbytes(20)
+    whole = (execute_request(chart, start, 0), count_request(chart, start), finished_request(chart, start),
+             matching_request(chart, start), derive_request(100, chart))
+    for body in whole:
+        yield None, body[:-1]
+        yield None, body[:1]
+        yield None, body[:rng.randrange(2, len(body))]
+    yield None, check_request(0, b'')[:-1]
+    yield None, b'\x07'
+    yield None, b'\x08'
+    body = complete_request(0, [False] * 256, [1, 2, 3], b'')
+    yield None, body[:-1]
+    yield None, body[:40]
+
+
+# ---- the largest sizes
+
+def largest_chart(rng):
+    """128 nodes, 64 of them groups in chains, and 4,096 relations."""
+    parents = [NONE if n % 8 == 0 else n - 1 for n in range(64)] + [rng.randrange(64) for _ in range(64)]
+    for n in range(7, 64, 8):  # the deepest group of each chain has a member
+        parents[64 + n // 8] = n
+    groups = set(parents)
+    nodes = [(parent, 0 if n in groups else rng.choice((4, 6, 5))) for n, parent in enumerate(parents)]
+    return nodes, random_relations(rng, nodes, 4096)
+
+
+def largest_charts(rng):
+    nodes, relations = largest_chart(rng)
+    image = chart_image(nodes, relations)
+    yield GRANTED, read_request(image)
+    yield plain(3), read_request(image + b'\0')
+    yield plain(8, 4095), read_request(with_number16(image, len(image) - 2, 5))
+    yield plain(4, 127), read_request(with_number16(image, 8 + 4 * 127 + 2, 8))
+    nodes = random_nodes(rng, 128, 0.6)
+    yield None, read_request(chart_image(nodes, random_relations(rng, nodes, 600)))
+
+
+def largest_derivings(rng):
+    """64 events with every relation; include or exclude at random."""
+    chart = random_flat(rng, 64, 1.0)
+    for room in (0, 49152, 166431):
+        yield plain(15, 166432), derive_request(room, chart)
+    for room in (166432, 166433, 200000):
+        yield GRANTED, derive_request(room, chart)
+
+
+def largest_derived_book(rng):
+    chart = random_flat(rng, 64, 1.0)
+    book = model.derived_book(chart)
+    image = book_image(book)
+    yield GRANTED, check_request(8384, image)
+    yield plain(31, 8384), check_request(8383, image)
+    everyone = set(range(64))
+    snapshot = model.matching(chart, Marking(everyone, set(), everyone))[1]
+    yield GRANTED, complete_request(rng.randrange(64), snapshot, model.running_order(book), image)
+    yield plain(27), complete_request(0, snapshot, list(range(8383, -1, -1)), image)
+
+
+def largest_hand_made(rng):
+    """64 stages, 256 marks, 8,384 rules, 256 conditions, 41,024 words."""
+    book = sound_book(rng, 64, 256, 8384, 256, longest=16)
+    book = book._replace(words=(book.words + [AND] * 41024)[:41024])
+    yield GRANTED, check_request(8384, book_image(book))
+    snapshot = [True] * 64 + random_snapshot(rng, 256)[64:]
+    yield GRANTED, complete_request(63, snapshot, model.running_order(book), book_image(book))
+
+
+def wide_conditions(rng):
+    """One condition of 41,024 words; 256 conditions that overlap; many rules on one target."""
+    words = [0] + [1, AND, 2, OR] * 10255 + [1, AND, NOT]
+    yield GRANTED, check_request(0, book_image(Book(0, 3, [], [(0, len(words))], words)))
+    yield plain(24, 0), check_request(0, book_image(Book(0, 3, [], [(0, len(words))], words[:-1] + [AND])))
+    words = [0] + [rng.choice((1, 2)), AND] * 255
+    spans = [(0, 2 * i + 1) for i in range(256)]
+    rng.shuffle(spans)
+    yield GRANTED, check_request(0, book_image(Book(0, 3, [], spans, words)))
+    setting = [on_completion(rng.randrange(64), SET, 255) for _ in range(700)]
+    yield GRANTED, check_request(700, book_image(Book(64, 256, setting, [], [])))
+    yield plain(26, 0, 700), check_request(701, book_image(Book(64, 256, setting + [without_trigger(0, 0, CLEAR, 255)], [], [])))
+    yield plain(26, 699, 700), check_request(701, book_image(
+        Book(64, 256, [rule._replace(number=rule.number % 63) for rule in setting[:-1]]
+             + [on_completion(63, SET, 255), on_completion(63, CLEAR, 255)], [], [])))
+
+
+CAUSES = (header_causes, node_causes, group_causes, conflict_causes, accepted_charts, unfit_causes, step_causes,
+          marking_causes, derive_causes, book_header_causes, rule_causes, condition_causes, loop_causes, clash_causes,
+          order_causes, running_order_causes, firing_causes, bad_requests)
+LARGEST = (largest_charts, largest_derivings, largest_derived_book, largest_hand_made, wide_conditions)

@@ -1,0 +1,329 @@
+# Random charts, markings, books, orders and snapshots, and the families of random requests made from them.
+
+import ozhimka as model
+from ozhimka import AND, NONE, NOT, OR, Book, FlatChart, Marking, Rule
+from protocol import (check_request, complete_request, count_request, derive_request, execute_request,
+                      finished_request, matching_request, read_request)
+
+
+def some(rng, population, chance):
+    return {e for e in population if rng.random() < chance}
+
+
+# ---- charts
+
+def forest(rng, count, nesting):
+    """Parents without a loop: each node's parent stands before it in a shuffled row."""
+    row = list(range(count))
+    rng.shuffle(row)
+    parents = [NONE] * count
+    for place, n in enumerate(row):
+        if place and rng.random() < nesting:
+            parents[n] = row[rng.randrange(max(0, place - 8), place)]
+    return parents
+
+
+def root(parents, n):
+    while parents[n] != NONE:
+        n = parents[n]
+    return n
+
+
+def random_nodes(rng, count, nesting=0.5):
+    parents = forest(rng, count, nesting)
+    groups = set(parents)
+    return [(parent, 0 if n in groups else rng.choice((4, 4, 4, 4, 4, 6, 6, 5, 7, 0, 1, 2, 3)))
+            for n, parent in enumerate(parents)]
+
+
+def random_relations(rng, nodes, count, kinds=(0, 1, 2, 3, 4), conflicts=0.0):
+    """Include or exclude goes by the roots of both ends, so that no pair gets both, unless conflicts are wanted."""
+    parents = [parent for parent, flags in nodes]
+    excluding = {(a, b) for a in range(len(nodes)) for b in range(len(nodes)) if rng.random() < 0.5}
+    relations = []
+    for _ in range(count):
+        a, b, kind = rng.randrange(len(nodes)), rng.randrange(len(nodes)), rng.choice(kinds)
+        if kind in (3, 4) and rng.random() >= conflicts:
+            kind = 4 if (root(parents, a), root(parents, b)) in excluding else 3
+        relations.append((a, b, kind))
+    return relations
+
+
+def random_chart_image(rng, conflicts=0.0):
+    count = rng.choice((1, 2, 3, 4, 5, 6, 8, 10, 12, 16))
+    nodes = random_nodes(rng, count, rng.choice((0, 0.3, 0.6, 0.9)))
+    return model.chart_image(nodes, random_relations(rng, nodes, rng.randrange(0, 3 * count + 1), conflicts=conflicts))
+
+
+def random_flat(rng, count=None, chance=None):
+    count = count or rng.choice((1, 2, 3, 4, 5, 8, 13, 32, 63, 64))
+    chance = rng.choice((0.02, 0.1, 0.3, 0.7)) if chance is None else chance
+    chart = model.empty_chart(count)
+    for e in range(count):
+        for table in chart[1:]:
+            table[e] |= some(rng, range(count), chance)
+        for f in chart.includes[e] & chart.excludes[e]:
+            rng.choice((chart.includes, chart.excludes))[e].discard(f)
+    return chart
+
+
+def random_marking(rng, count):
+    return Marking(some(rng, range(count), rng.choice((0.1, 0.5, 0.9))), some(rng, range(count), rng.choice((0.05, 0.3))),
+                   some(rng, range(count), rng.choice((0.3, 0.8, 1.0))))
+
+
+# ---- books
+
+def expression(rng, marks, size):
+    """Postfix words of a random expression with `size` marks, and the spans (start, count) of all its parts."""
+    if size == 1:
+        words, spans = [rng.choice(marks)], [(0, 1)]
+    else:
+        first = rng.randrange(1, size)
+        left, spans = expression(rng, marks, first)
+        right, more = expression(rng, marks, size - first)
+        spans = spans + [(len(left) + start, count) for start, count in more]
+        words = left + right + [rng.choice((AND, OR))]
+        spans.append((0, len(words)))
+    if rng.random() < 0.3:
+        words = words + [NOT]
+        spans = spans + [(0, len(words))]
+    return words, spans
+
+
+def random_texts(rng, marks, conditions, longest=6):
+    """Words and conditions into them: parts of expressions, often overlapping, with words in no condition between."""
+    words, spans = [], []
+    while len(spans) < conditions:
+        if rng.random() < 0.3:
+            words += [rng.choice((AND, OR, NOT, 0, 256, 60000)) for _ in range(rng.randrange(1, 4))]
+        part, found = expression(rng, marks, rng.randrange(1, longest + 1))
+        rng.shuffle(found)
+        spans += [(len(words) + start, count) for start, count in found[:rng.choice((1, 1, 2, 4))]]
+        words += part
+    rng.shuffle(spans)
+    return spans[:conditions], words
+
+
+def wild_book(rng):
+    """Any rules: loops and clashes are common."""
+    stages = rng.choice((0, 1, 2, 3, 5))
+    marks = stages + rng.choice((1, 2, 3, 5, 8, 20))
+    used = rng.sample(range(marks), rng.randrange(1, marks + 1))
+    conditions, words = random_texts(rng, used, rng.choice((0, 1, 2, 4)), 3)
+    rules = []
+    for _ in range(rng.choice((0, 1, 2, 3, 4, 6, 10))):
+        trigger = rng.choice((0, 1, 1, 1, 2, 3)) if stages else rng.choice((0, 2, 3))
+        number = 0 if trigger == 0 else rng.randrange(stages if trigger == 1 else marks)
+        sense = rng.choice((0, 0, 1, 2)) if conditions else 0
+        rules.append(Rule(trigger, sense, rng.randrange(2), 0, number,
+                          rng.randrange(len(conditions)) if sense else 0, rng.randrange(marks)))
+    return Book(stages, marks, rules, conditions, words)
+
+
+def sound_book(rng, stages=None, marks=None, rules=None, conditions=None, longest=6):
+    """A book without loop and clash: targets rank above what a rule refers to, and each target has one way to be apart."""
+    stages = rng.choice((1, 2, 3, 5, 8)) if stages is None else stages
+    marks = stages + rng.choice((1, 2, 4, 8, 20)) if marks is None else marks
+    count = rng.choice((0, 1, 2, 3, 5, 8, 12, 20, 30)) if rules is None else rules
+    rank = list(range(marks))
+    rng.shuffle(rank)
+    low = [m for m in range(marks) if rank[m] < max(1, marks * 2 // 3)]
+    spans, words = random_texts(rng, low, rng.choice((1, 2, 4, 8)) if conditions is None else conditions, longest)
+    refers = [{word for word in words[start:start + length] if word < marks} for start, length in spans]
+    way = [(rng.choice(('set', 'clear', 'stages', 'record')), rng.randrange(len(spans)),
+            [rng.randrange(2) for _ in range(stages)]) for _ in range(marks)]
+    made = []
+    while len(made) < count:
+        rule = sound_rule(rng, stages, marks, rank, refers, way)
+        if rule:
+            made.append(rule)
+    return Book(stages, marks, made, spans, words)
+
+
+def sound_rule(rng, stages, marks, rank, refers, way):
+    """A rule on a random target, or None where the target ranks too low for what the rule would refer to."""
+    target = rng.randrange(marks)
+    kind, record, effects = way[target]
+    trigger = 1 if kind == 'stages' else rng.choice((0, 1, 2, 3))
+    if trigger == 1 and stages == 0:
+        return None
+    number = 0 if trigger == 0 else rng.randrange(stages if trigger == 1 else marks)
+    sense = rng.choice((1, 2)) if kind == 'record' else rng.choice((0, 1, 2))
+    condition = 0 if sense == 0 else record if kind == 'record' else rng.randrange(len(refers))
+    marks_used = (refers[condition] if sense else set()) | ({number} if trigger in (2, 3) else set())
+    if any(rank[m] >= rank[target] for m in marks_used):
+        return None
+    effect = {'set': 1, 'clear': 0, 'record': sense % 2}.get(kind)
+    return Rule(trigger, sense, effects[number] if effect is None else effect, 0, number, condition, target)
+
+
+def random_order(rng, book):
+    """Some fit order: any rule that is ready comes next."""
+    refers = model.references(book)
+    order, unwritten = [], list(range(len(book.rules)))
+    while unwritten:
+        targets = {book.rules[p].target for p in unwritten}
+        rule = rng.choice([q for q in unwritten if not refers[q] & targets])
+        order.append(rule)
+        unwritten.remove(rule)
+    return order
+
+
+def disturbed(rng, order, count):
+    """An order changed in one way; now and then it is still fit."""
+    order = list(order)
+    way = rng.choice(('swap', 'swap', 'move', 'move', 'repeat', 'outside', 'shorter', 'longer', 'shuffle'))
+    if way == 'shorter' and order:
+        order.pop(rng.randrange(len(order)))
+    elif way == 'longer' or not order:
+        order.insert(rng.randrange(len(order) + 1), rng.randrange(count + 1))
+    elif way == 'outside':
+        order[rng.randrange(len(order))] = rng.choice((count, count + 1, 65535))
+    elif way == 'repeat':
+        order[rng.randrange(len(order))] = rng.choice(order)
+    elif way == 'move':
+        order.insert(rng.randrange(len(order)), order.pop(rng.randrange(len(order))))
+    elif way == 'swap':
+        i, j = rng.randrange(len(order)), rng.randrange(len(order))
+        order[i], order[j] = order[j], order[i]
+    else:
+        rng.shuffle(order)
+    return order
+
+
+def random_snapshot(rng, marks):
+    chance = rng.choice((0.2, 0.5, 0.8))
+    return [mark < marks and rng.random() < chance for mark in range(256)]
+
+
+# ---- families of requests: each yields bodies
+
+def charts(rng):
+    yield read_request(random_chart_image(rng, conflicts=rng.choice((0, 0, 0.5))))
+
+
+def steps(rng):
+    """One marking of one flat chart, through every call that takes both."""
+    chart = random_flat(rng)
+    marking = random_marking(rng, chart.count)
+    yield execute_request(chart, marking, rng.randrange(chart.count))
+    makers = (count_request, finished_request, matching_request)
+    yield rng.choice(makers)(chart, marking)
+
+
+def derivings(rng):
+    chart = random_flat(rng)
+    needed = len(model.book_image(model.derived_book(chart)))
+    yield derive_request(rng.choice((needed, needed, needed - 1, needed + 1, needed + 100, needed // 2, 0)), chart)
+
+
+def wild_checks(rng):
+    book = wild_book(rng)
+    yield check_request(max(0, len(book.rules) + rng.choice((0, 0, 1, 5, -1))), model.book_image(book))
+
+
+def wild_completions(rng):
+    book = wild_book(rng)
+    order = list(range(len(book.rules)))
+    rng.shuffle(order)
+    snapshot = random_snapshot(rng, rng.choice((book.marks, book.marks, book.marks, 256)))
+    yield complete_request(rng.randrange(book.stages + 1), snapshot, order, model.book_image(book))
+
+
+def sound_books(rng):
+    """A sound hand-made book: its check, and completions in the running order, in other fit orders, and in unfit ones."""
+    book = sound_book(rng)
+    image = model.book_image(book)
+    yield check_request(len(book.rules) + rng.choice((0, 0, 3)), image)
+    for _ in range(3):
+        snapshot = random_snapshot(rng, book.marks)
+        opened = [s for s in range(book.stages) if snapshot[s]] or [0]
+        stage = rng.choice(opened)
+        yield complete_request(stage, snapshot, model.running_order(book), image)
+        order = random_order(rng, book)
+        yield complete_request(stage, snapshot, order, image)
+        yield complete_request(stage, snapshot, disturbed(rng, order, len(book.rules)), image)
+
+
+def sound_runs(rng):
+    """Completions of a sound hand-made book one after another, each from the snapshot before it."""
+    book = sound_book(rng)
+    image, order = model.book_image(book), model.running_order(book)
+    snapshot = random_snapshot(rng, book.marks)
+    for _ in range(rng.randrange(3, 12)):
+        opened = [s for s in range(book.stages) if snapshot[s]]
+        stage = rng.choice(opened) if opened and rng.random() < 0.9 else rng.randrange(book.stages)
+        yield complete_request(stage, snapshot, order, image)
+        snapshot = model.complete(image, order, snapshot, stage)[1]
+
+
+def side_by_side(rng, longest=25):
+    """A chart and its derived book through one sequence of steps; the model's two sides must agree at each."""
+    answer = None
+    while answer != model.GRANTED:
+        image = random_chart_image(rng)
+        answer, chart, marking = model.read_chart(image)
+    yield read_request(image)
+    book = model.book_image(model.derived_book(chart))
+    rules = model.number32(book, 8)
+    yield derive_request(len(book), chart)
+    yield check_request(rules, book)
+    order = model.check_book(book, [0] * rules)[1]
+    snapshot = model.matching(chart, marking)[1]
+    for _ in range(rng.randrange(1, longest)):
+        opened = model.open_events(chart, marking)
+        event = rng.choice(opened) if opened and rng.random() < 0.8 else rng.randrange(chart.count)
+        yield execute_request(chart, marking, event)
+        yield complete_request(event, snapshot, order, book)
+        stepped, marking = model.execute(chart, marking, event)
+        completed, snapshot = model.complete(book, order, snapshot, event)
+        assert (stepped[0] in (11, 12, 13) and completed[0] == 30) or stepped == completed == model.GRANTED
+        assert snapshot == model.matching(chart, marking)[1]
+        if rng.random() < 0.2:
+            yield rng.choice((count_request, finished_request, matching_request))(chart, marking)
+
+
+def with_bytes_changed(rng, image):
+    image = bytearray(image)
+    way = rng.choice(('bytes', 'bytes', 'bytes', 'bit', 'cut', 'longer', 'header'))
+    if way == 'cut':
+        return bytes(image[:rng.randrange(len(image) + 1)])
+    if way == 'longer':
+        return bytes(image) + rng.randbytes(rng.randrange(1, 5))
+    for _ in range(rng.choice((1, 1, 2, 4))):
+        at = rng.randrange(min(len(image), 32) if way == 'header' else len(image))
+        if way == 'bit':
+            image[at] ^= 1 << rng.randrange(8)
+        else:
+            image[at] = rng.choice((0, 1, 2, 3, 4, 7, 8, 255, 253, rng.randrange(256)))
+    return bytes(image)
+
+
+def damaged_charts(rng):
+    yield read_request(with_bytes_changed(rng, random_chart_image(rng)))
+
+
+def damaged_books(rng):
+    book = rng.choice((wild_book, sound_book))(rng)
+    image = with_bytes_changed(rng, model.book_image(book))
+    if rng.random() < 0.5:
+        yield check_request(len(book.rules), image)
+    else:
+        snapshot = random_snapshot(rng, book.marks)
+        order = list(range(len(book.rules)))
+        yield complete_request(rng.randrange(book.stages + 1), snapshot, order, image)
+
+
+def damaged_flats(rng):
+    """A flat chart and a marking with a few bits turned."""
+    chart = random_flat(rng)
+    body = bytearray(execute_request(chart, random_marking(rng, chart.count), rng.randrange(chart.count + 2)))
+    for _ in range(rng.choice((1, 1, 2))):
+        body[rng.randrange(5, len(body) - 4)] ^= 1 << rng.randrange(8)
+    body[0] = rng.choice((2, 3, 4, 5))
+    yield bytes(body) if body[0] == 2 else bytes(body[:-4])
+
+
+SMALL = (charts, wild_checks, wild_completions, sound_books, sound_runs, damaged_charts, damaged_books)
+WIDE = (steps, derivings, side_by_side, damaged_flats)  # their requests carry a flat chart of 2,564 bytes

@@ -1,0 +1,648 @@
+#!/usr/bin/env python3
+# The paper's calls in plain Python, written from docs/01-scope.md alone and slow on purpose: hold it beside the paper.
+#
+# Every call hands back its answer (code, place, other) first and its value after it. Sets are Python sets of numbers.
+# `model/ozhimka.py` alone runs the paper's settled examples; `model/ozhimka.py CHART` lists a chart's book.
+
+import functools
+import heapq
+import sys
+from collections import namedtuple
+
+GRANTED = (0, 0, 0)
+
+
+class Refused(Exception):
+    """A refusal; place and other are 0 where the paper names none."""
+
+    def __init__(self, code, place=0, other=0):
+        self.answer = (code, place, other)
+
+
+def refuse_if(code, bad):
+    if bad:
+        raise Refused(code)
+
+
+def refuse_lowest(code, places):
+    """Refuses if there is any place, and names the lowest (place, or place and other)."""
+    places = [place if isinstance(place, tuple) else (place,) for place in places]
+    if places:
+        raise Refused(code, *min(places))
+
+
+def number16(image, at):
+    return image[at] + 256 * image[at + 1]
+
+
+def number32(image, at):
+    return number16(image, at) + 65536 * number16(image, at + 2)
+
+
+# ---- Chart image
+
+NONE = 65535
+EXECUTED, PENDING, INCLUDED = 1, 2, 4
+CONDITION, RESPONSE, MILESTONE, INCLUDE, EXCLUDE = range(5)
+
+Node = namedtuple('Node', 'parent flags')
+Relation = namedtuple('Relation', 'origin to kind')
+# five tables of 64 sets: who holds e back (conditions, milestones), and what e does (responses, includes, excludes)
+FlatChart = namedtuple('FlatChart', 'count conditions responses milestones includes excludes')
+Marking = namedtuple('Marking', 'executed pending included')
+
+
+def empty_chart(count=0):
+    return FlatChart(count, *[[set() for e in range(64)] for table in range(5)])
+
+
+def empty_marking():
+    return Marking(set(), set(), set())
+
+
+def chain_above(nodes, n):
+    """The groups above node n, from the nearest on; it stops where it meets a node again."""
+    chain = []
+    n = nodes[n].parent
+    while n != NONE and n not in chain:
+        chain.append(n)
+        n = nodes[n].parent
+    return chain
+
+
+def chart_records(image):
+    """The header, nodes and relations: refusals 1 to 8."""
+    refuse_if(1, len(image) < 8)
+    node_count, relation_count, nodes_at, relations_at = [number16(image, at) for at in (0, 2, 4, 6)]
+    refuse_if(2, not (1 <= node_count <= 128) or not (0 <= relation_count <= 4096))
+    refuse_if(3, nodes_at != 8 or relations_at != 8 + 4 * node_count)
+    refuse_if(3, len(image) != 8 + 4 * node_count + 6 * relation_count)
+
+    nodes = [Node(number16(image, at), number16(image, at + 2)) for at in range(8, relations_at, 4)]
+    refuse_lowest(4, [n for n, node in enumerate(nodes)
+                      if (node.parent >= node_count and node.parent != NONE) or node.flags > 7])
+    refuse_lowest(5, [n for n in range(node_count) if n in chain_above(nodes, n)])
+    groups = {node.parent for node in nodes if node.parent != NONE}
+    refuse_lowest(6, [n for n in groups if nodes[n].flags != 0])
+    events = [n for n in range(node_count) if n not in groups]
+    if len(events) > 64:
+        raise Refused(7, len(events))
+
+    relations = [Relation(number16(image, at), number16(image, at + 2), number16(image, at + 4))
+                 for at in range(relations_at, len(image), 6)]
+    refuse_lowest(8, [r for r, relation in enumerate(relations)
+                      if relation.origin >= node_count or relation.to >= node_count or relation.kind > 4])
+    return nodes, events, relations
+
+
+# ---- Flattening
+
+def flatten(nodes, events, relations):
+    """The flat chart and the start marking: refusal 9."""
+    chart = empty_chart(len(events))
+    members = {n: set() for n in range(len(nodes))}  # of a node: the events that are it or stand below it
+    for e, node in enumerate(events):
+        for n in [node] + chain_above(nodes, node):
+            members[n].add(e)
+    for relation in set(relations):
+        sources, targets = members[relation.origin], members[relation.to]
+        for f in targets:
+            if relation.kind == CONDITION:
+                chart.conditions[f].update(sources)
+            elif relation.kind == MILESTONE:
+                chart.milestones[f].update(sources)
+        for e in sources:
+            if relation.kind == RESPONSE:
+                chart.responses[e].update(targets)
+            elif relation.kind == INCLUDE:
+                chart.includes[e].update(targets)
+            elif relation.kind == EXCLUDE:
+                chart.excludes[e].update(targets)
+    refuse_lowest(9, [(e, f) for e in range(64) for f in chart.includes[e] & chart.excludes[e]])
+
+    start = Marking(*[{e for e, node in enumerate(events) if nodes[node].flags & flag}
+                      for flag in (EXECUTED, PENDING, INCLUDED)])
+    return chart, start
+
+
+def read_chart(image):
+    try:
+        chart, start = flatten(*chart_records(image))
+    except Refused as refused:
+        return refused.answer, empty_chart(), empty_marking()
+    return GRANTED, chart, start
+
+
+def is_fit_chart(chart):
+    return (1 <= chart.count <= 64
+            and all(f < chart.count for table in chart[1:] for entry in table for f in entry)
+            and all(not table[e] for table in chart[1:] for e in range(chart.count, 64))
+            and not any(chart.includes[e] & chart.excludes[e] for e in range(64)))
+
+
+def is_fit_marking(chart, marking):
+    return all(e < chart.count for entry in marking for e in entry)
+
+
+def refuse_unfit(chart, marking):
+    refuse_if(14, not is_fit_chart(chart) or not is_fit_marking(chart, marking))
+
+
+# ---- Steps
+
+def wanting_conditions(chart, marking, e):
+    return [f for f in chart.conditions[e] if f in marking.included and f not in marking.executed]
+
+
+def wanting_milestones(chart, marking, e):
+    return [f for f in chart.milestones[e] if f in marking.included and f in marking.pending]
+
+
+def is_open(chart, marking, e):
+    return (e in marking.included
+            and not wanting_conditions(chart, marking, e)
+            and not wanting_milestones(chart, marking, e))
+
+
+def open_events(chart, marking):
+    return [e for e in range(chart.count) if is_open(chart, marking, e)]
+
+
+def execute(chart, marking, event):
+    try:
+        refuse_unfit(chart, marking)
+        refuse_if(10, event >= chart.count)
+        refuse_if(11, event not in marking.included)
+        refuse_lowest(12, wanting_conditions(chart, marking, event))
+        refuse_lowest(13, wanting_milestones(chart, marking, event))
+    except Refused as refused:
+        return refused.answer, marking
+    return GRANTED, Marking(executed=marking.executed | {event},
+                            pending=(marking.pending - {event}) | chart.responses[event],
+                            included=(marking.included - chart.excludes[event]) | chart.includes[event])
+
+
+def count_open(chart, marking):
+    try:
+        refuse_unfit(chart, marking)
+    except Refused as refused:
+        return refused.answer, 0, 64
+    opened = open_events(chart, marking)
+    return GRANTED, len(opened), min(opened, default=64)
+
+
+def finished(chart, marking):
+    try:
+        refuse_unfit(chart, marking)
+    except Refused as refused:
+        return refused.answer, False
+    return GRANTED, not any(e in marking.included and e in marking.pending for e in range(chart.count))
+
+
+# ---- Rule book
+
+NO_TRIGGER, COMPLETED, BECOME_YES, BECOME_NO = range(4)
+NO_CONDITION, AS_WRITTEN, NEGATED = range(3)
+CLEAR, SET = range(2)
+AND, OR, NOT = 65533, 65534, 65535
+
+Rule = namedtuple('Rule', 'trigger sense effect zero number condition target')
+Book = namedtuple('Book', 'stages marks rules conditions words')  # a condition is (start, count) into the words
+
+
+def text(book, condition):
+    start, count = book.conditions[condition]
+    return book.words[start:start + count]
+
+
+def is_good_rule(rule, stages, marks, conditions):
+    if rule.trigger > 3 or rule.sense > 2 or rule.effect > 1 or rule.zero != 0:
+        return False
+    if rule.trigger == NO_TRIGGER and rule.number != 0:
+        return False
+    if rule.trigger == COMPLETED and rule.number >= stages:
+        return False
+    if rule.trigger in (BECOME_YES, BECOME_NO) and rule.number >= marks:
+        return False
+    if rule.sense == NO_CONDITION and rule.condition != 0:
+        return False
+    if rule.sense != NO_CONDITION and rule.condition >= conditions:
+        return False
+    return rule.target < marks
+
+
+def is_good_text(words, marks):
+    """Postfix: nothing is taken from an empty stack, it never holds more than 16 values, it ends with one."""
+    held = 0
+    for word in words:
+        if word < marks:
+            held += 1
+        elif word in (AND, OR):
+            if held < 2:
+                return False
+            held -= 1
+        elif word == NOT:
+            if held < 1:
+                return False
+        else:
+            return False
+        if held > 16:
+            return False
+    return held == 1
+
+
+def is_good_condition(book, condition):
+    start, count = book.conditions[condition]
+    return count >= 1 and start + count <= len(book.words) and is_good_text(text(book, condition), book.marks)
+
+
+def read_book(image):
+    """Refusals 20 to 24."""
+    refuse_if(20, len(image) < 32)
+    header = [number32(image, at) for at in range(0, 32, 4)]
+    stages, marks, rule_count, condition_count, word_count, rules_at, conditions_at, words_at = header
+    refuse_if(21, stages > 64 or not (stages <= marks <= 256))
+    refuse_if(21, rule_count > 8384 or condition_count > 256 or word_count > 41024)
+    refuse_if(22, rules_at != 32 or conditions_at != 32 + 10 * rule_count)
+    refuse_if(22, words_at != 32 + 10 * rule_count + 8 * condition_count)
+    refuse_if(22, len(image) != 32 + 10 * rule_count + 8 * condition_count + 2 * word_count)
+
+    rules = [Rule(*image[at:at + 4], number16(image, at + 4), number16(image, at + 6), number16(image, at + 8))
+             for at in range(rules_at, conditions_at, 10)]
+    conditions = [(number32(image, at), number32(image, at + 4)) for at in range(conditions_at, words_at, 8)]
+    words = [number16(image, at) for at in range(words_at, len(image), 2)]
+    book = Book(stages, marks, rules, conditions, words)
+    refuse_lowest(23, [p for p, rule in enumerate(rules) if not is_good_rule(rule, stages, marks, condition_count)])
+    refuse_lowest(24, [c for c in range(condition_count) if not is_good_condition(book, c)])
+    return book
+
+
+def book_image(book):
+    def bytes16(number):
+        return number.to_bytes(2, 'little')
+
+    def bytes32(number):
+        return number.to_bytes(4, 'little')
+
+    rules_at = 32
+    conditions_at = rules_at + 10 * len(book.rules)
+    words_at = conditions_at + 8 * len(book.conditions)
+    parts = [bytes32(number) for number in (book.stages, book.marks, len(book.rules), len(book.conditions),
+                                            len(book.words), rules_at, conditions_at, words_at)]
+    for rule in book.rules:
+        parts += [bytes(rule[:4]), bytes16(rule.number), bytes16(rule.condition), bytes16(rule.target)]
+    for start, count in book.conditions:
+        parts += [bytes32(start), bytes32(count)]
+    parts += [bytes16(word) for word in book.words]
+    return b''.join(parts)
+
+
+# ---- Derived book
+
+def on_completion(stage, effect, target):
+    return Rule(COMPLETED, NO_CONDITION, effect, 0, stage, 0, target)
+
+
+def without_trigger(sense, condition, effect, target):
+    return Rule(NO_TRIGGER, sense, effect, 0, 0, condition, target)
+
+
+def derived_book(chart):
+    n = chart.count
+    stage, executed, included, answered = [lambda e, first=first: first + e for first in (0, n, 2 * n, 3 * n)]
+    rules, conditions, words = [], [], []
+    for e in range(n):
+        for f in range(n):
+            if f in chart.includes[e]:
+                rules.append(on_completion(e, SET, included(f)))
+            elif f in chart.excludes[e]:
+                rules.append(on_completion(e, CLEAR, included(f)))
+        for f in range(n):
+            if f in chart.responses[e]:
+                rules.append(on_completion(e, CLEAR, answered(f)))
+        if e not in chart.responses[e]:
+            rules.append(on_completion(e, SET, answered(e)))
+        rules.append(on_completion(e, SET, executed(e)))
+    for e in range(n):
+        rules.append(without_trigger(AS_WRITTEN, e, SET, stage(e)))
+        rules.append(without_trigger(NEGATED, e, CLEAR, stage(e)))
+        words_of_e = [included(e)]
+        for f in sorted(chart.conditions[e]):
+            words_of_e += [included(f), NOT, executed(f), OR, AND]
+        for f in sorted(chart.milestones[e]):
+            words_of_e += [included(f), NOT, answered(f), OR, AND]
+        conditions.append((len(words), len(words_of_e)))
+        words += words_of_e
+    return Book(n, 4 * n, rules, conditions, words)
+
+
+def derive(chart, room):
+    """The answer and the room after the call."""
+    try:
+        refuse_if(14, not is_fit_chart(chart))
+        image = book_image(derived_book(chart))
+        if len(room) < len(image):
+            raise Refused(15, len(image))
+    except Refused as refused:
+        return refused.answer, room
+    return GRANTED, image + room[len(image):]
+
+
+def matching(chart, marking):
+    try:
+        refuse_unfit(chart, marking)
+    except Refused as refused:
+        return refused.answer, [False] * 256
+    n = chart.count
+    snapshot = [False] * 256
+    for e in range(n):
+        snapshot[e] = is_open(chart, marking, e)
+        snapshot[n + e] = e in marking.executed
+        snapshot[2 * n + e] = e in marking.included
+        snapshot[3 * n + e] = e not in marking.pending
+    return GRANTED, snapshot
+
+
+# ---- Order and clash
+
+def references(book):
+    """For each rule, the marks it refers to: those of its condition and of its become trigger."""
+    in_text = [{word for word in set(text(book, c)) if word < book.marks} for c in range(len(book.conditions))]
+    refers = []
+    for rule in book.rules:
+        marks = set()
+        if rule.sense != NO_CONDITION:
+            marks |= in_text[rule.condition]
+        if rule.trigger in (BECOME_YES, BECOME_NO):
+            marks.add(rule.number)
+        refers.append(marks)
+    return refers
+
+
+def rules_on_loops(book):
+    """The rules from which a chain of rules, each before the next, comes back to its start."""
+    referring = [[] for mark in range(256)]
+    for q, marks in enumerate(references(book)):
+        for mark in marks:
+            referring[mark].append(q)
+
+    @functools.lru_cache(maxsize=None)
+    def chain_from(target):
+        """Every rule that comes after a rule with this target, or after such a rule, and so on."""
+        reached, seen, todo = set(), {target}, [target]
+        while todo:
+            for q in referring[todo.pop()]:
+                reached.add(q)
+                if book.rules[q].target not in seen:
+                    seen.add(book.rules[q].target)
+                    todo.append(book.rules[q].target)
+        return reached
+
+    return [p for p, rule in enumerate(book.rules) if p in chain_from(rule.target)]
+
+
+def are_apart(one, two):
+    different_stages = one.trigger == two.trigger == COMPLETED and one.number != two.number
+    opposite_senses = {one.sense, two.sense} == {AS_WRITTEN, NEGATED} and one.condition == two.condition
+    return different_stages or opposite_senses
+
+
+def clashes(book):
+    """Every clashing pair, the lower rule first."""
+    same_target = {}
+    for p, rule in enumerate(book.rules):
+        same_target.setdefault(rule.target, []).append(p)
+    return [(p, q) for rules in same_target.values() for i, p in enumerate(rules) for q in rules[i + 1:]
+            if book.rules[p].effect != book.rules[q].effect and not are_apart(book.rules[p], book.rules[q])]
+
+
+def running_order_as_said(book):
+    """Always the lowest-numbered unwritten rule all of whose predecessors are written."""
+    refers = references(book)
+    order, unwritten = [], list(range(len(book.rules)))
+    while unwritten:
+        unwritten_targets = {book.rules[p].target for p in unwritten}
+        lowest = next(q for q in unwritten if not refers[q] & unwritten_targets)
+        order.append(lowest)
+        unwritten.remove(lowest)
+    return order
+
+
+def running_order_of_long_book(book):
+    """The same, with the rules that are ready kept in a heap and a rule made ready by the last mark it waits for."""
+    left = [0] * 256  # of a mark: how many rules with this target are unwritten
+    for rule in book.rules:
+        left[rule.target] += 1
+    waits = [{mark for mark in marks if left[mark]} for marks in references(book)]
+    waiting = [[] for mark in range(256)]
+    for q, marks in enumerate(waits):
+        for mark in marks:
+            waiting[mark].append(q)
+    ready = [q for q, marks in enumerate(waits) if not marks]
+    heapq.heapify(ready)
+    order = []
+    while ready:
+        p = heapq.heappop(ready)
+        order.append(p)
+        target = book.rules[p].target
+        left[target] -= 1
+        if left[target] == 0:
+            for q in waiting[target]:
+                waits[q].remove(target)
+                if not waits[q]:
+                    heapq.heappush(ready, q)
+    return order
+
+
+def running_order(book):
+    return running_order_as_said(book) if len(book.rules) <= 100 else running_order_of_long_book(book)
+
+
+def is_fit_order(book, order):
+    if sorted(order) != list(range(len(book.rules))):
+        return False
+    refers = references(book)
+    unlisted = [0] * 256  # of a mark: how many rules with this target are still to come
+    for rule in book.rules:
+        unlisted[rule.target] += 1
+    for q in order:
+        if any(unlisted[mark] for mark in refers[q]):
+            return False
+        unlisted[book.rules[q].target] -= 1
+    return True
+
+
+@functools.lru_cache(maxsize=4)
+def judged_book(image):
+    """Refusals 20 to 26. A book that passes is remembered, as long runs come back to it."""
+    book = read_book(image)
+    refuse_lowest(25, [book.rules[p].target for p in rules_on_loops(book)])
+    refuse_lowest(26, clashes(book))
+    return book
+
+
+def check_book(image, room):
+    """The answer and the room, a list of 16-bit numbers, after the call."""
+    try:
+        book = judged_book(image)
+        if len(room) < len(book.rules):
+            raise Refused(31, len(book.rules))
+    except Refused as refused:
+        return refused.answer, room
+    return GRANTED, running_order(book) + room[len(book.rules):]
+
+
+# ---- Completing a stage
+
+def holds(words, snapshot):
+    stack = []
+    for word in words:
+        if word == AND:
+            right, left = stack.pop(), stack.pop()
+            stack.append(left and right)
+        elif word == OR:
+            right, left = stack.pop(), stack.pop()
+            stack.append(left or right)
+        elif word == NOT:
+            stack.append(not stack.pop())
+        else:
+            stack.append(snapshot[word])
+    return stack.pop()
+
+
+def fires(book, rule, stage, at_start, now):
+    if rule.trigger == COMPLETED and rule.number != stage:
+        return False
+    if rule.trigger == BECOME_YES and not (not at_start[rule.number] and now[rule.number]):
+        return False
+    if rule.trigger == BECOME_NO and not (at_start[rule.number] and not now[rule.number]):
+        return False
+    if rule.sense == AS_WRITTEN:
+        return holds(text(book, rule.condition), now)
+    if rule.sense == NEGATED:
+        return not holds(text(book, rule.condition), now)
+    return True
+
+
+def complete(image, order, snapshot, stage):
+    """The answer and the snapshot after the call."""
+    try:
+        book = judged_book(image)
+        refuse_if(27, not is_fit_order(book, order))
+        refuse_if(28, any(snapshot[book.marks:]))
+        refuse_if(29, stage >= book.stages)
+        refuse_if(30, not snapshot[stage])
+    except Refused as refused:
+        return refused.answer, snapshot
+    now = list(snapshot)
+    for p in order:
+        rule = book.rules[p]
+        if fires(book, rule, stage, snapshot, now):
+            now[rule.target] = rule.effect == SET
+    return GRANTED, now
+
+
+# ---- The program "book listing"
+
+def listing(image):
+    """What the program prints for the chart on its standard input."""
+    answer, chart, start = read_chart(image[:25097])
+    room = bytes(49152)
+    if answer == GRANTED:
+        answer, room = derive(chart, room)
+    if answer != GRANTED:
+        return 'refused %d %d %d\n' % answer
+    book = derived_book(chart)
+    lines = ['stages %d marks %d rules %d conditions %d words %d'
+             % (book.stages, book.marks, len(book.rules), len(book.conditions), len(book.words))]
+    for p, rule in enumerate(book.rules):
+        when = 'on %d' % rule.number if rule.trigger == COMPLETED else \
+            '%s %d' % ('if' if rule.sense == AS_WRITTEN else 'unless', rule.condition)
+        lines.append('%d %s %s %d' % (p, when, 'set' if rule.effect == SET else 'clear', rule.target))
+    names = {AND: 'and', OR: 'or', NOT: 'not'}
+    for c in range(len(book.conditions)):
+        lines.append('cond %d: %s' % (c, ' '.join(names.get(word, str(word)) for word in text(book, c))))
+    return '\n'.join(lines) + '\n'
+
+
+# ---- Settled examples
+
+PAPER_CHART = bytes.fromhex('02 00 03 00 08 00 10 00 FF FF 04 00 FF FF 06 00 00 00 01 00 00 00 00 00 '
+                            '01 00 01 00 01 00 00 00 04 00')
+PAPER_LISTING = '''stages 2 marks 8 rules 10 conditions 2 words 7
+0 on 0 clear 7
+1 on 0 set 6
+2 on 0 set 2
+3 on 1 clear 4
+4 on 1 set 7
+5 on 1 set 3
+6 if 0 set 0
+7 unless 0 clear 0
+8 if 1 set 1
+9 unless 1 clear 1
+cond 0: 4
+cond 1: 5 4 not 2 or and
+'''
+
+
+def worth(snapshot):
+    return sum(1 << mark for mark in range(256) if snapshot[mark])
+
+
+def chart_image(nodes, relations):
+    numbers = [len(nodes), len(relations), 8, 8 + 4 * len(nodes)]
+    for record in list(nodes) + list(relations):
+        numbers += record
+    return b''.join(number.to_bytes(2, 'little') for number in numbers)
+
+
+def settled_examples():
+    answer, chart, start = read_chart(PAPER_CHART)
+    assert answer == GRANTED and listing(PAPER_CHART) == PAPER_LISTING
+    image = book_image(derived_book(chart))
+    answer, order = check_book(image, [0] * 10)
+    assert answer == GRANTED
+    snapshot = matching(chart, start)[1]
+    assert worth(snapshot) == 113 and execute(chart, start, 1)[0] == (12, 0, 0)  # P1
+    after, snapshot = execute(chart, start, 0)[1], complete(image, order, snapshot, 0)[1]
+    assert worth(matching(chart, after)[1]) == worth(snapshot) == 119  # P2
+    after, snapshot = execute(chart, after, 1)[1], complete(image, order, snapshot, 1)[1]
+    assert worth(matching(chart, after)[1]) == worth(snapshot) == 238 and finished(chart, after)[1]  # P3
+
+    free = (NONE, INCLUDED)
+    answer, chart, start = read_chart(chart_image([free], [(0, 0, RESPONSE)]))
+    assert execute(chart, start, 0)[1].pending == {0}  # P4
+    answer, chart, start = read_chart(chart_image([(NONE, 0), free], [(0, 1, CONDITION)]))
+    assert execute(chart, start, 1)[0] == GRANTED  # P5
+    answer, chart, start = read_chart(chart_image([(NONE, PENDING), free], [(0, 1, MILESTONE)]))
+    assert execute(chart, start, 1)[0] == GRANTED  # P6
+    nested = [(NONE, 0), (0, 4), (0, 4), free]
+    answer, chart, start = read_chart(chart_image(nested, [(0, 3, CONDITION)]))
+    assert chart.count == 3 and chart.conditions[2] == {0, 1}  # P7
+    answer, chart, start = read_chart(chart_image(nested, [(3, 0, INCLUDE), (3, 1, EXCLUDE)]))
+    assert answer == (9, 2, 0) and chart == empty_chart() and start == empty_marking()  # P8
+
+    loop = Book(1, 1, [without_trigger(NEGATED, 0, SET, 0)], [(0, 1)], [0])
+    assert check_book(book_image(loop), [0])[0] == (25, 0, 0)  # P9
+    pair = Book(2, 2, [on_completion(0, SET, 1), on_completion(1, CLEAR, 1)], [], [])
+    assert check_book(book_image(pair), [0, 0]) == (GRANTED, [0, 1])
+    both = book_image(pair._replace(rules=[on_completion(0, SET, 1), on_completion(0, CLEAR, 1)]))
+    assert check_book(both, [0, 0])[0] == (26, 0, 1)  # P10
+    still = [True] + [False] * 255
+    assert complete(book_image(Book(1, 1, [], [], [])), [], still, 0) == (GRANTED, still)  # P11
+    assert complete(book_image(pair), [0, 0], still, 0)[0] == (27, 0, 0)  # P12
+
+    for count, code in ((64, GRANTED), (65, (7, 65, 0))):
+        assert read_chart(chart_image([free] * count, []))[0] == code
+    for held, code in ((16, GRANTED), (17, (24, 0, 0))):
+        deep = Book(1, 1, [], [(0, 2 * held - 1)], [0] * held + [AND] * (held - 1))
+        assert check_book(book_image(deep), [])[0] == code
+
+
+if __name__ == '__main__':
+    if len(sys.argv) > 1:
+        with open(sys.argv[1], 'rb') as chart_file:
+            sys.stdout.write(listing(chart_file.read()))
+    else:
+        settled_examples()
+        print('the settled examples hold')

@@ -1,0 +1,182 @@
+# The requests of the program `vectors`: how each is written as bytes, and the line that the model expects for it.
+
+import zlib
+
+import ozhimka as model
+
+FILL = 165  # the byte that room is filled with before a call
+FLAT_BYTES = 4 + 5 * 64 * 8
+MARKING_BYTES = 3 * 8
+MAX_BODY = 262144
+MAX_ROOM_BYTES = 200000
+MAX_ROOM_NUMBERS = 10000
+
+
+# ---- writing requests
+
+def bytes16(number):
+    return number.to_bytes(2, 'little')
+
+
+def bytes32(number):
+    return number.to_bytes(4, 'little')
+
+
+def set_bytes(members):
+    return sum(1 << e for e in members).to_bytes(8, 'little')
+
+
+def flat_bytes(chart):
+    return bytes32(chart.count) + b''.join(set_bytes(entry) for table in chart[1:] for entry in table)
+
+
+def marking_bytes(marking):
+    return b''.join(set_bytes(entry) for entry in marking)
+
+
+def snapshot_bytes(snapshot):
+    return model.worth(snapshot).to_bytes(32, 'little')
+
+
+def read_request(image):
+    return b'\x01' + image
+
+
+def execute_request(chart, marking, event):
+    return b'\x02' + flat_bytes(chart) + marking_bytes(marking) + bytes32(event)
+
+
+def count_request(chart, marking):
+    return b'\x03' + flat_bytes(chart) + marking_bytes(marking)
+
+
+def finished_request(chart, marking):
+    return b'\x04' + flat_bytes(chart) + marking_bytes(marking)
+
+
+def matching_request(chart, marking):
+    return b'\x05' + flat_bytes(chart) + marking_bytes(marking)
+
+
+def derive_request(room, chart):
+    return b'\x06' + bytes32(room) + flat_bytes(chart)
+
+
+def check_request(room, image):
+    return b'\x07' + bytes32(room) + image
+
+
+def complete_request(stage, snapshot, order, image):
+    return (b'\x08' + bytes32(stage) + snapshot_bytes(snapshot) + bytes32(len(order))
+            + b''.join(bytes16(p) for p in order) + image)
+
+
+def framed(body):
+    return bytes32(len(body)) + body
+
+
+# ---- the expected line
+
+def members(number):
+    """The set that a 64-bit number stands for."""
+    found, e = set(), 0
+    while number:
+        if number & 1:
+            found.add(e)
+        number >>= 1
+        e += 1
+    return found
+
+
+def worth(entry):
+    return sum(1 << e for e in entry)
+
+
+def flat_at(body, at):
+    sets = [members(int.from_bytes(body[i:i + 8], 'little')) for i in range(at + 4, at + FLAT_BYTES, 8)]
+    return model.FlatChart(model.number32(body, at), *[sets[i:i + 64] for i in range(0, 320, 64)])
+
+
+def marking_at(body, at):
+    return model.Marking(*[members(int.from_bytes(body[i:i + 8], 'little')) for i in range(at, at + 24, 8)])
+
+
+def line(name, answer, values):
+    return ' '.join([name] + [str(number) for number in list(answer) + list(values)])
+
+
+def snapshot_words(snapshot):
+    number = model.worth(snapshot)
+    return [(number >> (64 * i)) % (1 << 64) for i in range(4)]
+
+
+def line_for(body):
+    """The line that `vectors` prints for a request's body."""
+    operation = body[0]
+    if operation == 1:
+        return read_line(body)
+    if operation in (2, 3, 4, 5):
+        needed = 1 + FLAT_BYTES + MARKING_BYTES + (4 if operation == 2 else 0)
+        return chart_line(operation, body) if len(body) >= needed else 'bad request'
+    if operation == 6:
+        return derive_line(body) if len(body) >= 5 + FLAT_BYTES else 'bad request'
+    if operation == 7:
+        return check_line(body) if len(body) >= 5 else 'bad request'
+    if operation == 8:
+        return complete_line(body) if len(body) >= 41 else 'bad request'
+    return 'bad request'
+
+
+def read_line(body):
+    answer, chart, start = model.read_chart(body[1:])
+    values = [chart.count] + [worth(entry) for entry in start]
+    for e in range(chart.count):
+        values += [worth(table[e]) for table in chart[1:]]
+    return line('read', answer, values)
+
+
+def chart_line(operation, body):
+    chart = flat_at(body, 1)
+    marking = marking_at(body, 1 + FLAT_BYTES)
+    if operation == 2:
+        answer, after = model.execute(chart, marking, model.number32(body, 1 + FLAT_BYTES + MARKING_BYTES))
+        return line('execute', answer, [worth(entry) for entry in after])
+    if operation == 3:
+        answer, count, lowest = model.count_open(chart, marking)
+        return line('count', answer, [count, lowest])
+    if operation == 4:
+        answer, yes = model.finished(chart, marking)
+        return line('finished', answer, ['yes' if yes else 'no'])
+    answer, snapshot = model.matching(chart, marking)
+    return line('matching', answer, snapshot_words(snapshot))
+
+
+def derive_line(body):
+    length = model.number32(body, 1)
+    if length > MAX_ROOM_BYTES:
+        return 'bad request'
+    answer, room = model.derive(flat_at(body, 5), bytes([FILL]) * length)
+    return line('derive', answer, [zlib.adler32(room)])
+
+
+def check_line(body):
+    count = model.number32(body, 1)
+    if count > MAX_ROOM_NUMBERS:
+        return 'bad request'
+    answer, room = model.check_book(body[5:], [FILL * 257] * count)
+    return line('check', answer, [zlib.adler32(b''.join(bytes16(p) for p in room))])
+
+
+def complete_line(body):
+    stage, number, count = model.number32(body, 1), int.from_bytes(body[5:37], 'little'), model.number32(body, 37)
+    if count > MAX_ROOM_NUMBERS or len(body) < 41 + 2 * count:
+        return 'bad request'
+    snapshot = [number >> mark & 1 == 1 for mark in range(256)]
+    order = [model.number16(body, at) for at in range(41, 41 + 2 * count, 2)]
+    answer, after = model.complete(body[41 + 2 * count:], order, snapshot, stage)
+    return line('complete', answer, snapshot_words(after))
+
+
+def answer_of(text):
+    """Code, place and other of a line; None of a bad request."""
+    return None if text == 'bad request' else tuple(int(number) for number in text.split()[1:4])
