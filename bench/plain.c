@@ -1,0 +1,708 @@
+// The paper's eight calls in plain C: bit sets, one pass over each table, no memory but the stack.
+#include "plain.h"
+
+#include <string.h>
+
+enum { NO_PARENT = 65535, NO_RULE = 65535 };
+enum { MAX_NODES = 128, MAX_RELATIONS = 4096, MAX_EVENTS = 64 };
+enum { MAX_STAGES = 64, MAX_MARKS = 256, MAX_RULES = 8384, MAX_CONDITIONS = 256, MAX_WORDS = 41024, MAX_HELD = 16 };
+enum { AND = 65533, OR = 65534, NOT = 65535 };
+enum { NO_TRIGGER, COMPLETED, BECOME_YES, BECOME_NO };
+enum { NO_CONDITION, AS_WRITTEN, NEGATED };
+enum { CLEAR, SET };
+
+static const struct answer granted = {0, 0, 0};
+
+static struct answer refused(uint32_t code, uint32_t place, uint32_t other)
+{
+    return (struct answer){code, place, other};
+}
+
+static uint32_t get16(const uint8_t *at)
+{
+    return at[0] | (uint32_t)at[1] << 8;
+}
+
+static uint32_t get32(const uint8_t *at)
+{
+    return get16(at) | get16(at + 2) << 16;
+}
+
+static uint8_t *put16(uint8_t *at, uint32_t number)
+{
+    at[0] = (uint8_t)number;
+    at[1] = (uint8_t)(number >> 8);
+    return at + 2;
+}
+
+static uint8_t *put32(uint8_t *at, uint32_t number)
+{
+    return put16(put16(at, number), number >> 16);
+}
+
+static uint64_t only(uint32_t e)
+{
+    return (uint64_t)1 << e;
+}
+
+static uint32_t lowest(uint64_t set)
+{
+    return (uint32_t)__builtin_ctzll(set);
+}
+
+static uint32_t size(uint64_t set)
+{
+    return (uint32_t)__builtin_popcountll(set);
+}
+
+// ---- reading a chart
+
+struct nodes {
+    uint32_t count, parent[MAX_NODES], flags[MAX_NODES];
+};
+
+// The lowest node on a loop of parents, or the node count. Each walk upwards stamps the nodes it is the first to meet.
+static uint32_t lowest_on_loop(const struct nodes *nodes)
+{
+    uint32_t best = nodes->count;
+    uint8_t stamp[MAX_NODES] = {0};
+    for (uint32_t from = 0; from < nodes->count; from++) {
+        uint32_t n = from;
+        while (n != NO_PARENT && stamp[n] == 0) {
+            stamp[n] = (uint8_t)(from + 1);
+            n = nodes->parent[n];
+        }
+        if (n == NO_PARENT || stamp[n] != from + 1)
+            continue;
+        uint32_t end = n;
+        do {
+            best = n < best ? n : best;
+            n = nodes->parent[n];
+        } while (n != end);
+    }
+    return best;
+}
+
+// Refusals 1 to 4.
+static struct answer read_nodes(const uint8_t *image, size_t length, struct nodes *nodes)
+{
+    if (length < 8)
+        return refused(1, 0, 0);
+    uint32_t count = get16(image), relations = get16(image + 2);
+    if (count < 1 || count > MAX_NODES || relations > MAX_RELATIONS)
+        return refused(2, 0, 0);
+    if (get16(image + 4) != 8 || get16(image + 6) != 8 + 4 * count || length != 8 + 4 * count + 6 * relations)
+        return refused(3, 0, 0);
+    nodes->count = count;
+    for (uint32_t n = 0; n < count; n++) {
+        uint32_t parent = get16(image + 8 + 4 * n), flags = get16(image + 10 + 4 * n);
+        if ((parent >= count && parent != NO_PARENT) || flags > 7)
+            return refused(4, n, 0);
+        nodes->parent[n] = parent;
+        nodes->flags[n] = flags;
+    }
+    return granted;
+}
+
+// Refusals 5 to 7. Afterwards event[e] is the node of event e.
+static struct answer number_events(const struct nodes *nodes, uint8_t *event, uint32_t *events)
+{
+    uint32_t looping = lowest_on_loop(nodes);
+    if (looping < nodes->count)
+        return refused(5, looping, 0);
+    bool group[MAX_NODES] = {false};
+    for (uint32_t n = 0; n < nodes->count; n++)
+        if (nodes->parent[n] != NO_PARENT)
+            group[nodes->parent[n]] = true;
+    uint32_t count = 0;
+    for (uint32_t n = 0; n < nodes->count; n++) {
+        if (group[n] && nodes->flags[n] != 0)
+            return refused(6, n, 0);
+        if (!group[n])
+            event[count++] = (uint8_t)n;
+    }
+    *events = count;
+    return count > MAX_EVENTS ? refused(7, count, 0) : granted;
+}
+
+// Refusals 8 and 9. Relations are gathered at their nodes; an event then takes what stands at it and at the groups above it.
+static struct answer flatten(const struct nodes *nodes, const uint8_t *event, const uint8_t *at, uint32_t relations,
+                             struct flat_chart *chart)
+{
+    uint64_t below[MAX_NODES] = {0};
+    for (uint32_t e = 0; e < chart->count; e++)
+        for (uint32_t n = event[e]; n != NO_PARENT; n = nodes->parent[n])
+            below[n] |= only(e);
+    uint64_t gathered[5][MAX_NODES] = {{0}};
+    for (uint32_t r = 0; r < relations; r++, at += 6) {
+        uint32_t from = get16(at), to = get16(at + 2), kind = get16(at + 4);
+        if (from >= nodes->count || to >= nodes->count || kind > 4)
+            return refused(8, r, 0);
+        if (kind == 0 || kind == 2)
+            gathered[kind][to] |= below[from];
+        else
+            gathered[kind][from] |= below[to];
+    }
+    for (uint32_t e = 0; e < chart->count; e++) {
+        for (uint32_t n = event[e]; n != NO_PARENT; n = nodes->parent[n]) {
+            chart->conditions[e] |= gathered[0][n];
+            chart->responses[e] |= gathered[1][n];
+            chart->milestones[e] |= gathered[2][n];
+            chart->includes[e] |= gathered[3][n];
+            chart->excludes[e] |= gathered[4][n];
+        }
+        uint64_t both = chart->includes[e] & chart->excludes[e];
+        if (both != 0)
+            return refused(9, e, lowest(both));
+    }
+    return granted;
+}
+
+struct reading plain_read_chart(const uint8_t *image, size_t length)
+{
+    struct reading reading = {.answer = granted};
+    struct nodes nodes;
+    uint8_t event[MAX_NODES];
+    reading.answer = read_nodes(image, length, &nodes);
+    if (reading.answer.code != 0)
+        return reading;
+    uint32_t events;
+    reading.answer = number_events(&nodes, event, &events);
+    if (reading.answer.code != 0)
+        return reading;
+    reading.chart.count = events;
+    reading.answer = flatten(&nodes, event, image + 8 + 4 * nodes.count, get16(image + 2), &reading.chart);
+    if (reading.answer.code != 0) {
+        memset(&reading.chart, 0, sizeof reading.chart);
+        return reading;
+    }
+    for (uint32_t e = 0; e < events; e++) {
+        uint32_t flags = nodes.flags[event[e]];
+        reading.start.executed |= (uint64_t)(flags & 1) << e;
+        reading.start.pending |= (uint64_t)(flags >> 1 & 1) << e;
+        reading.start.included |= (uint64_t)(flags >> 2 & 1) << e;
+    }
+    return reading;
+}
+
+// ---- steps
+
+static bool fit_chart(const struct flat_chart *chart)
+{
+    uint32_t count = chart->count;
+    if (count < 1 || count > MAX_EVENTS)
+        return false;
+    uint64_t within = 0, past = 0, both = 0;
+    for (uint32_t e = 0; e < count; e++) {
+        within |= chart->conditions[e] | chart->responses[e] | chart->milestones[e] | chart->includes[e] | chart->excludes[e];
+        both |= chart->includes[e] & chart->excludes[e];
+    }
+    for (uint32_t e = count; e < MAX_EVENTS; e++)
+        past |= chart->conditions[e] | chart->responses[e] | chart->milestones[e] | chart->includes[e] | chart->excludes[e];
+    uint64_t outside = count == 64 ? 0 : ~(uint64_t)0 << count;
+    return (within & outside) == 0 && past == 0 && both == 0;
+}
+
+static bool fit(const struct flat_chart *chart, struct marking marking)
+{
+    if (!fit_chart(chart))
+        return false;
+    uint64_t outside = chart->count == 64 ? 0 : ~(uint64_t)0 << chart->count;
+    return ((marking.executed | marking.pending | marking.included) & outside) == 0;
+}
+
+static uint64_t open_set(const struct flat_chart *chart, struct marking marking)
+{
+    uint64_t unexecuted = marking.included & ~marking.executed, due = marking.included & marking.pending, open = 0;
+    for (uint32_t e = 0; e < chart->count; e++) {
+        uint64_t holding = (chart->conditions[e] & unexecuted) | (chart->milestones[e] & due);
+        open |= (uint64_t)(holding == 0) << e;
+    }
+    return open & marking.included;
+}
+
+struct step plain_execute(const struct flat_chart *chart, struct marking marking, uint32_t event)
+{
+    struct step step = {granted, marking};
+    if (!fit(chart, marking)) {
+        step.answer = refused(14, 0, 0);
+        return step;
+    }
+    if (event >= chart->count) {
+        step.answer = refused(10, 0, 0);
+        return step;
+    }
+    if ((marking.included & only(event)) == 0) {
+        step.answer = refused(11, 0, 0);
+        return step;
+    }
+    uint64_t wanting = chart->conditions[event] & marking.included & ~marking.executed;
+    if (wanting != 0) {
+        step.answer = refused(12, lowest(wanting), 0);
+        return step;
+    }
+    wanting = chart->milestones[event] & marking.included & marking.pending;
+    if (wanting != 0) {
+        step.answer = refused(13, lowest(wanting), 0);
+        return step;
+    }
+    step.marking.executed = marking.executed | only(event);
+    step.marking.pending = (marking.pending & ~only(event)) | chart->responses[event];
+    step.marking.included = (marking.included & ~chart->excludes[event]) | chart->includes[event];
+    return step;
+}
+
+struct open_count plain_count_open(const struct flat_chart *chart, struct marking marking)
+{
+    if (!fit(chart, marking))
+        return (struct open_count){refused(14, 0, 0), 0, 64};
+    uint64_t open = open_set(chart, marking);
+    return (struct open_count){granted, size(open), open == 0 ? 64 : lowest(open)};
+}
+
+struct finish plain_finished(const struct flat_chart *chart, struct marking marking)
+{
+    if (!fit(chart, marking))
+        return (struct finish){refused(14, 0, 0), false};
+    return (struct finish){granted, (marking.included & marking.pending) == 0};
+}
+
+struct settled plain_matching(const struct flat_chart *chart, struct marking marking)
+{
+    struct settled settled = {.answer = granted};
+    if (!fit(chart, marking)) {
+        settled.answer = refused(14, 0, 0);
+        return settled;
+    }
+    uint32_t n = chart->count;
+    uint64_t open = open_set(chart, marking);
+    bool *marks = settled.snapshot.marks;
+    for (uint32_t e = 0; e < n; e++) {
+        marks[e] = open >> e & 1;
+        marks[n + e] = marking.executed >> e & 1;
+        marks[2 * n + e] = marking.included >> e & 1;
+        marks[3 * n + e] = ~marking.pending >> e & 1;
+    }
+    return settled;
+}
+
+// ---- deriving
+
+static uint8_t *put_rule(uint8_t *at, uint8_t trigger, uint8_t sense, uint8_t effect, uint32_t number, uint32_t condition,
+                         uint32_t target)
+{
+    at[0] = trigger;
+    at[1] = sense;
+    at[2] = effect;
+    at[3] = 0;
+    return put16(put16(put16(at + 4, number), condition), target);
+}
+
+// The rules on completion of e.
+static uint8_t *put_completion(uint8_t *at, const struct flat_chart *chart, uint32_t e)
+{
+    uint32_t n = chart->count;
+    for (uint64_t left = chart->includes[e] | chart->excludes[e]; left != 0; left &= left - 1) {
+        uint32_t f = lowest(left);
+        at = put_rule(at, COMPLETED, NO_CONDITION, chart->includes[e] >> f & 1, e, 0, 2 * n + f);
+    }
+    for (uint64_t left = chart->responses[e]; left != 0; left &= left - 1)
+        at = put_rule(at, COMPLETED, NO_CONDITION, CLEAR, e, 0, 3 * n + lowest(left));
+    if ((chart->responses[e] & only(e)) == 0)
+        at = put_rule(at, COMPLETED, NO_CONDITION, SET, e, 0, 3 * n + e);
+    return put_rule(at, COMPLETED, NO_CONDITION, SET, e, 0, n + e);
+}
+
+// For each f: included f, not, mark f, or, and; the marks start at `first`.
+static uint8_t *put_clauses(uint8_t *at, uint64_t set, uint32_t included, uint32_t first)
+{
+    for (; set != 0; set &= set - 1) {
+        uint32_t f = lowest(set);
+        at = put16(put16(put16(put16(put16(at, included + f), NOT), first + f), OR), AND);
+    }
+    return at;
+}
+
+struct answer plain_derive(const struct flat_chart *chart, uint8_t *room, size_t length)
+{
+    if (!fit_chart(chart))
+        return refused(14, 0, 0);
+    uint32_t n = chart->count, rules = 3 * n, words = n;
+    for (uint32_t e = 0; e < n; e++) {
+        rules += size(chart->includes[e] | chart->excludes[e]) + size(chart->responses[e] | only(e));
+        words += 5 * (size(chart->conditions[e]) + size(chart->milestones[e]));
+    }
+    uint32_t conditions_at = 32 + 10 * rules, words_at = conditions_at + 8 * n, needed = words_at + 2 * words;
+    if (length < needed)
+        return refused(15, needed, 0);
+    const uint32_t header[8] = {n, 4 * n, rules, n, words, 32, conditions_at, words_at};
+    uint8_t *at = room;
+    for (uint32_t i = 0; i < 8; i++)
+        at = put32(at, header[i]);
+    for (uint32_t e = 0; e < n; e++)
+        at = put_completion(at, chart, e);
+    for (uint32_t e = 0; e < n; e++) {
+        at = put_rule(at, NO_TRIGGER, AS_WRITTEN, SET, 0, e, e);
+        at = put_rule(at, NO_TRIGGER, NEGATED, CLEAR, 0, e, e);
+    }
+    for (uint32_t e = 0, start = 0; e < n; e++) {
+        uint32_t count = 1 + 5 * (size(chart->conditions[e]) + size(chart->milestones[e]));
+        at = put32(put32(at, start), count);
+        start += count;
+    }
+    for (uint32_t e = 0; e < n; e++) {
+        at = put16(at, 2 * n + e);
+        at = put_clauses(at, chart->conditions[e], 2 * n, n);
+        at = put_clauses(at, chart->milestones[e], 2 * n, 3 * n);
+    }
+    return granted;
+}
+
+// ---- reading a book
+
+struct marks {
+    uint64_t word[4];
+};
+
+struct rule {
+    uint8_t trigger, sense, effect, zero;
+    uint32_t number, condition, target;
+};
+
+struct book {
+    uint32_t stages, marks, rules, conditions, words;
+    const uint8_t *rules_at, *conditions_at, *words_at;
+    struct marks refers[MAX_CONDITIONS]; // of a condition: the marks in its text
+};
+
+static struct rule rule_of(const struct book *book, uint32_t p)
+{
+    const uint8_t *at = book->rules_at + 10 * p;
+    return (struct rule){at[0], at[1], at[2], at[3], get16(at + 4), get16(at + 6), get16(at + 8)};
+}
+
+static bool has(const struct marks *set, uint32_t mark)
+{
+    return set->word[mark / 64] >> (mark % 64) & 1;
+}
+
+static void add(struct marks *set, uint32_t mark)
+{
+    set->word[mark / 64] |= only(mark % 64);
+}
+
+static void drop(struct marks *set, uint32_t mark)
+{
+    set->word[mark / 64] &= ~only(mark % 64);
+}
+
+static void join(struct marks *set, const struct marks *more)
+{
+    for (int i = 0; i < 4; i++)
+        set->word[i] |= more->word[i];
+}
+
+static bool meet(const struct marks *one, const struct marks *two)
+{
+    uint64_t common = 0;
+    for (int i = 0; i < 4; i++)
+        common |= one->word[i] & two->word[i];
+    return common != 0;
+}
+
+static bool good_rule(const struct book *book, struct rule rule)
+{
+    if (rule.trigger > BECOME_NO || rule.sense > NEGATED || rule.effect > SET || rule.zero != 0)
+        return false;
+    uint32_t numbers = rule.trigger == NO_TRIGGER ? 1 : rule.trigger == COMPLETED ? book->stages : book->marks;
+    uint32_t conditions = rule.sense == NO_CONDITION ? 1 : book->conditions;
+    return rule.number < numbers && rule.condition < conditions && rule.target < book->marks;
+}
+
+static bool good_condition(struct book *book, uint32_t c)
+{
+    uint32_t start = get32(book->conditions_at + 8 * c), count = get32(book->conditions_at + 8 * c + 4), held = 0;
+    if (count == 0 || start > book->words || count > book->words - start)
+        return false;
+    struct marks refers = {{0}};
+    const uint8_t *at = book->words_at + 2 * start;
+    for (uint32_t i = 0; i < count; i++, at += 2) {
+        uint32_t word = get16(at);
+        if (word < book->marks) {
+            if (++held > MAX_HELD)
+                return false;
+            add(&refers, word);
+        } else if (word < AND || held < (word == NOT ? 1u : 2u)) {
+            return false;
+        } else if (word != NOT) {
+            held--;
+        }
+    }
+    book->refers[c] = refers;
+    return held == 1;
+}
+
+// Refusals 20 to 24.
+static struct answer read_book(const uint8_t *image, size_t length, struct book *book)
+{
+    if (length < 32)
+        return refused(20, 0, 0);
+    uint32_t stages = get32(image), marks = get32(image + 4), rules = get32(image + 8), conditions = get32(image + 12),
+             words = get32(image + 16);
+    if (stages > MAX_STAGES || marks < stages || marks > MAX_MARKS || rules > MAX_RULES || conditions > MAX_CONDITIONS
+        || words > MAX_WORDS)
+        return refused(21, 0, 0);
+    uint32_t conditions_at = 32 + 10 * rules, words_at = conditions_at + 8 * conditions;
+    if (get32(image + 20) != 32 || get32(image + 24) != conditions_at || get32(image + 28) != words_at
+        || length != words_at + 2 * words)
+        return refused(22, 0, 0);
+    book->stages = stages;
+    book->marks = marks;
+    book->rules = rules;
+    book->conditions = conditions;
+    book->words = words;
+    book->rules_at = image + 32;
+    book->conditions_at = image + conditions_at;
+    book->words_at = image + words_at;
+    for (uint32_t p = 0; p < rules; p++)
+        if (!good_rule(book, rule_of(book, p)))
+            return refused(23, p, 0);
+    for (uint32_t c = 0; c < conditions; c++)
+        if (!good_condition(book, c))
+            return refused(24, c, 0);
+    return granted;
+}
+
+// ---- loops and clashes
+
+// The lowest mark on a loop, or MAX_MARKS. Only marks that are referred to, and that a referring rule targets, can be on one.
+static uint32_t lowest_looping(const struct book *book)
+{
+    struct marks row[MAX_MARKS], referred = {{0}}, referring = {{0}};
+    memset(row, 0, book->marks * sizeof row[0]);
+    for (uint32_t p = 0; p < book->rules; p++) {
+        struct rule rule = rule_of(book, p);
+        if (rule.sense != NO_CONDITION)
+            join(&row[rule.target], &book->refers[rule.condition]);
+        if (rule.trigger >= BECOME_YES)
+            add(&row[rule.target], rule.number);
+        if (rule.sense != NO_CONDITION || rule.trigger >= BECOME_YES)
+            add(&referring, rule.target);
+    }
+    for (uint32_t m = 0; m < book->marks; m++)
+        join(&referred, &row[m]);
+    uint16_t inner[MAX_MARKS];
+    uint32_t count = 0;
+    for (uint32_t m = 0; m < book->marks; m++)
+        if (has(&referred, m) && has(&referring, m))
+            inner[count++] = (uint16_t)m;
+    for (uint32_t k = 0; k < count; k++)
+        for (uint32_t a = 0; a < count; a++)
+            if (has(&row[inner[a]], inner[k]))
+                join(&row[inner[a]], &row[inner[k]]);
+    for (uint32_t a = 0; a < count; a++)
+        if (has(&row[inner[a]], inner[a]))
+            return inner[a];
+    return MAX_MARKS;
+}
+
+static bool apart(struct rule one, struct rule two)
+{
+    if (one.trigger == COMPLETED && two.trigger == COMPLETED && one.number != two.number)
+        return true;
+    return one.condition == two.condition && one.sense + two.sense == AS_WRITTEN + NEGATED && one.sense != NO_CONDITION
+        && two.sense != NO_CONDITION;
+}
+
+// The lowest clashing pair. Chains lead from a rule to the next ones with its target and its effect, or the other effect.
+static struct answer first_clash(const struct book *book)
+{
+    uint16_t head[MAX_MARKS][2], same[MAX_RULES], opposite[MAX_RULES];
+    memset(head, 0xFF, sizeof head);
+    for (uint32_t p = book->rules; p-- > 0;) {
+        const uint8_t *at = book->rules_at + 10 * p;
+        uint16_t *heads = head[get16(at + 8)];
+        same[p] = heads[at[2]];
+        opposite[p] = heads[1 - at[2]];
+        heads[at[2]] = (uint16_t)p;
+    }
+    for (uint32_t p = 0; p < book->rules; p++) {
+        if (opposite[p] == NO_RULE)
+            continue;
+        struct rule rule = rule_of(book, p);
+        for (uint32_t q = opposite[p]; q != NO_RULE; q = same[q])
+            if (!apart(rule, rule_of(book, q)))
+                return refused(26, p, q);
+    }
+    return granted;
+}
+
+// Refusals 20 to 26.
+static struct answer judge(const uint8_t *image, size_t length, struct book *book)
+{
+    struct answer answer = read_book(image, length, book);
+    if (answer.code != 0)
+        return answer;
+    uint32_t mark = lowest_looping(book);
+    if (mark < MAX_MARKS)
+        return refused(25, mark, 0);
+    return first_clash(book);
+}
+
+// ---- the running order
+
+// Which marks still have rules to come.
+struct progress {
+    struct marks unsettled;
+    uint16_t left[MAX_MARKS];
+};
+
+static void begin(const struct book *book, struct progress *progress)
+{
+    memset(progress, 0, sizeof *progress);
+    for (uint32_t p = 0; p < book->rules; p++) {
+        uint32_t target = get16(book->rules_at + 10 * p + 8);
+        progress->left[target]++;
+        add(&progress->unsettled, target);
+    }
+}
+
+static bool ready(const struct book *book, const struct progress *progress, struct rule rule)
+{
+    if (rule.trigger >= BECOME_YES && has(&progress->unsettled, rule.number))
+        return false;
+    return rule.sense == NO_CONDITION || !meet(&book->refers[rule.condition], &progress->unsettled);
+}
+
+// Counts a written rule; says whether its target is settled by it.
+static bool settles(struct progress *progress, struct rule rule)
+{
+    if (--progress->left[rule.target] != 0)
+        return false;
+    drop(&progress->unsettled, rule.target);
+    return true;
+}
+
+struct answer plain_check(const uint8_t *image, size_t length, uint16_t *room, size_t count)
+{
+    struct book book;
+    struct answer answer = judge(image, length, &book);
+    if (answer.code != 0)
+        return answer;
+    if (count < book.rules)
+        return refused(31, book.rules, 0);
+    struct progress progress;
+    begin(&book, &progress);
+    bool written[MAX_RULES] = {false};
+    uint32_t done = 0, passed = book.rules; // the lowest rule that was passed over
+    for (uint32_t p = 0; done < book.rules; p++) {
+        if (written[p])
+            continue;
+        struct rule rule = rule_of(&book, p);
+        if (!ready(&book, &progress, rule)) {
+            passed = p < passed ? p : passed;
+            continue;
+        }
+        room[done++] = (uint16_t)p;
+        written[p] = true;
+        if (settles(&progress, rule) && passed < p) {
+            p = passed - 1;
+            passed = book.rules;
+        }
+    }
+    return granted;
+}
+
+// ---- completing a stage
+
+static bool fit_order(const struct book *book, const uint16_t *order, size_t count)
+{
+    if (count != book->rules)
+        return false;
+    struct progress progress;
+    begin(book, &progress);
+    bool seen[MAX_RULES] = {false};
+    for (size_t i = 0; i < count; i++) {
+        uint32_t p = order[i];
+        if (p >= book->rules || seen[p])
+            return false;
+        seen[p] = true;
+        struct rule rule = rule_of(book, p);
+        if (!ready(book, &progress, rule))
+            return false;
+        settles(&progress, rule);
+    }
+    return true;
+}
+
+// The stack of values is a number, its top the lowest bit.
+static bool holds(const struct book *book, uint32_t condition, const bool *marks)
+{
+    const uint8_t *record = book->conditions_at + 8 * condition;
+    const uint8_t *at = book->words_at + 2 * get32(record), *end = at + 2 * get32(record + 4);
+    uint32_t stack = 0;
+    for (; at < end; at += 2) {
+        uint32_t word = get16(at);
+        switch (word) {
+        case AND:
+            stack = stack >> 1 & (stack | ~1u);
+            break;
+        case OR:
+            stack = stack >> 1 | (stack & 1);
+            break;
+        case NOT:
+            stack ^= 1;
+            break;
+        default:
+            stack = stack << 1 | marks[word];
+        }
+    }
+    return stack & 1;
+}
+
+static bool triggered(struct rule rule, uint32_t stage, const bool *start, const bool *now)
+{
+    switch (rule.trigger) {
+    case COMPLETED:
+        return rule.number == stage;
+    case BECOME_YES:
+        return !start[rule.number] && now[rule.number];
+    case BECOME_NO:
+        return start[rule.number] && !now[rule.number];
+    default:
+        return true;
+    }
+}
+
+struct settled plain_complete(const uint8_t *image, size_t length, const uint16_t *order, size_t count,
+                              const struct snapshot *snapshot, uint32_t stage)
+{
+    struct settled settled = {.snapshot = *snapshot};
+    struct book book;
+    settled.answer = judge(image, length, &book);
+    if (settled.answer.code != 0)
+        return settled;
+    if (!fit_order(&book, order, count)) {
+        settled.answer = refused(27, 0, 0);
+        return settled;
+    }
+    for (uint32_t m = book.marks; m < MAX_MARKS; m++)
+        if (snapshot->marks[m]) {
+            settled.answer = refused(28, 0, 0);
+            return settled;
+        }
+    if (stage >= book.stages || !snapshot->marks[stage]) {
+        settled.answer = refused(stage >= book.stages ? 29 : 30, 0, 0);
+        return settled;
+    }
+    bool *now = settled.snapshot.marks;
+    for (size_t i = 0; i < count; i++) {
+        struct rule rule = rule_of(&book, order[i]);
+        if (!triggered(rule, stage, snapshot->marks, now))
+            continue;
+        if (rule.sense != NO_CONDITION && holds(&book, rule.condition, now) != (rule.sense == AS_WRITTEN))
+            continue;
+        now[rule.target] = rule.effect == SET;
+    }
+    return settled;
+}

@@ -1,0 +1,63 @@
+// The paper's eight calls in plain C, as a controller's author would write them by hand: what the library is timed against.
+#ifndef PLAIN_H
+#define PLAIN_H
+
+#include <stdbool.h>
+#include <stddef.h>
+#include <stdint.h>
+
+struct answer {
+    uint32_t code, place, other;
+};
+
+// conditions[e] and milestones[e] hold e back; responses[e], includes[e] and excludes[e] are what e does
+struct flat_chart {
+    uint32_t count;
+    uint64_t conditions[64], responses[64], milestones[64], includes[64], excludes[64];
+};
+
+struct marking {
+    uint64_t executed, pending, included;
+};
+
+struct snapshot {
+    bool marks[256];
+};
+
+struct reading {
+    struct answer answer;
+    struct flat_chart chart;
+    struct marking start;
+};
+
+struct step {
+    struct answer answer;
+    struct marking marking;
+};
+
+struct open_count {
+    struct answer answer;
+    uint32_t open, lowest;
+};
+
+struct finish {
+    struct answer answer;
+    bool yes;
+};
+
+struct settled {
+    struct answer answer;
+    struct snapshot snapshot;
+};
+
+struct reading plain_read_chart(const uint8_t *image, size_t length);
+struct step plain_execute(const struct flat_chart *chart, struct marking marking, uint32_t event);
+struct open_count plain_count_open(const struct flat_chart *chart, struct marking marking);
+struct finish plain_finished(const struct flat_chart *chart, struct marking marking);
+struct settled plain_matching(const struct flat_chart *chart, struct marking marking);
+struct answer plain_derive(const struct flat_chart *chart, uint8_t *room, size_t length);
+struct answer plain_check(const uint8_t *image, size_t length, uint16_t *room, size_t count);
+struct settled plain_complete(const uint8_t *image, size_t length, const uint16_t *order, size_t count,
+                              const struct snapshot *snapshot, uint32_t stage);
+
+#endif

@@ -1,0 +1,196 @@
+// Speaks the protocol of the program `vectors` over the plain C calls, so that the model can check them.
+#include "plain.h"
+
+#include <inttypes.h>
+#include <stdio.h>
+#include <stdlib.h>
+#include <string.h>
+
+enum { MAX_BODY = 262144, MAX_BYTES = 200000, MAX_NUMBERS = 10000, FLAT = 4 + 5 * 64 * 8, MARKING = 24, FILL = 165 };
+
+static uint8_t body[MAX_BODY];
+
+static uint64_t number(const uint8_t *at, int bytes)
+{
+    uint64_t value = 0;
+    for (int i = bytes; i-- > 0;)
+        value = value << 8 | at[i];
+    return value;
+}
+
+static uint32_t adler(const uint8_t *at, size_t length, uint32_t sum)
+{
+    uint32_t a = sum & 0xFFFF, b = sum >> 16;
+    for (size_t i = 0; i < length; i++) {
+        a = (a + at[i]) % 65521;
+        b = (b + a) % 65521;
+    }
+    return b << 16 | a;
+}
+
+static void say(const char *name, struct answer answer)
+{
+    printf("%s %" PRIu32 " %" PRIu32 " %" PRIu32, name, answer.code, answer.place, answer.other);
+}
+
+static void say_marking(struct marking marking)
+{
+    printf(" %" PRIu64 " %" PRIu64 " %" PRIu64, marking.executed, marking.pending, marking.included);
+}
+
+static void say_snapshot(const struct snapshot *snapshot)
+{
+    for (int w = 0; w < 4; w++) {
+        uint64_t word = 0;
+        for (int i = 0; i < 64; i++)
+            word |= (uint64_t)snapshot->marks[64 * w + i] << i;
+        printf(" %" PRIu64, word);
+    }
+}
+
+// Room of just this size, so that a sanitizer sees a step past its end.
+static void *filled(size_t bytes)
+{
+    void *room = malloc(bytes + (bytes == 0));
+    if (room == NULL)
+        exit(1);
+    memset(room, FILL, bytes);
+    return room;
+}
+
+static struct flat_chart flat_at(const uint8_t *at)
+{
+    struct flat_chart chart = {.count = (uint32_t)number(at, 4)};
+    uint64_t *tables[5] = {chart.conditions, chart.responses, chart.milestones, chart.includes, chart.excludes};
+    for (int t = 0; t < 5; t++)
+        for (int e = 0; e < 64; e++)
+            tables[t][e] = number(at + 4 + 8 * (64 * t + e), 8);
+    return chart;
+}
+
+static struct marking marking_at(const uint8_t *at)
+{
+    return (struct marking){number(at, 8), number(at + 8, 8), number(at + 16, 8)};
+}
+
+static void read_chart(const uint8_t *image, size_t length)
+{
+    struct reading reading = plain_read_chart(image, length);
+    say("read", reading.answer);
+    printf(" %" PRIu32, reading.chart.count);
+    say_marking(reading.start);
+    for (uint32_t e = 0; e < reading.chart.count; e++)
+        printf(" %" PRIu64 " %" PRIu64 " %" PRIu64 " %" PRIu64 " %" PRIu64, reading.chart.conditions[e],
+               reading.chart.responses[e], reading.chart.milestones[e], reading.chart.includes[e],
+               reading.chart.excludes[e]);
+}
+
+static bool on_chart(int operation, const uint8_t *at, size_t length)
+{
+    if (length < (size_t)(FLAT + MARKING + (operation == 2 ? 4 : 0)))
+        return false;
+    struct flat_chart chart = flat_at(at);
+    struct marking marking = marking_at(at + FLAT);
+    if (operation == 2) {
+        struct step step = plain_execute(&chart, marking, (uint32_t)number(at + FLAT + MARKING, 4));
+        say("execute", step.answer);
+        say_marking(step.marking);
+    } else if (operation == 3) {
+        struct open_count count = plain_count_open(&chart, marking);
+        say("count", count.answer);
+        printf(" %" PRIu32 " %" PRIu32, count.open, count.lowest);
+    } else if (operation == 4) {
+        struct finish finish = plain_finished(&chart, marking);
+        say("finished", finish.answer);
+        printf(finish.yes ? " yes" : " no");
+    } else {
+        struct settled settled = plain_matching(&chart, marking);
+        say("matching", settled.answer);
+        say_snapshot(&settled.snapshot);
+    }
+    return true;
+}
+
+static bool derive(const uint8_t *at, size_t length)
+{
+    if (length < 4 + FLAT || number(at, 4) > MAX_BYTES)
+        return false;
+    size_t bytes = number(at, 4);
+    struct flat_chart chart = flat_at(at + 4);
+    uint8_t *room = filled(bytes);
+    say("derive", plain_derive(&chart, room, bytes));
+    printf(" %" PRIu32, adler(room, bytes, 1));
+    free(room);
+    return true;
+}
+
+static bool check(const uint8_t *at, size_t length)
+{
+    if (length < 4 || number(at, 4) > MAX_NUMBERS)
+        return false;
+    size_t count = number(at, 4);
+    uint16_t *numbers = filled(2 * count);
+    say("check", plain_check(at + 4, length - 4, numbers, count));
+    uint32_t sum = 1;
+    for (size_t i = 0; i < count; i++)
+        sum = adler((const uint8_t[]){(uint8_t)numbers[i], (uint8_t)(numbers[i] >> 8)}, 2, sum);
+    printf(" %" PRIu32, sum);
+    free(numbers);
+    return true;
+}
+
+static bool complete(const uint8_t *at, size_t length)
+{
+    if (length < 40 || number(at + 36, 4) > MAX_NUMBERS || length < 40 + 2 * number(at + 36, 4))
+        return false;
+    size_t count = number(at + 36, 4);
+    struct snapshot snapshot;
+    for (int m = 0; m < 256; m++)
+        snapshot.marks[m] = at[4 + m / 8] >> (m % 8) & 1;
+    uint16_t *numbers = filled(2 * count);
+    for (size_t i = 0; i < count; i++)
+        numbers[i] = (uint16_t)number(at + 40 + 2 * i, 2);
+    size_t start = 40 + 2 * count;
+    struct settled settled
+        = plain_complete(at + start, length - start, numbers, count, &snapshot, (uint32_t)number(at, 4));
+    say("complete", settled.answer);
+    say_snapshot(&settled.snapshot);
+    free(numbers);
+    return true;
+}
+
+static bool serve(const uint8_t *at, size_t length)
+{
+    switch (at[0]) {
+    case 1:
+        read_chart(at + 1, length - 1);
+        return true;
+    case 2: case 3: case 4: case 5:
+        return on_chart(at[0], at + 1, length - 1);
+    case 6:
+        return derive(at + 1, length - 1);
+    case 7:
+        return check(at + 1, length - 1);
+    case 8:
+        return complete(at + 1, length - 1);
+    default:
+        return false;
+    }
+}
+
+int main(void)
+{
+    uint8_t head[4];
+    while (fread(head, 1, 4, stdin) == 4) {
+        uint64_t length = number(head, 4);
+        if (length < 1 || length > MAX_BODY || fread(body, 1, length, stdin) != length) {
+            puts("bad request");
+            break;
+        }
+        uint8_t *own = filled(length);
+        memcpy(own, body, length);
+        puts(serve(own, length) ? "" : "bad request");
+        free(own);
+    }
+    return 0;
+}
