@@ -119,7 +119,7 @@ def compare(count, seed, program):
             print('the lines agree, but the program ended with status %d' % status)
             return 1
         agreed += len(batch)
-        codes.update(line.split()[1] for body, line in batch)
+        codes.update(line if line == 'bad request' else line.split()[1] for body, line in batch)
     print('%d requests of seed %d agree' % (agreed, seed))
     print('answers by code: ' + ', '.join('%s: %d' % (code, codes[code])
                                          for code in sorted(codes, key=lambda code: (len(code), code))))
