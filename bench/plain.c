@@ -375,7 +375,7 @@ struct book {
     struct marks refers[MAX_CONDITIONS]; // of a condition: the marks in its text
 };
 
-static struct rule rule_of(const struct book *book, uint32_t p)
+static inline struct rule rule_of(const struct book *book, uint32_t p)
 {
     const uint8_t *at = book->rules_at + 10 * p;
     return (struct rule){at[0], at[1], at[2], at[3], get16(at + 4), get16(at + 6), get16(at + 8)};
@@ -506,12 +506,12 @@ static uint32_t lowest_looping(const struct book *book)
     return MAX_MARKS;
 }
 
-static bool apart(struct rule one, struct rule two)
+// Of two rule records as they stand in the image: completions of different stages, or one condition in opposite senses.
+static inline bool apart(const uint8_t *one, const uint8_t *two)
 {
-    if (one.trigger == COMPLETED && two.trigger == COMPLETED && one.number != two.number)
+    if (one[0] == COMPLETED && two[0] == COMPLETED && get16(one + 4) != get16(two + 4))
         return true;
-    return one.condition == two.condition && one.sense + two.sense == AS_WRITTEN + NEGATED && one.sense != NO_CONDITION
-        && two.sense != NO_CONDITION;
+    return one[1] != NO_CONDITION && two[1] != NO_CONDITION && one[1] != two[1] && get16(one + 6) == get16(two + 6);
 }
 
 // The lowest clashing pair. Chains lead from a rule to the next ones with its target and its effect, or the other effect.
@@ -520,18 +520,16 @@ static struct answer first_clash(const struct book *book)
     uint16_t head[MAX_MARKS][2], same[MAX_RULES], opposite[MAX_RULES];
     memset(head, 0xFF, sizeof head);
     for (uint32_t p = book->rules; p-- > 0;) {
-        const uint8_t *at = book->rules_at + 10 * p;
-        uint16_t *heads = head[get16(at + 8)];
-        same[p] = heads[at[2]];
-        opposite[p] = heads[1 - at[2]];
-        heads[at[2]] = (uint16_t)p;
+        const uint8_t *rule = book->rules_at + 10 * p;
+        uint16_t *heads = head[get16(rule + 8)];
+        same[p] = heads[rule[2]];
+        opposite[p] = heads[1 - rule[2]];
+        heads[rule[2]] = (uint16_t)p;
     }
     for (uint32_t p = 0; p < book->rules; p++) {
-        if (opposite[p] == NO_RULE)
-            continue;
-        struct rule rule = rule_of(book, p);
+        const uint8_t *rule = book->rules_at + 10 * p;
         for (uint32_t q = opposite[p]; q != NO_RULE; q = same[q])
-            if (!apart(rule, rule_of(book, q)))
+            if (!apart(rule, book->rules_at + 10 * q))
                 return refused(26, p, q);
     }
     return granted;
