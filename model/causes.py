@@ -6,9 +6,8 @@
 import ozhimka as model
 from chances import (random_chart_image, random_flat, random_nodes, random_order, random_relations, random_snapshot,
                      sound_book)
-from ozhimka import (AND, BECOME_NO, BECOME_YES, CLEAR, COMPLETED, CONDITION, EXCLUDE, GRANTED, INCLUDE, MILESTONE, NONE,
-                     NOT, OR, RESPONSE, SET, Book, FlatChart, Marking, Rule, book_image, chart_image, on_completion,
-                     without_trigger)
+from ozhimka import (AND, BECOME_NO, BECOME_YES, CLEAR, COMPLETED, CONDITION, EXCLUDE, GRANTED, INCLUDE, NONE, NOT, OR, SET,
+                     Book, FlatChart, Marking, Rule, book_image, chart_image, on_completion, without_trigger)
 from protocol import (bytes16, bytes32, check_request, complete_request, count_request, derive_request, execute_request,
                       finished_request, matching_request, read_request)
 
@@ -306,6 +305,16 @@ def sound_small():
                        Rule(BECOME_YES, 2, CLEAR, 0, 4, 1, 5)], [(0, 2), (2, 3)], [3, NOT, 3, 4, OR])
 
 
+def passing(book):
+    """The check of a book that has no fault, with room just enough."""
+    return GRANTED, check_request(len(book.rules), book_image(book))
+
+
+def of_text(answer, words, marks):
+    """The check of one condition's text."""
+    return answer, check_request(0, book_image(Book(0, marks, [], [(0, len(words))], words)))
+
+
 def both_calls(rng, answer, image, rules):
     """The check and a completion give codes 20 to 26 alike."""
     snapshot = random_snapshot(rng, rng.choice((8, 256)))
@@ -355,7 +364,7 @@ def rule_causes(rng):
     # what just exists
     for edge in (good._replace(number=2), good._replace(target=7), Rule(2, 0, 1, 0, 7, 0, 6), Rule(3, 0, 1, 0, 7, 0, 6),
                  Rule(0, 1, 1, 0, 0, 1, 7)):
-        yield GRANTED, check_request(1, book_image(small._replace(rules=[edge])))
+        yield passing(small._replace(rules=[edge]))
     none = Book(0, 0, [], [], [])
     for rule in (Rule(0, 0, 1, 0, 0, 0, 0), Rule(1, 0, 1, 0, 0, 0, 0), Rule(2, 0, 1, 0, 0, 0, 0), Rule(0, 1, 1, 0, 0, 0, 0)):
         yield plain(23, 0), check_request(1, book_image(none._replace(rules=[rule])))
@@ -390,21 +399,17 @@ def condition_causes(rng):
             words = [rng.randrange(marks) for _ in range(held)]
             for _ in range(held - 1):
                 words += rng.choice(joins)
-            yield from_check(answer, words, marks)
+            yield of_text(answer, words, marks)
     sixteen = [0] * 16
-    yield from_check(GRANTED, sixteen + [AND, 0] * 9 + [AND] * 15, marks)  # sixteen again and again
-    yield from_check(plain(24, 0), sixteen + [NOT, 0, AND] + [AND] * 15, marks)
+    yield of_text(GRANTED, sixteen + [AND, 0] * 9 + [AND] * 15, marks)  # sixteen again and again
+    yield of_text(plain(24, 0), sixteen + [NOT, 0, AND] + [AND] * 15, marks)
     # words that lie in no condition
-    yield GRANTED, check_request(0, book_image(Book(0, 1, [], [(1, 1)], [AND, 0, 60000, 65532])))
-    yield GRANTED, check_request(0, book_image(Book(0, 0, [], [], [AND, 0, 60000, 65532])))
+    yield passing(Book(0, 1, [], [(1, 1)], [AND, 0, 60000, 65532]))
+    yield passing(Book(0, 0, [], [], [AND, 0, 60000, 65532]))
     yield plain(24, 0), check_request(0, book_image(Book(0, 0, [], [(0, 1)], [0])))
     # overlapping, nested, equal
-    yield GRANTED, check_request(0, book_image(Book(0, 5, [], [(0, 5), (0, 1), (1, 1), (1, 2), (0, 4), (0, 5)], [3, 4, NOT, OR, NOT])))
+    yield passing(Book(0, 5, [], [(0, 5), (0, 1), (1, 1), (1, 2), (0, 4), (0, 5)], [3, 4, NOT, OR, NOT]))
     yield plain(24, 3), check_request(0, book_image(Book(0, 5, [], [(0, 4), (0, 1), (1, 2), (2, 2)], [3, 4, NOT, OR])))
-
-
-def from_check(answer, words, marks):
-    return answer, check_request(0, book_image(Book(0, marks, [], [(0, len(words))], words)))
 
 
 def loop_causes(rng):
@@ -418,10 +423,10 @@ def loop_causes(rng):
             yield from case(plain(25, 2), 1, 3, [Rule(trigger, 0, effect, 0, 2, 0, 2)])
             yield from case(plain(25, 1), 1, 3, [Rule(trigger, 0, effect, 0, 2, 0, 1), Rule(trigger, 0, effect, 0, 1, 0, 2)])
             chain = [Rule(trigger, 0, effect, 0, 2, 0, 1), Rule(trigger, 0, effect, 0, 1, 0, 0)]
-            yield GRANTED, check_request(2, book_image(Book(0, 3, chain, [], [])))
+            yield passing(Book(0, 3, chain, [], []))
     # a completion refers to nothing: no loop, though stage 0 is targeted
-    yield GRANTED, check_request(2, book_image(Book(1, 2, [on_completion(0, SET, 1), Rule(0, 1, SET, 0, 0, 0, 0)], [(0, 1)], [1])))
-    yield GRANTED, check_request(1, book_image(Book(1, 1, [on_completion(0, CLEAR, 0)], [], [])))
+    yield passing(Book(1, 2, [on_completion(0, SET, 1), Rule(0, 1, SET, 0, 0, 0, 0)], [(0, 1)], [1]))
+    yield passing(Book(1, 1, [on_completion(0, CLEAR, 0)], [], []))
     # rules on completions of different stages still make a loop of the whole book
     yield from case(plain(25, 2), 2, 4, [Rule(COMPLETED, 1, SET, 0, 0, 0, 3), Rule(COMPLETED, 1, SET, 0, 1, 1, 2)],
                     [(0, 1), (1, 1)], [2, 3])
@@ -435,7 +440,7 @@ def loop_causes(rng):
     # a loop through the last word of a text, also where the mark does not matter to its value
     yield from case(plain(25, 1), 1, 4, [without_trigger(1, 0, SET, 1)], [(0, 9)], [2, 2, NOT, OR, 3, OR, 1, OR, NOT][:9])
     # the condition is there but no rule uses it; a rule with the same text through another record does
-    yield GRANTED, check_request(1, book_image(Book(1, 2, [Rule(0, 0, 1, 0, 0, 0, 1)], [(0, 1)], [1])))
+    yield passing(Book(1, 2, [Rule(0, 0, 1, 0, 0, 0, 1)], [(0, 1)], [1]))
     yield from case(plain(25, 1), 1, 2, [without_trigger(1, 1, SET, 1)], [(0, 1), (1, 1)], [0, 1])
     yield from case(plain(25, 1), 1, 2, [without_trigger(2, 1, CLEAR, 1)], [(0, 1), (0, 3)], [0, 1, AND])
     # code 25 comes before 26
@@ -461,7 +466,8 @@ def clash_causes(rng):
     firsts = [(trigger, sense) for trigger in triggers for sense in senses]
     for (kind, number), (sense, condition) in firsts:
         one = Rule(kind, sense, SET, 0, number, condition, 4)
-        for (kind, number), (sense, condition) in rng.sample(firsts, 4) + [((one.trigger, one.number), (3 - one.sense, one.condition))]:
+        opposite = ((one.trigger, one.number), (3 - one.sense, one.condition))
+        for (kind, number), (sense, condition) in rng.sample(firsts, 4) + [opposite]:
             if sense > 2 or (sense == 0 and condition):
                 continue
             two = Rule(kind, sense, CLEAR, 0, number, condition, 4)
@@ -469,13 +475,14 @@ def clash_causes(rng):
                 or (one.condition == two.condition and {one.sense, two.sense} == {1, 2})
             pair = [one, two] if rng.random() < 0.5 else [two, one]
             if apart:
-                yield GRANTED, check_request(2, book_image(Book(4, 8, pair, [(0, 1), (1, 1), (0, 1)], [5, 6])))
+                yield passing(Book(4, 8, pair, [(0, 1), (1, 1), (0, 1)], [5, 6]))
             else:
                 yield from case(plain(26, 0, 1), pair)
-    yield GRANTED, check_request(2, book_image(Book(2, 2, [on_completion(0, SET, 1), on_completion(1, CLEAR, 1)], [], [])))  # P10
-    yield plain(26, 0, 1), check_request(2, book_image(Book(2, 2, [on_completion(0, SET, 1), on_completion(0, CLEAR, 1)], [], [])))
+    yield passing(Book(2, 2, [on_completion(0, SET, 1), on_completion(1, CLEAR, 1)], [], []))  # P10
+    both = Book(2, 2, [on_completion(0, SET, 1), on_completion(0, CLEAR, 1)], [], [])
+    yield plain(26, 0, 1), check_request(2, book_image(both))
     # the same effect never clashes, nor do different targets
-    yield GRANTED, check_request(3, book_image(Book(1, 3, [on_completion(0, SET, 1)] * 2 + [on_completion(0, CLEAR, 2)], [], [])))
+    yield passing(Book(1, 3, [on_completion(0, SET, 1)] * 2 + [on_completion(0, CLEAR, 2)], [], []))
     # the lowest first rule, then the lowest second
     quiet = [on_completion(1, SET, 7)]
     fight = [on_completion(0, SET, 4), on_completion(0, CLEAR, 4)]
@@ -486,7 +493,7 @@ def clash_causes(rng):
     yield from case(plain(26, 2, 3), quiet * 2 + [fight[1], fight[0], fight[0]])
     # in a row of completions of different stages the one that repeats a stage clashes
     row = [on_completion(0, SET, 4), on_completion(1, CLEAR, 4), on_completion(2, SET, 4), on_completion(3, CLEAR, 4)]
-    yield GRANTED, check_request(4, book_image(Book(4, 8, row, [], [])))
+    yield passing(Book(4, 8, row, [], []))
     yield from case(plain(26, 2, 4), row + [on_completion(2, CLEAR, 4)])
     yield from case(plain(26, 1, 4), row + [on_completion(1, SET, 4)])
     yield from case(plain(26, 1, 4), row + [without_trigger(0, 0, SET, 4)])
@@ -497,8 +504,9 @@ def order_causes(rng):
     book = sound_small()
     image, order = book_image(book), [0, 1, 2, 3]
     opened = [True] * 8 + [False] * 248
-    for wrong in ([], [0], [0, 1, 2], [0, 1, 2, 3, 3], [0, 1, 2, 3, 4], [0, 1, 2, 2], [0, 0, 2, 3], [0, 1, 2, 4], [0, 1, 2, 65535],
-                  [0, 1, 3, 2], [2, 0, 1, 3], [0, 2, 1, 3], [3, 2, 1, 0], [1, 2, 0, 3], [0, 1, 2, 256], [256, 1, 2, 3]):
+    for wrong in ([], [0], [0, 1, 2], [0, 1, 2, 3, 3], [0, 1, 2, 3, 4],  # another length
+                  [0, 1, 2, 2], [0, 0, 2, 3], [0, 1, 2, 4], [0, 1, 2, 65535], [0, 1, 2, 256], [256, 1, 2, 3],
+                  [0, 1, 3, 2], [2, 0, 1, 3], [0, 2, 1, 3], [3, 2, 1, 0], [1, 2, 0, 3]):
         yield plain(27), complete_request(rng.choice((0, 3, HUGE)), rng.choice((opened, [True] * 256)), wrong, image)
     for right in (order, [1, 0, 2, 3]):
         for stage in range(3):
@@ -520,7 +528,7 @@ def order_causes(rng):
     yield plain(27), complete_request(0, [True] + [False] * 255, [0, 0], pair)  # P12
     for book in (Book(0, 0, [], [], []), Book(0, 256, [], [], []), Book(0, 3, [Rule(2, 0, 1, 0, 0, 0, 1)], [], [])):
         order = list(range(len(book.rules)))
-        yield GRANTED, check_request(len(order), book_image(book))
+        yield passing(book)
         yield plain(29), complete_request(0, [False] * 256, order, book_image(book))
         if book.marks < 256:
             yield plain(28), complete_request(0, [mark == book.marks for mark in range(256)], order, book_image(book))
@@ -551,7 +559,7 @@ def running_order_causes(rng):
             yield GRANTED, complete_request(0, snapshot, model.running_order(book), book_image(book))
     for _ in range(6):
         book = sound_book(rng, stages=2, marks=14, rules=40)
-        yield GRANTED, check_request(40, book_image(book))
+        yield passing(book)
         yield None, complete_request(0, [mark < 14 for mark in range(256)], random_order(rng, book), book_image(book))
 
 
@@ -568,8 +576,10 @@ def firing_causes(rng):
     for sense in (1, 2):
         for values in range(8):
             a, b, c = [values >> i & 1 == 1 for i in range(3)]
-            for words in ([1, 2, AND], [1, 2, OR], [1, NOT], [1, 2, AND, 3, OR], [1, 2, 3, OR, AND], [1, NOT, 2, OR, 3, AND, NOT]):
-                book = Book(1, 6, [without_trigger(sense, 0, SET, 4), without_trigger(3 - sense, 0, CLEAR, 4)], [(0, len(words))], words)
+            for words in ([1, 2, AND], [1, 2, OR], [1, NOT], [1, 2, AND, 3, OR], [1, 2, 3, OR, AND],
+                          [1, NOT, 2, OR, 3, AND, NOT]):
+                rules = [without_trigger(sense, 0, SET, 4), without_trigger(3 - sense, 0, CLEAR, 4)]
+                book = Book(1, 6, rules, [(0, len(words))], words)
                 snapshot = [True, a, b, c, rng.random() < 0.5, rng.random() < 0.5] + [False] * 250
                 yield GRANTED, complete_request(0, snapshot, [0, 1], book_image(book))
     # another stage's completion does not fire; a completed stage does not close by itself
@@ -577,7 +587,8 @@ def firing_causes(rng):
     for stage in (0, 1):
         yield GRANTED, complete_request(stage, [True, True] + [False] * 254, [0, 1], book_image(book))
     # a closing rule for the completed stage itself, and a rule that reads a mark settled before it
-    book = Book(1, 3, [on_completion(0, CLEAR, 0), Rule(BECOME_NO, 0, SET, 0, 0, 0, 1), without_trigger(2, 0, SET, 2)], [(0, 1)], [1])
+    rules = [on_completion(0, CLEAR, 0), Rule(BECOME_NO, 0, SET, 0, 0, 0, 1), without_trigger(2, 0, SET, 2)]
+    book = Book(1, 3, rules, [(0, 1)], [1])
     yield GRANTED, complete_request(0, [True] + [False] * 255, [0, 1, 2], book_image(book))
 
 
@@ -648,7 +659,7 @@ def largest_hand_made(rng):
     """64 stages, 256 marks, 8,384 rules, 256 conditions, 41,024 words."""
     book = sound_book(rng, 64, 256, 8384, 256, longest=16)
     book = book._replace(words=(book.words + [AND] * 41024)[:41024])
-    yield GRANTED, check_request(8384, book_image(book))
+    yield passing(book)
     snapshot = [True] * 64 + random_snapshot(rng, 256)[64:]
     yield GRANTED, complete_request(63, snapshot, model.running_order(book), book_image(book))
 
@@ -661,10 +672,11 @@ def wide_conditions(rng):
     words = [0] + [rng.choice((1, 2)), AND] * 255
     spans = [(0, 2 * i + 1) for i in range(256)]
     rng.shuffle(spans)
-    yield GRANTED, check_request(0, book_image(Book(0, 3, [], spans, words)))
+    yield passing(Book(0, 3, [], spans, words))
     setting = [on_completion(rng.randrange(64), SET, 255) for _ in range(700)]
-    yield GRANTED, check_request(700, book_image(Book(64, 256, setting, [], [])))
-    yield plain(26, 0, 700), check_request(701, book_image(Book(64, 256, setting + [without_trigger(0, 0, CLEAR, 255)], [], [])))
+    yield passing(Book(64, 256, setting, [], []))
+    against = setting + [without_trigger(0, 0, CLEAR, 255)]
+    yield plain(26, 0, 700), check_request(701, book_image(Book(64, 256, against, [], [])))
     yield plain(26, 699, 700), check_request(701, book_image(
         Book(64, 256, [rule._replace(number=rule.number % 63) for rule in setting[:-1]]
              + [on_completion(63, SET, 255), on_completion(63, CLEAR, 255)], [], [])))

@@ -1,7 +1,7 @@
 # Random charts, markings, books, orders and snapshots, and the families of random requests made from them.
 
 import ozhimka as model
-from ozhimka import AND, NONE, NOT, OR, Book, FlatChart, Marking, Rule
+from ozhimka import AND, NONE, NOT, OR, Book, Marking, Rule
 from protocol import (check_request, complete_request, count_request, derive_request, execute_request,
                       finished_request, matching_request, read_request)
 
@@ -258,20 +258,40 @@ def sound_runs(rng):
         snapshot = model.complete(image, order, snapshot, stage)[1]
 
 
-def side_by_side(rng, longest=25):
-    """A chart and its derived book through one sequence of steps; the model's two sides must agree at each."""
-    answer = None
-    while answer != model.GRANTED:
+def accepted_image(rng):
+    """A random chart that the reader accepts."""
+    while True:
         image = random_chart_image(rng)
-        answer, chart, marking = model.read_chart(image)
+        if model.read_chart(image)[0] == model.GRANTED:
+            return image
+
+
+def side_by_side(rng, longest=25):
+    """A chart and its derived book through one sequence of steps."""
+    image = accepted_image(rng)
+    chart, start = model.read_chart(image)[1:]
     yield read_request(image)
-    book = model.book_image(model.derived_book(chart))
-    rules = model.number32(book, 8)
+    yield from run_of_both(rng, chart, start, rng.randrange(1, longest))
+
+
+def long_runs(rng):
+    """A hundred steps of a wider chart and its book."""
+    chart = random_flat(rng, rng.randrange(20, 40), 0.03)
+    start = Marking(set(), some(rng, range(chart.count), 0.2), some(rng, range(chart.count), 0.9))
+    yield from run_of_both(rng, chart, start, 100)
+
+
+def run_of_both(rng, chart, marking, steps_to_go):
+    """The chart's step and the book's completion, one after the other; the model's two sides must agree at each."""
+    derived = model.derived_book(chart)
+    book, rules = model.book_image(derived), len(derived.rules)
     yield derive_request(len(book), chart)
     yield check_request(rules, book)
     order = model.check_book(book, [0] * rules)[1]
+    if rules < 100 and rng.random() < 0.3:
+        order = random_order(rng, derived)
     snapshot = model.matching(chart, marking)[1]
-    for _ in range(rng.randrange(1, longest)):
+    for _ in range(steps_to_go):
         opened = model.open_events(chart, marking)
         event = rng.choice(opened) if opened and rng.random() < 0.8 else rng.randrange(chart.count)
         yield execute_request(chart, marking, event)

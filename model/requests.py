@@ -42,6 +42,7 @@ def stream(seed):
         jobs = [lambda make=make: make(rng) for make in causes.CAUSES]
         if number % 4 == 0:
             jobs += [lambda make=make: make(rng) for make in causes.LARGEST]
+            jobs += [lambda: unmeant(chances.long_runs(rng))]
         for make in chances.SMALL:
             jobs += [lambda make=make: unmeant(make(rng))] * 80
         for make in chances.WIDE:
