@@ -1,13 +1,13 @@
 -- Tests over the numbers below k: every one passes, some one passes, the first that passes, how many pass. Assumes nothing.
-use mathlib.Core.Path.{_≡_, refl}
+use mathlib.Core.Path.{_≡_, refl, sym, _∙_}
 use mathlib.Core.Logic.{_≢_}
-use mathlib.Core.Bool.{Bool, true, false, cond, _&&_, _||_}
+use mathlib.Core.Bool.{Bool, true, false, not, cond, _&&_, _||_, and-true}
 use Prim.Native.Nat.{ℕ, zero, suc, _+_, _≤_, _<_}
 use native.Mathlib.Numerals.{add-one}
 use native.Mathlib.Omega.{arith}
 use native.Mathlib.Nat.{le-antisymm, lt-of-not-le, le-of-suc-le-suc}
 use lib.Dec.{eqb}
-use borrow.Author.Tests.{eqb-true, eqb-false}
+use borrow.Author.Tests.{eqb-true, eqb-false, eq-eqb, ne-eqb}
 use Rattle.sets.specs.Cases.{contra, cases, both, either, or-left, or-right, not-so, lt-suc}
 
 -- ---- every one
@@ -105,8 +105,59 @@ first-found k f r h l e =
 pub first-none : (k : ℕ) (f : ℕ → Bool) → ((p : ℕ) → p < k → f p ≡ false) → k ≡ first k f
 first-none k f l = first-unique k f k (first k f) (record { fits = omega arith; passes = λ h. absurd (omega arith); lowest = l }) (first-is k f)
 
+pub first-same : (k : ℕ) (f g : ℕ → Bool) → ((p : ℕ) → p < k → f p ≡ g p) → first k f ≡ first k g
+first-same k f g h =
+    let l = first-is k f in
+    let i = l .fits in
+    first-unique k g (first k f) (first k g)
+    (record { fits = i; passes = λ c. sym (h (first k f) c) ∙ l .passes c; lowest = λ p c. sym (h p (omega arith)) ∙ l .lowest p c }) (first-is k g)
+
+-- a case split: some number below k passes, or none does
+pub find : {C : Type 0} (k : ℕ) (f : ℕ → Bool) → ((p : ℕ) → p < k → f p ≡ true → C) → (((p : ℕ) → p < k → f p ≡ false) → C) → C
+find {C} k f y n =
+    let l = first-is k f in let i = l .fits in
+    cases (eqb (first k f) k)
+    (λ e. n (λ p h. l .lowest p (omega (arith, eqb-true (first k f) k e))))
+    (λ e. let x : first k f ≢ k = eqb-false (first k f) k e in let c : first k f < k = omega arith in y (first k f) c (l .passes c))
+
 -- ---- how many
 
 unfoldable pub tally : ℕ → (ℕ → Bool) → ℕ
 tally zero f = zero
 tally (suc k) f = cond (f k) 1 0 + tally k f
+
+pub tally-same : (k : ℕ) (f g : ℕ → Bool) → ((p : ℕ) → p < k → f p ≡ g p) → tally k f ≡ tally k g
+unfolding tally
+tally-same zero f g h = refl
+tally-same (suc k) f g h = rw (h k (omega arith), tally-same k f g (λ p l. h p (omega arith)))
+
+pub tally-all : (k : ℕ) (f : ℕ → Bool) → ((p : ℕ) → p < k → f p ≡ true) → tally k f ≡ k
+unfolding tally
+tally-all zero f h = refl
+tally-all (suc k) f h = rw (h k (omega arith)) (omega (arith, tally-all k f (λ p l. h p (omega arith))))
+
+-- one that passes f and not g, where they agree else
+pub tally-less : (k : ℕ) (f g : ℕ → Bool) (r : ℕ) → r < k → f r ≡ true → g r ≡ false → ((p : ℕ) → p < k → p ≢ r → f p ≡ g p) → tally k f ≡ suc (tally k g)
+unfolding tally
+tally-less zero f g r h a b e = absurd (omega arith)
+tally-less (suc k) f g r h a b e =
+    lt-suc h
+    (λ q. rw (rw q at a, rw q at b, tally-same k f g (λ p l. e p (omega arith) (λ x. omega arith))) (omega arith))
+    (λ l. rw (e k (omega arith) (λ x. omega arith)) (omega (arith, tally-less k f g r l a b (λ p i. e p (omega arith)))))
+
+-- none passes exactly if the number is 0
+pub tally-none : (k : ℕ) (f : ℕ → Bool) → ((p : ℕ) → p < k → f p ≡ false) → tally k f ≡ 0
+unfolding tally
+tally-none zero f h = refl
+tally-none (suc k) f h = rw (h k (omega arith)) (omega (arith, tally-none k f (λ p l. h p (omega arith))))
+
+pub none-tally : (k : ℕ) (f : ℕ → Bool) → tally k f ≡ 0 → (p : ℕ) → p < k → f p ≡ false
+none-tally k f z p h = not-so (λ e. absurd (omega (arith, tally-less k f (λ q. f q && not (eqb q p)) p h e (rw (eq-eqb p p refl, e)) (λ q l n. rw (ne-eqb q p n) (sym (and-true (f q)))))))
+
+pub tally-some : (k : ℕ) (f : ℕ → Bool) → 0 < tally k f → (p : ℕ) × (p < k) × (f p ≡ true)
+tally-some k f h = find k f (λ p c e. (p, c, e)) (λ n. absurd (omega (arith, tally-none k f n)))
+
+-- one turn of a loop that goes up
+pub tally-step : (k : ℕ) (f : ℕ → Bool) → tally (k + 1) f ≡ cond (f k) 1 0 + tally k f
+unfolding tally
+tally-step k f = rw add-one

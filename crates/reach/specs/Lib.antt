@@ -1,0 +1,4 @@
+-- The root of the crate's specs.
+pub mod Closure
+pub mod Rows
+pub mod Bits
