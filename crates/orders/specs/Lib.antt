@@ -1,0 +1,10 @@
+-- The root of the crate's specs.
+pub mod Order
+pub mod Loops
+pub mod Written
+pub mod Running
+pub mod Settle
+pub mod Snapshots
+pub mod Index
+pub mod Pass
+pub mod Marks

@@ -1,0 +1,1 @@
+// The theory of orders stands in specs/; it has no code.
