@@ -41,6 +41,11 @@ pub record FitMarking (n : ℕ) (m : Marking) : Type 0 where
   pub pending : (f : ℕ) → In (m .pending) f → f < n
   pub included : (f : ℕ) → In (m .included) f → f < n
 
+-- a chart in its parts, as the calls lend them
+abbrev pub chartOf : ℕ → List ℕ → List ℕ → List ℕ → List ℕ → List ℕ → FlatChart
+chartOf count conditions responses milestones includes excludes =
+    record { count = count; conditions = conditions; responses = responses; milestones = milestones; includes = includes; excludes = excludes }
+
 -- ---- what a refused reading gives
 
 unfoldable pub emptyChart : FlatChart

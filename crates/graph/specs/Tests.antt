@@ -10,6 +10,7 @@ use lib.Dec.{eqb, leb, ltb}
 use borrow.Author.Tests.{lt-leb, le-leb, lt-ltb, le-ltb}
 use Rattle.paper.specs.Limits.{maxEvents}
 use Rattle.sets.specs.Set.{union, inter, minus, within, allBelow}
+use Rattle.graph.specs.Chart.{chartOf}
 use Rattle.graph.specs.declared.FlatChart.{FlatChart}
 use Rattle.graph.specs.declared.Marking.{Marking}
 
@@ -50,18 +51,18 @@ fitTables n c = eqb (spillOf n (c .conditions) (c .responses) (c .milestones) (c
 unfoldable pub fitChart : FlatChart → Bool
 fitChart c = leb 1 (c .count) && leb (c .count) maxEvents && fitTables (c .count) c
 
-pub chart-few : (c : FlatChart) → c .count < 1 → false ≡ fitChart c
-unfolding fitChart
-chart-few c h = simp (lt-leb 1 (c .count) h)
+module _ (n : ℕ) (a b d i x : List ℕ) where
+  pub chart-few : n < 1 → false ≡ fitChart (chartOf n a b d i x)
+  unfolding fitChart
+  chart-few h = simp (lt-leb 1 n h)
 
-pub chart-many : (c : FlatChart) → maxEvents < c .count → false ≡ fitChart c
-unfolding fitChart
-chart-many c h = simp (lt-leb (c .count) maxEvents h, and-false)
+  pub chart-many : maxEvents < n → false ≡ fitChart (chartOf n a b d i x)
+  unfolding fitChart
+  chart-many h = simp (lt-leb n maxEvents h, and-false)
 
-pub chart-tested : (c : FlatChart) (s : ℕ) → 1 ≤ c .count → c .count ≤ maxEvents
-    → s ≡ spillOf (c .count) (c .conditions) (c .responses) (c .milestones) (c .includes) (c .excludes) maxEvents → eqb s 0 ≡ fitChart c
-unfolding fitChart fitTables
-chart-tested c s h l e = simp (le-leb 1 (c .count) h, le-leb (c .count) maxEvents l, e)
+  pub chart-tested : (s : ℕ) → 1 ≤ n → n ≤ maxEvents → s ≡ spillOf n a b d i x maxEvents → eqb s 0 ≡ fitChart (chartOf n a b d i x)
+  unfolding fitChart fitTables
+  chart-tested s h l e = simp (le-leb 1 n h, le-leb n maxEvents l, e)
 
 unfoldable pub fitMarking : ℕ → Marking → Bool
 fitMarking n m = within n (union (union (m .executed) (m .pending)) (m .included))

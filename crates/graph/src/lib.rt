@@ -5,8 +5,8 @@ ghost use mathlib.Core.Path.{_≡_};
 ghost use mathlib.Core.Bool.{Bool, cond};
 ghost use Prim.Native.Nat.{_≤_};
 ghost use lib.Dec.{ltb};
-ghost use Rattle.graph.specs.Chart.{emptyChart, emptyMarking};
-ghost use Rattle.graph.specs.Tests.{allowedAt, rowSpill, spillOf, fitTables, fitChart, fitMarking, fit};
+ghost use Rattle.graph.specs.Chart.{chartOf, emptyChart, emptyMarking};
+ghost use Rattle.graph.specs.Tests.{allowedAt, rowSpill, spillOf, fitChart, fitMarking, fit};
 use paper::MAX_EVENTS;
 
 // One set for each event and kind. Entry e of conditions and milestones is who holds e back; of the others, what e reaches.
@@ -88,6 +88,27 @@ fn spill<'a>(
     over
 }
 
+// Whether the chart of this count and these tables is fit.
+pub fn tables_fit<'a>(
+    count: u32,
+    conditions: &'a [u64; MAX_EVENTS],
+    responses: &'a [u64; MAX_EVENTS],
+    milestones: &'a [u64; MAX_EVENTS],
+    includes: &'a [u64; MAX_EVENTS],
+    excludes: &'a [u64; MAX_EVENTS],
+) -> bool
+    ensures { λ r. ⌜ r ≡ fitChart (chartOf count (now (conditions .entry)) (now (responses .entry)) (now (milestones .entry)) (now (includes .entry)) (now (excludes .entry))) ⌝ }
+{
+    let n = count as usize;
+    if n < 1 {
+        return false;
+    }
+    if MAX_EVENTS < n {
+        return false;
+    }
+    spill(n, conditions, responses, milestones, includes, excludes) == 0
+}
+
 impl FlatChart {
     pub fn empty() -> FlatChart
         ensures { λ r. ⌜ r ≡ emptyChart ⌝ }
@@ -105,22 +126,14 @@ impl FlatChart {
     pub fn is_fit(self) -> bool
         ensures { λ r. ⌜ r ≡ fitChart self ⌝ }
     {
-        let n = self.count as usize;
-        if n < 1 {
-            return false;
-        }
-        if MAX_EVENTS < n {
-            return false;
-        }
-        spill(
-            n,
+        tables_fit(
+            self.count,
             &self.conditions,
             &self.responses,
             &self.milestones,
             &self.includes,
             &self.excludes,
         )
-            == 0
     }
 }
 
@@ -141,11 +154,20 @@ impl Marking {
     {
         sets::inside(self.executed | self.pending | self.included, count as usize)
     }
-}
 
-// Whether the chart is fit, and the marking for it.
-pub fn both_fit(chart: FlatChart, marking: Marking) -> bool
-    ensures { λ r. ⌜ r ≡ fit chart marking ⌝ }
-{
-    marking.is_fit(chart.count) & chart.is_fit()
+    // Whether the chart is fit, and the marking for it.
+    pub fn fits<'a>(
+        self,
+        count: u32,
+        conditions: &'a [u64; MAX_EVENTS],
+        responses: &'a [u64; MAX_EVENTS],
+        milestones: &'a [u64; MAX_EVENTS],
+        includes: &'a [u64; MAX_EVENTS],
+        excludes: &'a [u64; MAX_EVENTS],
+    ) -> bool
+        ensures { λ r. ⌜ r ≡ fit (chartOf count (now (conditions .entry)) (now (responses .entry)) (now (milestones .entry)) (now (includes .entry)) (now (excludes .entry))) self ⌝ }
+    {
+        self.is_fit(count)
+            & tables_fit(count, conditions, responses, milestones, includes, excludes)
+    }
 }

@@ -1,6 +1,7 @@
 // Steps of a flat chart: the open rule, executing, counting what is open, the finished test.
 ghost use mathlib.Core.Path.{_≡_};
 ghost use Prim.Native.Nat.{_<_, _≤_};
+ghost use Rattle.graph.specs.Chart.{chartOf};
 ghost use Rattle.graph.specs.Steps.{unmetOf, awaitedOf, openWith, afterWith, refusing, openAmong, executing, counting, finishing};
 use crate::FlatChart;
 use crate::Marking;
@@ -74,31 +75,55 @@ impl Marking {
         }
     }
 
-    pub fn execute(self, chart: FlatChart, event: u32) -> Step
-        ensures { λ r. ⌜ r ≡ executing chart self event ⌝ }
+    // Executing over lent tables: what `execute` does, with no copy of the chart.
+    pub fn execute_in<'a>(
+        self,
+        count: u32,
+        conditions: &'a [u64; MAX_EVENTS],
+        responses: &'a [u64; MAX_EVENTS],
+        milestones: &'a [u64; MAX_EVENTS],
+        includes: &'a [u64; MAX_EVENTS],
+        excludes: &'a [u64; MAX_EVENTS],
+        event: u32,
+    ) -> Step
+        ensures { λ r. ⌜ r ≡ executing (chartOf count (now (conditions .entry)) (now (responses .entry)) (now (milestones .entry)) (now (includes .entry)) (now (excludes .entry))) self event ⌝ }
     {
-        if !crate::both_fit(chart, self) {
+        if !self.fits(count, conditions, responses, milestones, includes, excludes) {
             return self.refused(paper::UNFIT, 0);
         }
-        if chart.count <= event {
+        if count <= event {
             return self.refused(paper::NO_SUCH_EVENT, 0);
         }
         let e = event as usize;
         if !sets::member(self.included, e) {
             return self.refused(paper::NOT_INCLUDED, 0);
         }
-        let unmet = self.unmet(chart.conditions[e]);
+        let unmet = self.unmet(conditions[e]);
         if unmet != 0 {
             return self.refused(paper::CONDITION_WANTING, sets::least(unmet));
         }
-        let awaited = self.awaited(chart.milestones[e]);
+        let awaited = self.awaited(milestones[e]);
         if awaited != 0 {
             return self.refused(paper::MILESTONE_WANTING, sets::least(awaited));
         }
         Step {
             answer: paper::granted(),
-            marking: self.after(e, chart.responses[e], chart.includes[e], chart.excludes[e]),
+            marking: self.after(e, responses[e], includes[e], excludes[e]),
         }
+    }
+
+    pub fn execute(self, chart: FlatChart, event: u32) -> Step
+        ensures { λ r. ⌜ r ≡ executing chart self event ⌝ }
+    {
+        self.execute_in(
+            chart.count,
+            &chart.conditions,
+            &chart.responses,
+            &chart.milestones,
+            &chart.includes,
+            &chart.excludes,
+            event,
+        )
     }
 
     // The open events among the first n.
@@ -120,17 +145,26 @@ impl Marking {
         all
     }
 
-    pub fn count_open(self, chart: FlatChart) -> OpenCount
-        ensures { λ r. ⌜ r ≡ counting chart self ⌝ }
+    // Counting over lent tables.
+    pub fn count_in<'a>(
+        self,
+        count: u32,
+        conditions: &'a [u64; MAX_EVENTS],
+        responses: &'a [u64; MAX_EVENTS],
+        milestones: &'a [u64; MAX_EVENTS],
+        includes: &'a [u64; MAX_EVENTS],
+        excludes: &'a [u64; MAX_EVENTS],
+    ) -> OpenCount
+        ensures { λ r. ⌜ r ≡ counting (chartOf count (now (conditions .entry)) (now (responses .entry)) (now (milestones .entry)) (now (includes .entry)) (now (excludes .entry))) self ⌝ }
     {
-        if !crate::both_fit(chart, self) {
+        if !self.fits(count, conditions, responses, milestones, includes, excludes) {
             return OpenCount {
                 answer: paper::refused(paper::UNFIT, 0, 0),
                 count: 0,
                 lowest: MAX_EVENTS as u32,
             };
         }
-        let open = self.open_among(chart.count as usize, &chart.conditions, &chart.milestones);
+        let open = self.open_among(count as usize, conditions, milestones);
         OpenCount {
             answer: paper::granted(),
             count: sets::count(open),
@@ -138,11 +172,32 @@ impl Marking {
         }
     }
 
-    // Whether no event is both included and pending.
-    pub fn finished(self, chart: FlatChart) -> Finished
-        ensures { λ r. ⌜ r ≡ finishing chart self ⌝ }
+    pub fn count_open(self, chart: FlatChart) -> OpenCount
+        ensures { λ r. ⌜ r ≡ counting chart self ⌝ }
     {
-        if !crate::both_fit(chart, self) {
+        self.count_in(
+            chart.count,
+            &chart.conditions,
+            &chart.responses,
+            &chart.milestones,
+            &chart.includes,
+            &chart.excludes,
+        )
+    }
+
+    // The finished test over lent tables: whether no event is both included and pending.
+    pub fn finished_in<'a>(
+        self,
+        count: u32,
+        conditions: &'a [u64; MAX_EVENTS],
+        responses: &'a [u64; MAX_EVENTS],
+        milestones: &'a [u64; MAX_EVENTS],
+        includes: &'a [u64; MAX_EVENTS],
+        excludes: &'a [u64; MAX_EVENTS],
+    ) -> Finished
+        ensures { λ r. ⌜ r ≡ finishing (chartOf count (now (conditions .entry)) (now (responses .entry)) (now (milestones .entry)) (now (includes .entry)) (now (excludes .entry))) self ⌝ }
+    {
+        if !self.fits(count, conditions, responses, milestones, includes, excludes) {
             return Finished {
                 answer: paper::refused(paper::UNFIT, 0, 0),
                 yes: false,
@@ -152,5 +207,18 @@ impl Marking {
             answer: paper::granted(),
             yes: self.included & self.pending == 0,
         }
+    }
+
+    pub fn finished(self, chart: FlatChart) -> Finished
+        ensures { λ r. ⌜ r ≡ finishing chart self ⌝ }
+    {
+        self.finished_in(
+            chart.count,
+            &chart.conditions,
+            &chart.responses,
+            &chart.milestones,
+            &chart.includes,
+            &chart.excludes,
+        )
     }
 }

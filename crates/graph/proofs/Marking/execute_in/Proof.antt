@@ -1,11 +1,11 @@
--- `graph::Marking::execute` meets its contract. Each return is a case of `executing`. Assumes nothing.
+-- `graph::Marking::execute_in` meets its contract. Each return is a case of `executing`. Assumes nothing.
 use Rattle.graph.specs.Steps.{fit-index, step-unfit, step-gone, step-excluded, step-unmet, step-awaited, step-done}
 use borrow.Author.Needs.{needs}
-use Rattle.graph.proofs.Marking.execute.Statement.{statement}
-use Rattle.graph.proofs.Marking.execute.Tie as tie
+use Rattle.graph.proofs.Marking.execute_in.Statement.{statement}
+use Rattle.graph.proofs.Marking.execute_in.Tie as tie
 
-pub execute-spec : {M : Type 1} → statement M
-execute-spec =
+pub execute-in-spec : {M : Type 1} → statement M
+execute-in-spec =
     tie.close
     (tie.spec
     (λ c κs. search needs)
