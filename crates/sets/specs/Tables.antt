@@ -20,3 +20,9 @@ unfolding tabulate
 getD-tabulate zero f k d h = absurd (omega arith)
 getD-tabulate (suc n) f zero d h = refl
 getD-tabulate (suc n) f (suc k) d h = getD-tabulate n (λ k. f (suc k)) k d (omega arith)
+
+-- functions that agree below n make one list
+pub tabulate-same : {A : Type 0} (n : ℕ) (f g : ℕ → A) → ((k : ℕ) → k < n → f k ≡ g k) → tabulate n f ≡ tabulate n g
+unfolding tabulate
+tabulate-same zero f g h = refl
+tabulate-same (suc n) f g h = rw (h zero (omega arith), tabulate-same n (λ k. f (suc k)) (λ k. g (suc k)) (λ k l. h (suc k) (omega arith)))
