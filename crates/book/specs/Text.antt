@@ -1,8 +1,9 @@
--- "Text is postfix": what a text says in a snapshot, as a fold with a list for a stack, and which texts are good. Assumes nothing.
+-- "Text is postfix": what a text says in a snapshot, as a fold with a list for a stack. Assumes nothing.
 use mathlib.Core.Path.{_≡_, refl}
 use mathlib.Core.Bool.{Bool, true, false, not, cond, _&&_, _||_}
 use mathlib.Core.List.{List, [], _∷_}
 use Prim.Native.Nat.{ℕ}
+use lib.ListN.{getD}
 use lib.Dec.{eqb}
 use borrow.Author.Tests.{eq-eqb}
 use Rattle.paper.specs.Limits.{andWord, orWord, notWord}
@@ -11,6 +12,10 @@ use Rattle.sets.specs.Cases.{or-right}
 -- a snapshot, for the theorems: each mark yes or no
 abbrev pub Snap : Type 0
 Snap = ℕ → Bool
+
+-- a list of marks, read as a snapshot; past its end every mark is no
+abbrev pub snapOf : List Bool → Snap
+snapOf l m = getD l m false
 
 -- ---- what a text says
 

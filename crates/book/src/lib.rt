@@ -1,5 +1,24 @@
 // Rule books: the image's header, rules, conditions and texts, and the snapshot that the rules alter.
 
+pub mod applying;
+pub mod eval;
+pub mod firing;
+pub mod header;
+pub mod judging;
+pub mod reader;
+pub mod references;
+pub mod rules;
+pub mod texts;
+
+// The header's five counts.
+pub struct Counts {
+    pub stages: u32,
+    pub marks: u32,
+    pub rules: u32,
+    pub conditions: u32,
+    pub words: u32,
+}
+
 // What a rule waits for.
 pub enum Trigger {
     None,
@@ -13,6 +32,12 @@ pub enum Sense {
     NoCondition,
     AsWritten(u16),
     Negated(u16),
+}
+
+// A condition's words: where they start, and how many.
+pub struct Span {
+    pub start: u32,
+    pub count: u32,
 }
 
 // A rule decoded from its ten bytes.

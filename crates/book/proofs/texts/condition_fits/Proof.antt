@@ -1,0 +1,22 @@
+-- `book::texts::condition_fits` meets its contract. Assumes nothing.
+use Rattle.book.proofs.Returns.{condition-none, condition-past, condition-text}
+use borrow.Author.Needs.{needs}
+use Rattle.book.proofs.texts.condition_fits.Statement.{statement}
+use Rattle.book.proofs.texts.condition_fits.Tie as tie
+
+pub condition-fits-spec : {M : Type 1} → statement M
+condition-fits-spec =
+    tie.close
+    (tie.spec
+    (λ c κs. search needs)
+    (λ c. search needs)
+    (λ c. search needs)
+    (λ c κs. search needs)
+    (λ c. search needs)
+    (λ c. search condition-none)
+    (λ c. search needs)
+    (λ c. search condition-past)
+    (λ c. search needs)
+    (λ c. search needs)
+    (λ c κs. search needs)
+    (λ c. search condition-text))

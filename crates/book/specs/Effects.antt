@@ -1,0 +1,25 @@
+-- "A firing rule sets or clears its target." Assumes nothing.
+use mathlib.Core.Path.{_≡_}
+use mathlib.Core.Bool.{Bool, false, cond}
+use mathlib.Core.List.{List}
+use Prim.Native.Nat.{ℕ, _<_}
+use lib.ListN.{length, set, length-set}
+use lib.Seq.{getD-set-same, getD-set-other}
+use lib.Dec.{eqb}
+use borrow.Author.Tests.{eqb-true, eqb-false}
+use Rattle.sets.specs.Cases.{cases}
+use Rattle.book.specs.Text.{snapOf}
+use Rattle.book.specs.declared.Rule.{Rule}
+
+-- the marks after the rule r has fired
+abbrev pub effectOn : List Bool → Rule → List Bool
+effectOn marks r = set marks (r .target) (r .effect)
+
+pub length-effect : (marks : List Bool) (r : Rule) → length (effectOn marks r) ≡ length marks
+length-effect marks r = length-set marks (r .target) (r .effect)
+
+-- the target has the rule's value, and every other mark is as it was
+pub effect-at : (marks : List Bool) (r : Rule) (m : ℕ) → r .target < length marks → snapOf (effectOn marks r) m ≡ cond (eqb m (r .target)) (r .effect) (snapOf marks m)
+effect-at marks r m h =
+    cases (eqb m (r .target)) (λ e. rw (e, eqb-true m (r .target) e) (getD-set-same marks (r .target) (r .effect) false h))
+    (λ e. rw e (getD-set-other marks (r .target) m (r .effect) false (eqb-false m (r .target) e)))

@@ -1,0 +1,16 @@
+-- What the reader is, and what its methods hand back. Assumes nothing.
+use Prim.Native.Nat.{ℕ, _+_}
+use mathlib.Core.List.{List}
+use denote.Ref.{RefT}
+use Rattle.wire.specs.Wire.{u32At}
+use Rattle.book.specs.declared.Counts.{Counts}
+use Rattle.book.specs.declared.Span.{Span}
+use Rattle.book.specs.declared.reader.BookReader.{BookReader}
+
+-- "a reader that keeps the borrowed image beside its header counts"
+abbrev pub readerOf : RefT (List ℕ) → Counts → BookReader
+readerOf image counts = record { image = image; counts = counts }
+
+-- a condition's start and count, as they stand at the byte `at`
+abbrev pub spanFrom : List ℕ → ℕ → Span
+spanFrom s at = record { start = u32At s at; count = u32At s (at + 4) }

@@ -1,0 +1,26 @@
+// A fired rule sets or clears its target, in the snapshot as it stands.
+ghost use mathlib.Core.Path.{_≡_};
+ghost use Prim.Native.Nat.{_<_};
+ghost use Rattle.paper.specs.Limits.{maxMarks};
+ghost use Rattle.book.specs.Effects.{effectOn};
+use crate::Rule;
+use crate::Snapshot;
+
+// The one mark is stored where it stands.
+pub fn apply(s: &mut Snapshot, r: Rule)
+    requires { ⌜ r .target < maxMarks ⌝ }
+    ensures { λ _. ⌜ now (s .exit) .marks ≡ effectOn (now (s .entry) .marks) r ⌝ }
+{
+    let at = r.target as usize;
+    s.marks[at] = r.effect;
+}
+
+// With plain values: whoever calls it needs no walk.
+pub fn applied(s: Snapshot, r: Rule) -> Snapshot
+    requires { ⌜ r .target < maxMarks ⌝ }
+    ensures { λ t. ⌜ t .marks ≡ effectOn (s .marks) r ⌝ }
+{
+    let mut t = s;
+    apply(&mut t, r);
+    t
+}

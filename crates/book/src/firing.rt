@@ -1,0 +1,89 @@
+// Whether a rule fires: its trigger, and its condition in the marks as they now stand.
+ghost use mathlib.Core.Path.{_≡_};
+ghost use mathlib.Core.Bool.{true, _&&_};
+ghost use Prim.Native.Nat.{_<_};
+ghost use Rattle.paper.specs.Limits.{maxEvents, maxMarks};
+ghost use Rattle.book.specs.Text.{holds, snapOf};
+ghost use Rattle.book.specs.Book.{textOf};
+ghost use Rattle.book.specs.Image.{stagesIn, marksIn, conditionsIn, bookOf};
+ghost use Rattle.book.specs.Firing.{triggered, allowed, firing};
+ghost use Rattle.book.specs.Using.{triggerExists, senseExists, Known, Placed};
+use crate::Rule;
+use crate::Sense;
+use crate::Trigger;
+use crate::eval::text_holds;
+use paper::CONDITION_SIZE;
+use paper::MAX_MARKS;
+use paper::WORD_SIZE;
+
+// What condition c says. Conditions begin at the byte `begin`, words at the byte `from`.
+pub fn condition_holds(
+    image: &[u8],
+    begin: usize,
+    from: usize,
+    c: usize,
+    marks: &[bool; MAX_MARKS],
+) -> bool
+    requires { ⌜ (Placed (now image) begin from) × (c < conditionsIn (now image)) ⌝ }
+    ensures { λ r. ⌜ r ≡ holds (snapOf (now (marks .entry))) (textOf (bookOf (now (image .entry))) c) ⌝ }
+{
+    let at = begin + CONDITION_SIZE * c;
+    let start = wire::u32_at(image, at) as usize;
+    let count = wire::u32_at(image, at + 4) as usize;
+    text_holds(image, from + WORD_SIZE * start, count, marks)
+}
+
+pub fn sense_holds(
+    image: &[u8],
+    begin: usize,
+    from: usize,
+    sense: Sense,
+    marks: &[bool; MAX_MARKS],
+) -> bool
+    requires { ⌜ (Placed (now image) begin from) × (senseExists (conditionsIn (now image)) sense ≡ true) ⌝ }
+    ensures { λ r. ⌜ r ≡ allowed (textOf (bookOf (now (image .entry)))) sense (snapOf (now (marks .entry))) ⌝ }
+{
+    match sense {
+        Sense::NoCondition => true,
+        Sense::AsWritten(c) => condition_holds(image, begin, from, c as usize, marks),
+        Sense::Negated(c) => !condition_holds(image, begin, from, c as usize, marks),
+    }
+}
+
+// The marks at the start of the call, and as they now stand.
+pub fn trigger_holds<'a>(
+    trigger: Trigger,
+    stage: u32,
+    start: &'a [bool; MAX_MARKS],
+    marks: &'a [bool; MAX_MARKS],
+) -> bool
+    requires { ⌜ triggerExists maxEvents maxMarks trigger ≡ true ⌝ }
+    ensures { λ r. ⌜ r ≡ triggered (snapOf (now (start .entry))) stage trigger (snapOf (now (marks .entry))) ⌝ }
+{
+    match trigger {
+        Trigger::None => true,
+        Trigger::Completed(c) => (c as u32) == stage,
+        Trigger::BecomeYes(m) => !start[m as usize] & marks[m as usize],
+        Trigger::BecomeNo(m) => start[m as usize] & !marks[m as usize],
+    }
+}
+
+pub fn rule_fires<'a>(
+    image: &[u8],
+    begin: usize,
+    from: usize,
+    rule: Rule,
+    stage: u32,
+    start: &'a [bool; MAX_MARKS],
+    marks: &'a [bool; MAX_MARKS],
+) -> bool
+    requires { ⌜ (Placed (now image) begin from) × (Known (stagesIn (now image)) (marksIn (now image)) (conditionsIn (now image)) rule) ⌝ }
+    ensures { λ r. ⌜ r ≡ firing (textOf (bookOf (now (image .entry)))) (snapOf (now (start .entry))) stage (snapOf (now (marks .entry))) rule ⌝ }
+{
+    let trigger = rule.trigger;
+    if !trigger_holds(trigger, stage, start, marks) {
+        return false;
+    }
+    let sense = rule.sense;
+    sense_holds(image, begin, from, sense, marks)
+}

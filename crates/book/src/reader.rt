@@ -1,0 +1,56 @@
+// A reader that keeps the borrowed image beside its header counts.
+ghost use mathlib.Core.Path.{_≡_};
+ghost use Prim.Native.Nat.{_+_, _*_, _≤_};
+ghost use lib.ListN.{length};
+ghost use Rattle.paper.specs.Limits.{ruleSize, conditionSize, wordSize};
+ghost use Rattle.wire.specs.Wire.{u16At};
+ghost use Rattle.book.specs.Image.{rulePlace, conditionPlace, wordPlace, ruleFrom};
+ghost use Rattle.book.specs.Reading.{readerOf, spanFrom};
+use crate::Counts;
+use crate::Rule;
+use crate::Span;
+use crate::rules::rule_at;
+use crate::texts::condition_at;
+use crate::texts::word_at;
+
+pub struct BookReader<'a> {
+    pub image: &'a [u8],
+    pub counts: Counts,
+}
+
+pub fn open<'a>(image: &'a [u8], counts: Counts) -> BookReader<'a>
+    ensures { λ r. ⌜ r ≡ readerOf (image .entry) counts ⌝ }
+{
+    BookReader { image, counts }
+}
+
+impl<'a> BookReader<'a> {
+    pub fn rule(self, i: usize) -> Rule
+        requires { ⌜ rulePlace i + ruleSize ≤ length (now (self .image)) ⌝ }
+        ensures { λ r. ⌜ r ≡ ruleFrom (now (self .entry .image)) (rulePlace i) ⌝ }
+    {
+        rule_at(self.image, i)
+    }
+
+    pub fn condition(self, c: usize) -> Span
+        requires { ⌜ conditionPlace (self .counts .rules) c + conditionSize ≤ length (now (self .image)) ⌝ }
+        ensures { λ r. ⌜ r ≡ spanFrom (now (self .entry .image)) (conditionPlace (self .entry .counts .rules) c) ⌝ }
+    {
+        condition_at(self.image, self.counts.rules, c)
+    }
+
+    pub fn word(self, i: usize) -> u16
+        requires { ⌜ wordPlace (self .counts .rules) (self .counts .conditions) i + wordSize ≤ length (now (self .image)) ⌝ }
+        ensures { λ r. ⌜ r ≡ u16At (now (self .entry .image)) (wordPlace (self .entry .counts .rules) (self .entry .counts .conditions) i) ⌝ }
+    {
+        word_at(self.image, self.counts.rules, self.counts.conditions, i)
+    }
+}
+
+// With plain parameters: whoever calls it needs no walk.
+pub fn rule_in(image: &[u8], counts: Counts, i: usize) -> Rule
+    requires { ⌜ rulePlace i + ruleSize ≤ length (now image) ⌝ }
+    ensures { λ r. ⌜ r ≡ ruleFrom (now (image .entry)) (rulePlace i) ⌝ }
+{
+    open(image, counts).rule(i)
+}
