@@ -1,0 +1,14 @@
+-- `chart::flatten::add` meets its contract. Assumes nothing.
+use Rattle.chart.specs.Cells.{added-back, added-on}
+use borrow.Author.Needs.{needs}
+use Rattle.chart.proofs.flatten.add.Statement.{statement}
+use Rattle.chart.proofs.flatten.add.Tie as tie
+
+pub add-spec : {M : Type 1} → statement M
+add-spec =
+    tie.close
+    (tie.spec
+    (λ c κs. search needs)
+    (λ c κs. search needs)
+    (λ c. search added-back)
+    (λ c. search added-on))

@@ -1,0 +1,13 @@
+-- `chart::image::to_of` meets its contract. Assumes nothing.
+use borrow.Author.Needs.{needs}
+use Rattle.chart.proofs.image.to_of.Statement.{statement}
+use Rattle.chart.proofs.image.to_of.Tie as tie
+
+pub to-of-spec : {M : Type 1} → statement M
+to-of-spec =
+    tie.close
+    (tie.spec
+    (λ c κs. search needs)
+    (λ c. search needs)
+    (λ c κs. search needs)
+    (λ c. cc))

@@ -1,0 +1,13 @@
+-- `chart::nesting::link` meets its contract. Assumes nothing.
+use Rattle.chart.specs.Tables.{link-on, link-off}
+use borrow.Author.Needs.{needs}
+use Rattle.chart.proofs.nesting.link.Statement.{statement}
+use Rattle.chart.proofs.nesting.link.Tie as tie
+
+pub link-spec : {M : Type 1} → statement M
+link-spec =
+    tie.close
+    (tie.spec
+    (λ c κs. search needs)
+    (λ c. search link-on)
+    (λ c. search link-off))

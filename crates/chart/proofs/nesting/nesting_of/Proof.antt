@@ -1,0 +1,14 @@
+-- `chart::nesting::nesting_of` meets its contract. Assumes nothing.
+use Rattle.chart.specs.Tables.{nestings-closed}
+use borrow.Author.Needs.{needs}
+use Rattle.chart.proofs.nesting.nesting_of.Statement.{statement}
+use Rattle.chart.proofs.nesting.nesting_of.Tie as tie
+
+pub nesting-of-spec : {M : Type 1} → statement M
+nesting-of-spec =
+    tie.close
+    (tie.spec
+    (λ c κs. search needs)
+    (λ c. search needs)
+    (λ c κs. search needs)
+    (λ c. search nestings-closed))

@@ -1,0 +1,67 @@
+-- The paper's whole chart byte for byte, and its settled examples P7 and P8, by computation. Assumes nothing.
+use Prim.Native.Nat.{ℕ}
+use mathlib.Core.Path.{_≡_, refl}
+use mathlib.Core.List.{List, [], _∷_}
+use lib.ListN.{replicate}
+use Rattle.paper.specs.Limits.{includeExclude}
+use Rattle.paper.specs.Answers.{answer, granted}
+use Rattle.sets.specs.Set.{has, collect}
+use Rattle.sets.specs.Below.{some, first, tally}
+use Rattle.sets.specs.Tables.{tabulate}
+use Rattle.wire.specs.Wire.{u16At}
+use Rattle.reach.specs.Closure.{within}
+use Rattle.chart.specs.declared.Reading.{Reading}
+use Rattle.chart.specs.Image.{outOfRange, misplaced, badNodeAt, badRelationAt}
+use Rattle.chart.specs.Nesting.{parent, nested, atOrAbove, onLoopAt, isGroup, eventNode, flaggedGroupAt}
+use Rattle.chart.specs.Flattening.{leads, related, entered, flatSet, flatTable, flatChart, flagged, startMarking, conflict, conflictAt}
+use Rattle.chart.specs.Reading.{refused, conflictFrom, conflictTo, readingRelations, readingNodes, reading}
+
+-- "One chart, whole": event 0 is a condition of 1 and has 1 as response; 1 excludes 0 and is pending
+abbrev pub wholeChart : List ℕ
+wholeChart =
+    0x02 ∷ 0x00 ∷ 0x03 ∷ 0x00 ∷ 0x08 ∷ 0x00 ∷ 0x10 ∷ 0x00
+    ∷ 0xFF ∷ 0xFF ∷ 0x04 ∷ 0x00 ∷ 0xFF ∷ 0xFF ∷ 0x06 ∷ 0x00
+    ∷ 0x00 ∷ 0x00 ∷ 0x01 ∷ 0x00 ∷ 0x00 ∷ 0x00
+    ∷ 0x00 ∷ 0x00 ∷ 0x01 ∷ 0x00 ∷ 0x01 ∷ 0x00
+    ∷ 0x01 ∷ 0x00 ∷ 0x00 ∷ 0x00 ∷ 0x04 ∷ 0x00 ∷ []
+
+abbrev pub wholeReading : Reading
+wholeReading =
+    record {
+      answer = granted;
+      chart = record {
+        count = 2;
+        conditions = 0 ∷ 1 ∷ replicate 62 0;
+        responses = 2 ∷ replicate 63 0;
+        milestones = replicate 64 0;
+        includes = replicate 64 0;
+        excludes = 0 ∷ 1 ∷ replicate 62 0;
+      };
+      marking = record { executed = 0; pending = 2; included = 3 };
+    }
+
+-- P7: group 0 with members 1, 2 is condition of 3
+abbrev pub groupChart : List ℕ
+groupChart =
+    4 ∷ 0 ∷ 1 ∷ 0 ∷ 8 ∷ 0 ∷ 24 ∷ 0
+    ∷ 255 ∷ 255 ∷ 0 ∷ 0 ∷ 0 ∷ 0 ∷ 4 ∷ 0 ∷ 0 ∷ 0 ∷ 4 ∷ 0 ∷ 255 ∷ 255 ∷ 4 ∷ 0
+    ∷ 0 ∷ 0 ∷ 3 ∷ 0 ∷ 0 ∷ 0 ∷ []
+
+-- P8: node 3 includes that group, excludes node 1
+abbrev pub conflictChart : List ℕ
+conflictChart =
+    4 ∷ 0 ∷ 2 ∷ 0 ∷ 8 ∷ 0 ∷ 24 ∷ 0
+    ∷ 255 ∷ 255 ∷ 0 ∷ 0 ∷ 0 ∷ 0 ∷ 4 ∷ 0 ∷ 0 ∷ 0 ∷ 4 ∷ 0 ∷ 255 ∷ 255 ∷ 4 ∷ 0
+    ∷ 3 ∷ 0 ∷ 0 ∷ 0 ∷ 3 ∷ 0
+    ∷ 3 ∷ 0 ∷ 1 ∷ 0 ∷ 4 ∷ 0 ∷ []
+
+pub record Rows : Type 0 where
+  pub whole : reading wholeChart ≡ wholeReading
+  pub p7-granted : reading groupChart .answer ≡ granted
+  -- events 0 and 1 are conditions of 2
+  pub p7-conditions : reading groupChart .chart .conditions ≡ 0 ∷ 0 ∷ 3 ∷ replicate 61 0
+  pub p8 : reading conflictChart ≡ refused (answer includeExclude 2 0)
+
+pub rows : Rows
+unfolding outOfRange misplaced badNodeAt badRelationAt parent nested atOrAbove onLoopAt isGroup eventNode flaggedGroupAt leads related entered flatSet flatTable flatChart flagged startMarking conflict conflictAt conflictFrom conflictTo readingRelations readingNodes reading has collect some first tally tabulate u16At within
+rows = record { whole = refl; p7-granted = refl; p7-conditions = refl; p8 = refl }

@@ -1,0 +1,58 @@
+-- A scan upwards for the first number below n that passes a test: what it has passed, and where it stops. Assumes nothing.
+use Prim.Native.Nat.{ℕ, zero, suc, _+_, _≤_, _<_}
+use mathlib.Core.Path.{_≡_, refl, sym, subst, _∙_}
+use mathlib.Core.Bool.{Bool, true, false}
+use native.Mathlib.Omega.{arith}
+use borrow.Author.Count.{below-more}
+use Rattle.sets.specs.Set.{putIf, collect}
+use Rattle.sets.specs.Laws.{collect-step}
+use Rattle.sets.specs.Below.{first, first-is, first-unique, first-found, first-none}
+
+-- the scan has come to i, and no number before it passes
+pub record Passed (n : ℕ) (f : ℕ → Bool) (i : ℕ) : Type 0 where
+  pub fits : i ≤ n
+  pub none : (p : ℕ) → p < i → f p ≡ false
+
+module _ {n : ℕ} {f : ℕ → Bool} where
+  pub passed-none : Passed n f 0
+  passed-none = record { fits = omega arith; none = λ p h. absurd (omega arith) }
+
+  module _ {i : ℕ} (l : Passed n f i) where
+    pub passed-more : {r : Bool} → i < n → r ≡ f i → r ≡ false → Passed n f (i + 1)
+    passed-more h e z = record { fits = omega arith; none = below-more (λ (p : ℕ). f p ≡ false) i (l .none) (sym e ∙ z) }
+
+    pub passed-found : {r : Bool} → i < n → r ≡ f i → r ≡ true → i ≡ first n f
+    passed-found h e t = first-found n f i h (l .none) (sym e ∙ t)
+
+    pub passed-end : n ≤ i → n ≡ first n f
+    passed-end h = first-none n f (λ p k. l .none p (omega arith))
+
+-- tests that agree below n have the same first
+pub first-same : (n : ℕ) (f g : ℕ → Bool) → ((p : ℕ) → p < n → f p ≡ g p) → first n f ≡ first n g
+first-same n f g h =
+    let i = first-is n f in
+    let b = i .fits in
+    first-unique n g (first n f) (first n g)
+    (record { fits = b; passes = λ l. sym (h (first n f) l) ∙ i .passes l; lowest = λ p l. sym (h p (omega arith)) ∙ i .lowest p l })
+    (first-is n g)
+
+-- a loop that counts up has come to its end
+pub at-end : (P : ℕ → Type 0) {i n : ℕ} → i ≤ n → n ≤ i → P i → P n
+at-end P {i} {n} h l p = let e : i ≡ n = omega arith in subst P e p
+
+-- a set that a loop collects: nothing yet, one more, all
+pub collect-none : (p : ℕ → Bool) → 0 ≡ collect 0 p
+unfolding collect
+collect-none p = refl
+
+pub collect-more : (p : ℕ → Bool) (e s r : ℕ) (b : Bool) → s ≡ collect e p → b ≡ p e → r ≡ putIf s e b → r ≡ collect (e + 1) p
+collect-more p e s r b h i j = j ∙ rw (h, i) (sym (collect-step e p))
+
+pub collect-end : (p : ℕ → Bool) (e n s : ℕ) → e ≤ n → n ≤ e → s ≡ collect e p → s ≡ collect n p
+collect-end p e n s h l i = at-end (λ (x : ℕ). s ≡ collect x p) h l i
+
+-- tests that agree below n collect alike
+pub collect-same : (n : ℕ) (p q : ℕ → Bool) → ((e : ℕ) → e < n → p e ≡ q e) → collect n p ≡ collect n q
+unfolding collect
+collect-same zero p q h = refl
+collect-same (suc n) p q h = rw (collect-same n p q (λ e l. h e (omega arith)), h n (omega arith))

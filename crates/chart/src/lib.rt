@@ -1,0 +1,154 @@
+// Reading a chart image: the flat chart and the start marking, or a refusal.
+mod flatten;
+mod image;
+mod nesting;
+
+ghost use mathlib.Core.Path.{_≡_};
+ghost use Prim.Native.Nat.{ℕ, _+_, _≤_, _<_};
+ghost use lib.ListN.{length, getD};
+ghost use Rattle.paper.specs.Limits.{maxEvents, nodeSize};
+ghost use Rattle.paper.specs.Answers.{answer};
+ghost use Rattle.chart.specs.Image.{nodeAt, Whole};
+ghost use Rattle.chart.specs.Cells.{chartOf, markingBy};
+ghost use Rattle.chart.specs.Meaning.{Ground};
+ghost use Rattle.chart.specs.Reading.{refused, readingRelations, readingNodes, reading};
+use flatten::CELLS;
+use flatten::CONDITION;
+use flatten::EXCLUDE;
+use flatten::INCLUDE;
+use flatten::MILESTONE;
+use flatten::RESPONSE;
+use graph::FlatChart;
+use graph::Marking;
+use nesting::ROWS;
+use nesting::WIDTH;
+use paper::Answer;
+use paper::BAD_NODE;
+use paper::BAD_RELATION;
+use paper::CHART_COUNT;
+use paper::CHART_HEADER;
+use paper::CHART_LENGTH;
+use paper::CHART_SHORT;
+use paper::GROUP_FLAGS;
+use paper::INCLUDE_EXCLUDE;
+use paper::MANY_EVENTS;
+use paper::MAX_EVENTS;
+use paper::MAX_NODES;
+use paper::PARENTS_LOOP;
+
+#[repr(C)]
+pub struct Reading {
+    pub answer: Answer,
+    pub chart: FlatChart,
+    pub marking: Marking,
+}
+
+fn refuse(code: u32, place: u32, other: u32) -> Reading
+    ensures { λ r. ⌜ r ≡ refused (answer code place other) ⌝ }
+{
+    Reading {
+        answer: paper::refused(code, place, other),
+        chart: FlatChart::empty(),
+        marking: Marking::empty(),
+    }
+}
+
+fn flat_chart(events: usize, tables: &[u64; CELLS]) -> FlatChart
+    requires { ⌜ events ≤ maxEvents ⌝ }
+    ensures { λ r. ⌜ r ≡ chartOf events (now (tables .entry)) ⌝ }
+{
+    FlatChart {
+        count: events as u32,
+        conditions: flatten::table(tables, CONDITION),
+        responses: flatten::table(tables, RESPONSE),
+        milestones: flatten::table(tables, MILESTONE),
+        includes: flatten::table(tables, INCLUDE),
+        excludes: flatten::table(tables, EXCLUDE),
+    }
+}
+
+fn start_marking(image: &[u8], nodes: &[usize; MAX_EVENTS], events: usize) -> Marking
+    requires { ⌜ (events ≤ maxEvents) × ((e : ℕ) → e < events → nodeAt (getD (now nodes) e 0) + nodeSize ≤ length (now image)) ⌝ }
+    ensures { λ r. ⌜ r ≡ markingBy (now (image .entry)) (now (nodes .entry)) events ⌝ }
+{
+    Marking {
+        executed: flatten::flagged(image, nodes, events, 0),
+        pending: flatten::flagged(image, nodes, events, 1),
+        included: flatten::flagged(image, nodes, events, 2),
+    }
+}
+
+// 8 and 9, and what is granted.
+fn read_relations(
+    image: &[u8],
+    n: usize,
+    k: usize,
+    events: usize,
+    rows: &[u64; ROWS],
+    groups: &[bool; MAX_NODES],
+) -> Reading
+    requires { ⌜ Ground (now image) n k (now rows) (now groups) events ⌝ }
+    ensures { λ r. ⌜ r ≡ readingRelations (now (image .entry)) ⌝ }
+{
+    let bad = image::first_bad_relation(image, n, k);
+    if bad < k {
+        return refuse(BAD_RELATION, bad as u32, 0);
+    }
+    let nodes = nesting::event_nodes(groups, n);
+    let members = flatten::members(rows, &nodes, events, n);
+    let tables = flatten::flatten(image, n, k, &members);
+    let from = flatten::first_conflict(&tables, events);
+    if from < events {
+        let to = sets::least(flatten::both_at(&tables, from));
+        return refuse(INCLUDE_EXCLUDE, from as u32, to);
+    }
+    Reading {
+        answer: paper::granted(),
+        chart: flat_chart(events, &tables),
+        marking: start_marking(image, &nodes, events),
+    }
+}
+
+// 4 to 7, and what follows.
+fn read_nodes(image: &[u8], n: usize, k: usize) -> Reading
+    requires { ⌜ Whole (now image) n k ⌝ }
+    ensures { λ r. ⌜ r ≡ readingNodes (now (image .entry)) ⌝ }
+{
+    let bad = image::first_bad_node(image, n, k);
+    if bad < n {
+        return refuse(BAD_NODE, bad as u32, 0);
+    }
+    let rows = nesting::nesting_of(image, n, k);
+    let looped = reach::lowest_on_diagonal(&rows, n, WIDTH);
+    if looped < n {
+        return refuse(PARENTS_LOOP, looped as u32, 0);
+    }
+    let groups = nesting::groups_of(image, n, k);
+    let flags = nesting::first_flagged_group(image, n, k, &groups);
+    if flags < n {
+        return refuse(GROUP_FLAGS, flags as u32, 0);
+    }
+    let events = nesting::count_events(&groups, n);
+    if MAX_EVENTS < events {
+        return refuse(MANY_EVENTS, events as u32, 0);
+    }
+    read_relations(image, n, k, events, &rows, &groups)
+}
+
+// The flat chart and the start marking of an image, or the refusal that comes first.
+pub fn read(image: &[u8]) -> Reading
+    ensures { λ r. ⌜ r ≡ reading (now (image .entry)) ⌝ }
+{
+    if image.len() < CHART_HEADER {
+        return refuse(CHART_SHORT, 0, 0);
+    }
+    let n = image::node_count(image);
+    let k = image::relation_count(image);
+    if image::out_of_range(image) {
+        return refuse(CHART_COUNT, 0, 0);
+    }
+    if image::misplaced(image, n, k) {
+        return refuse(CHART_LENGTH, 0, 0);
+    }
+    read_nodes(image, n, k)
+}
