@@ -127,7 +127,7 @@ impl Marking {
     }
 
     // The open events among the first n.
-    fn open_among<'a>(
+    pub fn open_among<'a>(
         self,
         n: usize,
         conditions: &'a [u64; MAX_EVENTS],

@@ -1,0 +1,18 @@
+-- `deriver::texts::put_condition` meets its contract. Assumes nothing.
+use Rattle.deriver.specs.Written.{condition-wrote}
+use borrow.Author.Needs.{needs}
+use Rattle.deriver.proofs.texts.put_condition.Statement.{statement}
+use Rattle.deriver.proofs.texts.put_condition.Tie as tie
+
+pub put-condition-spec : {M : Type 1} → statement M
+put-condition-spec =
+    tie.close
+    (tie.spec
+    (λ c. search needs)
+    (λ c κs. search needs)
+    (λ c. search needs)
+    (λ c. search needs)
+    (λ c κs. search needs)
+    (λ c. search needs)
+    (λ c. search needs)
+    (λ c. search condition-wrote))

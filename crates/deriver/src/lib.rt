@@ -1,0 +1,136 @@
+// Deriving a rule book from a flat chart, and the snapshot that matches a marking.
+ghost use mathlib.Core.Path.{_≡_};
+ghost use Prim.Native.Nat.{_*_, _≤_};
+ghost use lib.ListN.{length};
+ghost use Rattle.graph.specs.Chart.{chartOf};
+ghost use Rattle.book.specs.ImageOf.{headerBytes};
+ghost use Rattle.deriver.specs.Writing.{Wrote};
+ghost use Rattle.deriver.specs.Deriving.{derivingAnswer, derivedRoom, bookRuns, BookReady};
+ghost use Rattle.deriver.specs.Matching.{matchingOf};
+use book::Snapshot;
+use graph::FlatChart;
+use graph::Marking;
+use paper::Answer;
+use paper::BOOK_HEADER;
+use paper::BOOK_ROOM;
+use paper::CONDITION_SIZE;
+use paper::MAX_EVENTS;
+use paper::RULE_SIZE;
+use paper::UNFIT;
+use paper::WORD_SIZE;
+
+pub mod marks;
+mod rules;
+mod texts;
+
+// What matching gives: the snapshot, or every mark no beside the refusal.
+#[repr(C)]
+pub struct Matched {
+    pub answer: Answer,
+    pub snapshot: Snapshot,
+}
+
+// The counts of a book of n events, and where its parts lie.
+fn put_header(room: &mut [u8], n: u32, rules: u32, words: u32) -> usize
+    requires { ⌜ (n ≤ 64) × (rules ≤ 8384) × (32 ≤ length (now room)) ⌝ }
+    ensures { λ r. ⌜ Wrote (now (room .entry)) 0 (headerBytes n (4 * n) rules n words) r (now (room .exit)) ⌝ }
+{
+    wire::put32(room, 0, n);
+    wire::put32(room, 4, 4 * n);
+    wire::put32(room, 8, rules);
+    wire::put32(room, 12, n);
+    wire::put32(room, 16, words);
+    wire::put32(room, 20, BOOK_HEADER as u32);
+    wire::put32(room, 24, 32 + 10 * rules);
+    wire::put32(room, 28, 32 + 10 * rules + 8 * n);
+    BOOK_HEADER
+}
+
+// The whole book, run behind run.
+fn put_book<'a>(
+    room: &mut [u8],
+    n: u32,
+    rules: u32,
+    words: u32,
+    conditions: &'a [u64; MAX_EVENTS],
+    responses: &'a [u64; MAX_EVENTS],
+    milestones: &'a [u64; MAX_EVENTS],
+    includes: &'a [u64; MAX_EVENTS],
+    excludes: &'a [u64; MAX_EVENTS],
+) -> usize
+    requires { ⌜ BookReady n rules words (now conditions) (now responses) (now milestones) (now includes) (now excludes) (now room) ⌝ }
+    ensures { λ r. ⌜ Wrote (now (room .entry)) 0 (bookRuns n rules words (now (conditions .entry)) (now (responses .entry)) (now (milestones .entry)) (now (includes .entry)) (now (excludes .entry))) r (now (room .exit)) ⌝ }
+{
+    let a = put_header(room, n, rules, words);
+    let n = n as usize;
+    let b = rules::put_completions(room, a, n, includes, excludes, responses);
+    let c = rules::put_stages(room, b, n);
+    let d = texts::put_conditions(room, c, n, conditions, milestones);
+    texts::put_texts(room, d, n, conditions, milestones)
+}
+
+// Deriving over lent tables: what `derive` does, with no copy of the chart.
+pub fn derive_in<'a>(
+    count: u32,
+    conditions: &'a [u64; MAX_EVENTS],
+    responses: &'a [u64; MAX_EVENTS],
+    milestones: &'a [u64; MAX_EVENTS],
+    includes: &'a [u64; MAX_EVENTS],
+    excludes: &'a [u64; MAX_EVENTS],
+    room: &mut [u8],
+) -> Answer
+    ensures { λ r. ⌜ (r ≡ derivingAnswer (chartOf count (now (conditions .entry)) (now (responses .entry)) (now (milestones .entry)) (now (includes .entry)) (now (excludes .entry))) (length (now (room .entry)))) × (now (room .exit) ≡ derivedRoom (chartOf count (now (conditions .entry)) (now (responses .entry)) (now (milestones .entry)) (now (includes .entry)) (now (excludes .entry))) (now (room .entry))) ⌝ }
+{
+    if !graph::tables_fit(count, conditions, responses, milestones, includes, excludes) {
+        return paper::refused(UNFIT, 0, 0);
+    }
+    let n = count as usize;
+    let rules = rules::completions_size(n, includes, excludes, responses) + 2 * n;
+    let words = texts::texts_size(n, conditions, milestones);
+    let need = BOOK_HEADER + RULE_SIZE * rules + CONDITION_SIZE * n + WORD_SIZE * words;
+    if room.len() < need {
+        return paper::refused(BOOK_ROOM, need as u32, 0);
+    }
+    put_book(
+        room,
+        count,
+        rules as u32,
+        words as u32,
+        conditions,
+        responses,
+        milestones,
+        includes,
+        excludes,
+    );
+    paper::granted()
+}
+
+// Writes the derived book of a fit chart into the room, or refuses and writes nothing.
+pub fn derive(chart: FlatChart, room: &mut [u8]) -> Answer
+    ensures { λ r. ⌜ (r ≡ derivingAnswer chart (length (now (room .entry)))) × (now (room .exit) ≡ derivedRoom chart (now (room .entry))) ⌝ }
+{
+    derive_in(
+        chart.count,
+        &chart.conditions,
+        &chart.responses,
+        &chart.milestones,
+        &chart.includes,
+        &chart.excludes,
+        room,
+    )
+}
+
+// The snapshot that matches a marking of the chart.
+pub fn matching(chart: FlatChart, marking: Marking) -> Matched
+    ensures { λ r. ⌜ r ≡ matchingOf chart marking ⌝ }
+{
+    marks::matching_in(
+        marking,
+        chart.count,
+        &chart.conditions,
+        &chart.responses,
+        &chart.milestones,
+        &chart.includes,
+        &chart.excludes,
+    )
+}

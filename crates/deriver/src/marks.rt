@@ -1,0 +1,65 @@
+// The marks of the snapshot that matches a marking.
+ghost use mathlib.Core.Path.{_≡_};
+ghost use Prim.Native.Nat.{_+_, _≤_};
+ghost use lib.Seq.{sets};
+ghost use Rattle.sets.specs.Set.{has};
+ghost use Rattle.graph.specs.Chart.{chartOf};
+ghost use Rattle.book.specs.Lists.{each};
+ghost use Rattle.deriver.specs.Matching.{matchingOf};
+use crate::Matched;
+use book::Snapshot;
+use graph::Marking;
+use paper::MAX_EVENTS;
+use paper::MAX_MARKS;
+
+// The n marks from a place on say which of the first n events are in the set.
+fn put_marks(marks: &mut [bool; MAX_MARKS], at: usize, n: usize, set: u64)
+    requires { ⌜ at + n ≤ 256 ⌝ }
+    ensures { λ _. ⌜ now (marks .exit) ≡ sets (now (marks .entry)) at (each n (has set)) ⌝ }
+{
+    let mut e = 0;
+    while e < n {
+        marks[at + e] = sets::member(set, e);
+        e += 1;
+    }
+}
+
+// Matching over lent tables: what `matching` does, with no copy of the chart.
+pub fn matching_in<'a>(
+    marking: Marking,
+    count: u32,
+    conditions: &'a [u64; MAX_EVENTS],
+    responses: &'a [u64; MAX_EVENTS],
+    milestones: &'a [u64; MAX_EVENTS],
+    includes: &'a [u64; MAX_EVENTS],
+    excludes: &'a [u64; MAX_EVENTS],
+) -> Matched
+    ensures { λ r. ⌜ r ≡ matchingOf (chartOf count (now (conditions .entry)) (now (responses .entry)) (now (milestones .entry)) (now (includes .entry)) (now (excludes .entry))) marking ⌝ }
+{
+    let mut marks = [false; MAX_MARKS];
+    if !marking.fits(count, conditions, responses, milestones, includes, excludes) {
+        return Matched {
+            answer: paper::refused(paper::UNFIT, 0, 0),
+            snapshot: Snapshot { marks },
+        };
+    }
+    let n = count as usize;
+    put_marks(
+        &mut marks,
+        0,
+        n,
+        marking.open_among(n, conditions, milestones),
+    );
+    put_marks(&mut marks, n, n, marking.executed);
+    put_marks(&mut marks, 2 * n, n, marking.included);
+    put_marks(
+        &mut marks,
+        3 * n,
+        n,
+        sets::less(sets::all_below(n), marking.pending),
+    );
+    Matched {
+        answer: paper::granted(),
+        snapshot: Snapshot { marks },
+    }
+}
