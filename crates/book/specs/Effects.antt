@@ -3,13 +3,19 @@ use mathlib.Core.Path.{_≡_}
 use mathlib.Core.Bool.{Bool, false, cond}
 use mathlib.Core.List.{List}
 use Prim.Native.Nat.{ℕ, _<_}
-use lib.ListN.{length, set, length-set}
+use lib.ListN.{length, set, length-set, replicate}
 use lib.Seq.{getD-set-same, getD-set-other}
 use lib.Dec.{eqb}
 use borrow.Author.Tests.{eqb-true, eqb-false}
+use Rattle.paper.specs.Limits.{maxMarks}
 use Rattle.sets.specs.Cases.{cases}
 use Rattle.book.specs.Text.{snapOf}
 use Rattle.book.specs.declared.Rule.{Rule}
+use Rattle.book.specs.declared.Snapshot.{Snapshot}
+
+-- every mark no
+unfoldable pub emptySnapshot : Snapshot
+emptySnapshot = record { marks = replicate maxMarks false }
 
 -- the marks after the rule r has fired
 abbrev pub effectOn : List Bool → Rule → List Bool

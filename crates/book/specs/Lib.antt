@@ -4,12 +4,9 @@ pub mod Good
 pub mod Book
 pub mod Firing
 pub mod Image
-pub mod Lists
-pub mod ImageOf
 pub mod Read
 pub mod Judging
 pub mod WellFormed
-pub mod Formed
 pub mod Using
 pub mod Marks
 pub mod Effects

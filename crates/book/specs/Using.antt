@@ -1,5 +1,5 @@
 -- What a well-formed image gives to who reads it: rules whose numbers exist, and texts that lie inside it and are good. Assumes nothing.
-use mathlib.Core.Path.{_≡_, refl, ap, _∙_}
+use mathlib.Core.Path.{_≡_, refl, sym, ap, _∙_}
 use mathlib.Core.Bool.{Bool, true}
 use mathlib.Core.List.{List}
 use Prim.Native.Nat.{ℕ, _+_, _*_, _≤_, _<_}
@@ -15,7 +15,11 @@ use Rattle.book.specs.Good.{good, text-good, good-wider}
 use Rattle.book.specs.Book.{ruleOf, textOf}
 use Rattle.book.specs.Image.{stagesIn, marksIn, rulesIn, conditionsIn, rulePlace, conditionPlace, triggerFrom, senseFrom, ruleFrom, conditionFrom, bookOf}
 use Rattle.book.specs.Read.{wordsFrom, textFrom, rule-read, text-read}
-use Rattle.book.specs.WellFormed.{WellFormed, GoodRule}
+use Rattle.book.specs.Firing.{firing, fires, firing-fires}
+use Rattle.book.specs.Judging.{countsOf, imageAnswer}
+use Rattle.paper.specs.declared.Answer.{Answer}
+use Rattle.book.specs.declared.Counts.{Counts}
+use Rattle.book.specs.WellFormed.{granted-well, WellFormed, GoodRule}
 use Rattle.book.specs.declared.Rule.{Rule}
 use Rattle.book.specs.declared.Trigger.{Trigger}
 use Rattle.book.specs.declared.Trigger.the-variants.{None, Completed, BecomeYes, BecomeNo}
@@ -134,3 +138,18 @@ module _ (s : List ℕ) (begin from : ℕ) (p : Placed s begin from) (c : ℕ) (
   pub spot-asks : (start count : ℕ) → start ≡ u32At s (begin + conditionSize * c) → count ≡ u32At s (begin + conditionSize * c + 4)
       → (from + wordSize * start + wordSize * count ≤ length s) × (good maxMarks (wordsFrom s (from + wordSize * start) count) ≡ true)
   spot-asks start count a b = let g = spot in let t = g .text in (omega arith, rw (a, b) (g .good))
+
+-- ---- for callers: from the answer 0 to what the functions ask, and from a rule that was read to the book's
+
+pub placed-of : (s : List ℕ) (a : Answer) (h : Counts) (begin from : ℕ) → a ≡ imageAnswer s → a .code ≡ 0 → h ≡ countsOf s → begin ≡ rulePlace (h .rules)
+    → from ≡ conditionPlace (h .rules) (h .conditions) → Placed s begin from
+placed-of s a h begin from e z p b f =
+    record {
+      formed = granted-well s a e z;
+      conditions = b ∙ ap (λ (x : Counts). rulePlace (x .rules)) p;
+      words = f ∙ ap (λ (x : Counts). conditionPlace (x .rules) (x .conditions)) p;
+    }
+
+pub fires-read : (s : List ℕ) (start : Snap) (stage : ℕ) (now : Snap) (r : ℕ) (rule : Rule) → r < rulesIn s → rule ≡ ruleFrom s (rulePlace r)
+    → firing (textOf (bookOf s)) start stage now rule ≡ fires (bookOf s) start stage now r
+fires-read s start stage now r rule h e = firing-fires (bookOf s) start stage now r rule (e ∙ sym (rule-read s r h))

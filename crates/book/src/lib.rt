@@ -1,4 +1,6 @@
 // Rule books: the image's header, rules, conditions and texts, and the snapshot that the rules alter.
+ghost use mathlib.Core.Path.{_≡_};
+ghost use Rattle.book.specs.Effects.{emptySnapshot};
 
 pub mod applying;
 pub mod eval;
@@ -52,4 +54,15 @@ pub struct Rule {
 #[repr(C)]
 pub struct Snapshot {
     pub marks: [bool; paper::MAX_MARKS],
+}
+
+impl Snapshot {
+    // Every mark no.
+    pub fn empty() -> Snapshot
+        ensures { λ r. ⌜ r ≡ emptySnapshot ⌝ }
+    {
+        Snapshot {
+            marks: [false; paper::MAX_MARKS],
+        }
+    }
 }
