@@ -1,9 +1,12 @@
 -- The root of the crate's specs.
+pub mod Lists
 pub mod Text
 pub mod Good
 pub mod Book
 pub mod Firing
 pub mod Image
+pub mod ImageOf
+pub mod Formed
 pub mod Read
 pub mod Judging
 pub mod WellFormed
