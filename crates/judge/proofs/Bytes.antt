@@ -1,0 +1,131 @@
+-- What the bytes of two rule records say of the rules. Assumes nothing.
+use mathlib.Core.Path.{_≡_, refl, sym, ap, subst, _∙_}
+use mathlib.Core.Bool.{Bool, true, false, not, _&&_, _||_}
+use mathlib.Core.List.{List}
+use Prim.Native.Nat.{ℕ, suc, _+_, _-_, _*_, _≤_, _<_}
+use native.Mathlib.Omega.{arith}
+use lib.Dec.{eqb, ltb}
+use lib.ListN.{length, getD, set, replicate}
+use borrow.Author.Tests.{eqb-true, eqb-false, lt-ltb}
+use Rattle.paper.specs.Limits.{maxMarks, ruleSize}
+use Rattle.sets.specs.Cases.{cases}
+use Rattle.sets.specs.Tables.{length-tabulate}
+use Rattle.wire.specs.Wire.{u16At}
+use Rattle.book.specs.Book.{ruleOf}
+use Rattle.book.specs.Image.{rulesIn, rulePlace, triggerFrom, senseFrom, ruleFrom, bookOf}
+use Rattle.book.specs.Read.{rule-read}
+use Rattle.book.specs.WellFormed.{WellFormed}
+use Rattle.book.specs.Using.{rule-inside}
+use Rattle.judge.specs.Clash.{completesOther, otherStages, isWritten, isNegated, oppositeSenses, apart}
+use Rattle.judge.specs.Chains.{side, does, undoes, Chained}
+use Rattle.judge.proofs.Links.{Linked, linked-start, linked-more, linked-end}
+
+-- ---- apart, by bytes
+
+other-completed : (c l n : ℕ) → completesOther c (triggerFrom l n) ≡ (eqb l 1 && not (eqb c n))
+unfolding triggerFrom completesOther
+other-completed c l n =
+    cases (eqb l 1) (λ e. rw (eqb-true l 1 e)) (λ e. cases (eqb l 0) (λ f. rw (e, f)) (λ f. cases (eqb l 2) (λ g. rw (e, f, g)) (λ g. rw (e, f, g))))
+
+stages-bytes : (k l m n : ℕ) → (eqb k 1 && eqb l 1 && not (eqb m n)) ≡ otherStages (triggerFrom k m) (triggerFrom l n)
+unfolding triggerFrom otherStages
+stages-bytes k l m n =
+    cases (eqb k 1) (λ e. rw (eqb-true k 1 e) (sym (other-completed m l n)))
+    (λ e. cases (eqb k 0) (λ f. rw (e, f)) (λ f. cases (eqb k 2) (λ g. rw (e, f, g)) (λ g. rw (e, f, g))))
+
+above-one : (y : ℕ) → eqb y 0 ≡ false → eqb y 1 ≡ false → ltb 1 y ≡ true
+above-one y e f = lt-ltb 1 y (let a = eqb-false y 0 e in let b = eqb-false y 1 f in omega arith)
+
+negated-bytes : (c y d : ℕ) → isNegated c (senseFrom y d) ≡ (ltb 1 y && eqb c d)
+unfolding senseFrom isNegated
+negated-bytes c y d = cases (eqb y 0) (λ e. rw (eqb-true y 0 e)) (λ e. cases (eqb y 1) (λ f. rw (eqb-true y 1 f)) (λ f. rw (e, f, above-one y e f)))
+
+written-bytes : (c y d : ℕ) → isWritten c (senseFrom y d) ≡ (eqb y 1 && eqb c d)
+unfolding senseFrom isWritten
+written-bytes c y d = cases (eqb y 0) (λ e. rw (eqb-true y 0 e)) (λ e. cases (eqb y 1) (λ f. rw (eqb-true y 1 f)) (λ f. rw (e, f)))
+
+senses-bytes : (x y c d : ℕ) → (((eqb x 1 && ltb 1 y) || (ltb 1 x && eqb y 1)) && eqb c d) ≡ oppositeSenses (senseFrom x c) (senseFrom y d)
+unfolding senseFrom oppositeSenses
+senses-bytes x y c d =
+    cases (eqb x 0) (λ e. rw (eqb-true x 0 e))
+    (λ e. cases (eqb x 1) (λ f. rw (eqb-true x 1 f) (ap (λ (t : Bool). t && eqb c d) (or-no (ltb 1 y)) ∙ sym (negated-bytes c y d)))
+    (λ f. rw (e, f, above-one x e f) (sym (written-bytes c y d))))
+  where
+    or-no : (t : Bool) → (t || false) ≡ t
+    or-no true = refl
+    or-no false = refl
+
+pub apart-bytes : (s : List ℕ) (a b m n c d : ℕ) → m ≡ u16At s (a + 4) → n ≡ u16At s (b + 4) → c ≡ u16At s (a + 6) → d ≡ u16At s (b + 6)
+    → (((eqb (getD s a 0) 1 && eqb (getD s b 0) 1) && not (eqb m n))
+    || (((eqb (getD s (a + 1) 0) 1 && ltb 1 (getD s (b + 1) 0)) || (ltb 1 (getD s (a + 1) 0) && eqb (getD s (b + 1) 0) 1)) && eqb c d))
+    ≡ apart (ruleFrom s a) (ruleFrom s b)
+unfolding apart ruleFrom
+apart-bytes s a b m n c d e f g h =
+    rw (stages-bytes (getD s a 0) (getD s b 0) m n, senses-bytes (getD s (a + 1) 0) (getD s (b + 1) 0) c d, e, f, g, h)
+
+-- ---- the rules of an image
+
+module _ (s : List ℕ) where
+  pub rules-count : length (bookOf s .rules) ≡ rulesIn s
+  unfolding bookOf
+  rules-count = length-tabulate (rulesIn s) (λ r. ruleFrom s (rulePlace r))
+
+  does-bytes : (r t k : ℕ) (on : Bool) → r < rulesIn s → t ≡ u16At s (rulePlace r + 8) → on ≡ eqb (getD s (rulePlace r + 2) 0) 1 → k ≡ side t on → k ≡ does (bookOf s) r
+  unfolding ruleFrom
+  does-bytes r t k on h e f g = rw (rule-read s r h) (g ∙ rw (e, f))
+
+  undoes-bytes : (r t k : ℕ) (on : Bool) → r < rulesIn s → t ≡ u16At s (rulePlace r + 8) → on ≡ eqb (getD s (rulePlace r + 2) 0) 1 → k ≡ side t (not on) → k ≡ undoes (bookOf s) r
+  unfolding ruleFrom
+  undoes-bytes r t k on h e f g = rw (rule-read s r h) (g ∙ rw (e, f))
+
+  pub apart-read : (p q : ℕ) (r : Bool) → p < rulesIn s → q < rulesIn s → r ≡ apart (ruleFrom s (rulePlace p)) (ruleFrom s (rulePlace q)) → r ≡ apart (ruleOf (bookOf s) p) (ruleOf (bookOf s) q)
+  apart-read p q r h i e = rw (rule-read s p h, rule-read s q i) e
+
+-- ---- the pass that makes the chains
+
+pub record Linking (s : List ℕ) (rules : ℕ) (same opposite next : List ℕ) (r : ℕ) : Type 0 where
+  pub formed : WellFormed s
+  pub linked : Linked (bookOf s) rules same opposite next r
+
+module _ (s : List ℕ) (rules : ℕ) (same opposite : List ℕ) where
+  pub linking-start : (next : List ℕ) → WellFormed s → rules ≡ rulesIn s → rules ≤ length same → rules ≤ length opposite → next ≡ replicate (2 * maxMarks) rules
+      → Linking s rules same opposite next rules
+  linking-start next w e i j f =
+      record { formed = w; linked = rw f (linked-start (bookOf s) rules same opposite (e ∙ sym (rules-count s)) (rw e (w .headed .counted .rules)) i j) }
+
+  module _ (next : List ℕ) (r : ℕ) (g : Linking s rules same opposite next r) where
+    pub linking-known : rules ≡ rulesIn s
+    linking-known = g .linked .count ∙ rules-count s
+
+    module _ (h : 0 < r) where
+      pub linking-inside : rulePlace (r - 1) + ruleSize ≤ length s
+      linking-inside =
+          let e = linking-known in
+          let f = g .linked .fits in
+          rule-inside s (g .formed) (r - 1) (omega arith)
+
+      pub linking-mark : (t : ℕ) → t ≡ u16At s (rulePlace (r - 1) + 8) → t < maxMarks
+      linking-mark t e =
+          let d = linking-known in
+          let f = g .linked .fits in
+          let k = g .formed .rules (r - 1) (omega arith) .target in
+          let m = g .formed .headed .counted .marks in
+          omega arith
+
+      pub linking-on : (t here there : ℕ) → t ≡ u16At s (rulePlace (r - 1) + 8) → here ≡ side t (eqb (getD s (rulePlace (r - 1) + 2) 0) 1)
+          → there ≡ side t (not (eqb (getD s (rulePlace (r - 1) + 2) 0) 1))
+          → Linking s rules (set same (r - 1) (getD next here 0)) (set opposite (r - 1) (getD next there 0)) (set next here (r - 1)) (r - 1)
+      linking-on t here there e f k =
+          let d = linking-known in
+          let l = g .linked .fits in
+          let i : r - 1 < rulesIn s = omega arith in
+          let z : r ≡ suc (r - 1) = omega arith in
+          record {
+            formed = g .formed;
+            linked = linked-more (bookOf s) rules same opposite next (r - 1) here there (subst (λ x. Linked (bookOf s) rules same opposite next x) z (g .linked))
+                (rw (rule-read s (r - 1) i) (unfold ruleFrom in linking-mark (u16At s (rulePlace (r - 1) + 8)) refl))
+                (does-bytes s (r - 1) t here _ i e refl f) (undoes-bytes s (r - 1) t there _ i e refl k);
+          }
+
+    pub linking-end : r ≤ 0 → Chained (bookOf s) same opposite
+    linking-end h = linked-end (bookOf s) rules same opposite next r (g .linked) (omega arith)

@@ -1,0 +1,29 @@
+-- `judge::clashes::are_apart` meets its contract. Assumes nothing.
+use Rattle.judge.proofs.Bytes.{apart-bytes}
+use borrow.Author.Needs.{needs}
+use Rattle.judge.proofs.clashes.are_apart.Statement.{statement}
+use Rattle.judge.proofs.clashes.are_apart.Tie as tie
+
+pub are-apart-spec : {M : Type 1} → statement M
+are-apart-spec =
+    tie.close
+    (tie.spec
+    (λ c. search needs)
+    (λ c. search needs)
+    (λ c. search needs)
+    (λ c. search needs)
+    (λ c. search needs)
+    (λ c. search needs)
+    (λ c. search needs)
+    (λ c κs. search needs)
+    (λ c. search needs)
+    (λ c κs. search needs)
+    (λ c. search needs)
+    (λ c. search needs)
+    (λ c. search needs)
+    (λ c. search needs)
+    (λ c. search needs)
+    (λ c κs. search needs)
+    (λ c. search needs)
+    (λ c κs. search needs)
+    (λ c. search apart-bytes))

@@ -1,0 +1,30 @@
+-- Rows over marks: row b gets the marks that the rules which target b refer to. Assumes nothing.
+use mathlib.Core.Bool.{cond}
+use mathlib.Core.Path.{_≡_}
+use mathlib.Core.List.{List}
+use Prim.Native.Nat.{ℕ, _+_, _*_, _<_}
+use lib.Dec.{leb}
+use lib.ListN.{length, getD}
+use Rattle.paper.specs.Limits.{maxMarks}
+use Rattle.wire.specs.Wire.{u16At}
+use Rattle.reach.specs.Rows.{bit, putBit, takeRow}
+use Rattle.orders.specs.Loops.{leads}
+use Rattle.book.specs.Image.{rulePlace, bookOf}
+use Rattle.book.specs.Marks.{markWords}
+use Rattle.ordering.specs.Rules.{netOf}
+
+-- 256 rows of four words
+abbrev pub linkWords : ℕ
+linkWords = maxMarks * markWords
+
+-- the row of rule r's target takes in the row of its condition, and then the mark of its become trigger
+unfoldable pub withCondition : List ℕ → List ℕ → List ℕ → ℕ → List ℕ
+withCondition s refs rows r = cond (leb 1 (getD s (rulePlace r + 1) 0)) (takeRow markWords (u16At s (rulePlace r + 8)) (u16At s (rulePlace r + 6)) refs rows) rows
+
+unfoldable pub withTrigger : List ℕ → List ℕ → ℕ → List ℕ
+withTrigger s rows r = cond (leb 2 (getD s (rulePlace r) 0)) (putBit rows markWords (u16At s (rulePlace r + 8)) (u16At s (rulePlace r + 4))) rows
+
+-- row b has a exactly if some rule refers to a and targets b
+pub record LinkedMarks (s rows : List ℕ) : Type 0 where
+  pub size : length rows ≡ linkWords
+  pub holds : (a b : ℕ) → a < maxMarks → b < maxMarks → bit rows markWords b a ≡ leads (netOf (bookOf s)) a b

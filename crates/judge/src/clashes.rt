@@ -1,0 +1,102 @@
+// The lowest pair of rules that clash.
+ghost use mathlib.Core.Path.{_≡_};
+ghost use Prim.Native.Nat.{_+_, _*_, _≤_, _<_};
+ghost use lib.ListN.{length};
+ghost use Rattle.paper.specs.Limits.{maxMarks, ruleSize};
+ghost use Rattle.book.specs.Book.{ruleOf};
+ghost use Rattle.book.specs.Image.{rulesIn, rulePlace, ruleFrom, bookOf};
+ghost use Rattle.book.specs.WellFormed.{WellFormed};
+ghost use Rattle.judge.specs.Clash.{apart};
+ghost use Rattle.judge.specs.Pairs.{clashFirst, clashSecond};
+ghost use Rattle.judge.specs.Chains.{side, Chained};
+use paper::BOOK_HEADER;
+use paper::MAX_MARKS;
+use paper::MAX_RULES;
+use paper::RULE_SIZE;
+
+// Two rules, the lower one first. Where no rules clash both are the number of rules.
+pub struct Pair {
+    pub first: usize,
+    pub second: usize,
+}
+
+// A mark and whether it is set, as one number.
+fn side(mark: u16, set: bool) -> usize
+    requires { ⌜ mark < maxMarks ⌝ }
+    ensures { λ r. ⌜ (r ≡ side mark set) × (r < 2 * maxMarks) ⌝ }
+{
+    if set {
+        2 * (mark as usize) + 1
+    } else {
+        2 * (mark as usize)
+    }
+}
+
+// For each rule the next one that does the same to its target, and the next one that does the opposite.
+fn chain(image: &[u8], rules: usize, same: &mut [u16], opposite: &mut [u16])
+    requires { ⌜ (WellFormed (now image)) × (rules ≡ rulesIn (now image)) × (rules ≤ length (now same)) × (rules ≤ length (now opposite)) ⌝ }
+    ensures { λ _. ⌜ Chained (bookOf (now (image .entry))) (now (same .exit)) (now (opposite .exit)) ⌝ }
+    ensures { λ _. ⌜ (length (now (same .exit)) ≡ length (now (same .entry))) × (length (now (opposite .exit)) ≡ length (now (opposite .entry))) ⌝ }
+{
+    let mut next = [rules as u16; 2 * MAX_MARKS];
+    let mut r = rules;
+    while 0 < r {
+        r -= 1;
+        let at = BOOK_HEADER + RULE_SIZE * r;
+        let target = wire::u16_at(image, at + 8);
+        let set = image[at + 2] == 1;
+        let here = side(target, set);
+        same[r] = next[here];
+        opposite[r] = next[side(target, !set)];
+        next[here] = r as u16;
+    }
+}
+
+// Completions of different stages, or one condition record in opposite senses.
+fn are_apart(image: &[u8], p: usize, q: usize) -> bool
+    requires { ⌜ (rulePlace p + ruleSize ≤ length (now image)) × (rulePlace q + ruleSize ≤ length (now image)) ⌝ }
+    ensures { λ r. ⌜ r ≡ apart (ruleFrom (now (image .entry)) (rulePlace p)) (ruleFrom (now (image .entry)) (rulePlace q)) ⌝ }
+{
+    let a = BOOK_HEADER + RULE_SIZE * p;
+    let b = BOOK_HEADER + RULE_SIZE * q;
+    let completed = (image[a] == 1) & (image[b] == 1);
+    let stages = completed & (wire::u16_at(image, a + 4) != wire::u16_at(image, b + 4));
+    let x = image[a + 1];
+    let y = image[b + 1];
+    let opposite = ((x == 1) & (1 < y)) | ((1 < x) & (y == 1));
+    stages | (opposite & (wire::u16_at(image, a + 6) == wire::u16_at(image, b + 6)))
+}
+
+// Every pair of rules that set and clear one mark, until one is not apart. A pair costs a few compares of bytes. A derived book has at
+// most 1,088 such pairs a mark; where one mark is targeted by all rules there are at most 17.6 million.
+fn search(image: &[u8], rules: usize, same: &[u16], opposite: &[u16]) -> Pair
+    requires { ⌜ (WellFormed (now image)) × (rules ≡ rulesIn (now image)) × (Chained (bookOf (now image)) (now same) (now opposite)) ⌝ }
+    ensures { λ r. ⌜ (r .first ≡ clashFirst (bookOf (now (image .entry)))) × (r .second ≡ clashSecond (bookOf (now (image .entry))) (r .first)) ⌝ }
+{
+    let mut p = 0;
+    let mut q = rules;
+    'search: while p < rules {
+        q = opposite[p] as usize;
+        while q < rules {
+            if !are_apart(image, p, q) {
+                break 'search;
+            }
+            q = same[q] as usize;
+        }
+        p += 1;
+    }
+    Pair {
+        first: p,
+        second: q,
+    }
+}
+
+pub fn first_clash(image: &[u8], rules: usize) -> Pair
+    requires { ⌜ (WellFormed (now image)) × (rules ≡ rulesIn (now image)) ⌝ }
+    ensures { λ r. ⌜ (r .first ≡ clashFirst (bookOf (now (image .entry)))) × (r .second ≡ clashSecond (bookOf (now (image .entry))) (r .first)) ⌝ }
+{
+    let mut same = [0u16; MAX_RULES];
+    let mut opposite = [0u16; MAX_RULES];
+    chain(image, rules, &mut same, &mut opposite);
+    search(image, rules, &same, &opposite)
+}

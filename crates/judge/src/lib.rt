@@ -1,0 +1,95 @@
+// The check of a book: loops, clashes and the running order.
+ghost use mathlib.Core.Path.{_≡_};
+ghost use mathlib.Core.List.{_++_};
+ghost use Prim.Native.Nat.{_≤_};
+ghost use lib.ListN.{length, take, drop};
+ghost use Rattle.book.specs.Image.{rulesIn, marksIn, bookOf};
+ghost use Rattle.book.specs.WellFormed.{WellFormed};
+ghost use Rattle.orders.specs.Running.{runningOrder};
+ghost use Rattle.ordering.specs.Nets.{rulesOf};
+ghost use Rattle.ordering.specs.References.{References};
+ghost use Rattle.judge.specs.Checking.{rulesAnswer, checking, checkedRoom};
+use crate::clashes::first_clash;
+use crate::loops::loop_place;
+use book::header::conditions_from;
+use book::header::counts_at;
+use book::header::words_from;
+use book::judging::judge_image;
+use ordering::references::REFS;
+use ordering::references::references;
+use ordering::running::running_order;
+use paper::Answer;
+use paper::CLASH;
+use paper::LOOP;
+use paper::MAX_RULES;
+use paper::ORDER_ROOM;
+
+pub mod clashes;
+pub mod loops;
+
+fn copy(from: &[u16], n: usize, room: &mut [u16])
+    requires { ⌜ (n ≤ length (now from)) × (n ≤ length (now room)) ⌝ }
+    ensures { λ _. ⌜ now (room .exit) ≡ take n (now (from .entry)) ++ drop n (now (room .entry)) ⌝ }
+{
+    for i in 0..n {
+        room[i] = from[i];
+    }
+}
+
+// 25 and 26, of a well-formed book. Where it grants, the order's room begins with the running order. The running order lists every rule
+// exactly if there is no loop, so the closure over the marks is made only for a book that is refused.
+pub fn judge_rules(
+    book: &[u8],
+    rules: usize,
+    marks: usize,
+    refs: &[u64; REFS],
+    order: &mut [u16],
+) -> Answer
+    requires { ⌜ (WellFormed (now book)) × (rules ≡ rulesIn (now book)) × (marks ≡ marksIn (now book)) × (References (now book) (now refs)) × (rules ≤ length (now order)) ⌝ }
+    ensures { λ r. ⌜ r ≡ rulesAnswer (bookOf (now (book .entry))) ⌝ }
+    ensures { λ r. ⌜ (r .code ≡ 0 → now (order .exit) ≡ runningOrder (rulesOf (now (book .entry))) ++ drop (rulesIn (now (book .entry))) (now (order .entry))) ⌝ }
+{
+    let written = running_order(book, rules, refs, order);
+    if written < rules {
+        return paper::refused(LOOP, loop_place(book, rules, marks, refs) as u32, 0);
+    }
+    let pair = first_clash(book, rules);
+    if pair.first < rules {
+        return paper::refused(CLASH, pair.first as u32, pair.second as u32);
+    }
+    paper::granted()
+}
+
+// The check: 20 to 26 and 31, or 0 and the running order in the room.
+// Cost: two passes over the book for 20 to 24, one over the texts for the references, the running order, one pass over the rules for the
+// chains, the pairs of rules that set and clear one mark, and one copy of the order.
+// Stack: 24 KiB here (references 8, order 16), and below it at most 34 KiB (the two chains 33, their heads 1) in the search for clashes;
+// 76 KiB if every callee is compiled into this function.
+pub fn check(book: &[u8], room: &mut [u16]) -> Answer
+    ensures { λ r. ⌜ (r ≡ checking (now (book .entry)) (length (now (room .entry)))) × (now (room .exit) ≡ checkedRoom (now (book .entry)) (now (room .entry))) ⌝ }
+{
+    let judged = judge_image(book);
+    if judged.code != 0 {
+        return judged;
+    }
+    let h = counts_at(book);
+    let rules = h.rules as usize;
+    let mut refs = [0u64; REFS];
+    references(
+        book,
+        conditions_from(h.rules),
+        words_from(h.rules, h.conditions),
+        h.conditions as usize,
+        &mut refs,
+    );
+    let mut order = [0u16; MAX_RULES];
+    let answer = judge_rules(book, rules, h.marks as usize, &refs, &mut order);
+    if answer.code != 0 {
+        return answer;
+    }
+    if room.len() < rules {
+        return paper::refused(ORDER_ROOM, h.rules, 0);
+    }
+    copy(&order, rules, room);
+    paper::granted()
+}
