@@ -1,0 +1,6 @@
+-- The root of the crate's specs.
+pub mod Matching
+pub mod Texts
+pub mod Settling
+pub mod Passing
+pub mod Agreeing

@@ -1,0 +1,1 @@
+// That chart and derived book agree: theorems alone, in specs/.
