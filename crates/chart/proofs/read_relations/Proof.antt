@@ -12,7 +12,7 @@ read-relations-spec =
     (λ c κs. search needs)
     (λ c. search needs)
     (λ c κs. search needs)
-    (λ c. search relations-bad)
+    (λ c. relations-bad (c .before .before .before .before .pre) (c .before .before .first-bad-relation .ensures) (c .refuse .ensures) (c .before .if1 .taken))
     (λ c κs. (c .before .before .before .pre .whole .few, room-for (c .before .before .before .pre)))
     (λ c κs. (placed (c .before .before .before .before .before .pre) (c .before .event-nodes .ensures), c .before .before .before .before .before .pre .whole .few))
     (λ c κs. sound-is (c .before .before .before .before .before .before .before .pre) (c .before .before .before .before .before .first-bad-relation .ensures) (c .before .before .before .before .if1 .left))

@@ -10,5 +10,5 @@ add-spec =
     (tie.spec
     (λ c κs. search needs)
     (λ c κs. search needs)
-    (λ c. search added-back)
-    (λ c. search added-on))
+    (λ c. added-back (c .spread .ensures) (c .before .before .if1 .taken))
+    (λ c. added-on (c .spread2 .ensures) (c .before .before .if1 .left)))

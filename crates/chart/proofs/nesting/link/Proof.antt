@@ -9,5 +9,5 @@ link-spec =
     tie.close
     (tie.spec
     (λ c κs. search needs)
-    (λ c. search link-on)
-    (λ c. search link-off))
+    (λ c. link-on _ _ _ _ _ (c .before .before .if1 .taken) (c .put-bit .ensures))
+    (λ c. link-off _ _ _ _ (c .if1 .left)))

@@ -9,5 +9,5 @@ mark-spec =
     tie.close
     (tie.spec
     (λ c. search needs)
-    (λ c. search mark-on)
-    (λ c. search mark-off))
+    (λ c. mark-on _ _ _ (c .if1 .taken))
+    (λ c. mark-off _ _ _ (c .if1 .left)))

@@ -11,4 +11,4 @@ nesting-of-spec =
     (λ c κs. search needs)
     (λ c. search needs)
     (λ c κs. search needs)
-    (λ c. search nestings-closed))
+    (λ c. nestings-closed (c .before .before .before .before .before .pre) (c .before .before .before .parents-of .ensures) (c .before .close .ensures)))
