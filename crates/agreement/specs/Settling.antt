@@ -80,8 +80,11 @@ module _ (c : FlatChart) (fit : Fit c) (m : Marking) (e : ℕ) (he : e < c .coun
             (λ x. rw x (on-wrote d false (answeredMark (c .count) f) (λ q. match-answered c next f h ∙ turned (has (next .pending) f) true (next-pending f ∙ rw (rw q at x) (or-true (has (m .pending) f && not (eqb e f))))), tt))
             (λ x. rw x tt);
         answers = λ d i. cases (has (setOf c response d) d) (λ x. rw x tt)
-            (λ x. rw x (on-wrote d true (answeredMark (c .count) d)
-            (λ q. match-answered c next d i ∙ turned (has (next .pending) d) false (next-pending d ∙ rw (q, rw q at x, eq-eqb e e refl) (gone (has (m .pending) e)))), tt));
+            (λ x. rw x (
+              on-wrote d true (answeredMark (c .count) d)
+                  (λ q. match-answered c next d i ∙ turned (has (next .pending) d) false (next-pending d ∙ rw (q, rw q at x, eq-eqb e e refl) (gone (has (m .pending) e)))),
+              tt,
+            ));
         executed = λ d i. on-wrote d true (executedMark (c .count) d) (λ q. match-executed c next d i ∙ next-executed d ∙ rw (eq-eqb e d (sym q)) (or-true (has (m .executed) d)));
         opened = λ d i f. match-stage c next d i ∙ sym (text-open c fit next d i) ∙ rw (derived-text c d i) at f;
         closed = λ d i f. match-stage c next d i ∙ sym (text-open c fit next d i) ∙ not-true (holds (markOf c next) (derivedText c d)) (rw (derived-text c d i) at f);

@@ -1,7 +1,11 @@
-// Runs the settled examples that are run, and prints a line for each: its name, code, place and other.
+// Runs the settled examples that are run, and prints a line for each: its name, code, place and other, and what else it gives.
+mod books;
 mod charts;
+mod runs;
 mod show;
 
 fn main() {
     charts::run();
+    books::run();
+    runs::run();
 }

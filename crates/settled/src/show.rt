@@ -15,3 +15,24 @@ pub fn line(name: &[u8], answer: Answer) {
     number(answer.other);
     io::write_all(STDOUT_FILENO, b"\n");
 }
+
+// One case with a count and the lowest.
+pub fn counted(name: &[u8], answer: Answer, count: u32, lowest: u32) {
+    io::write_all(STDOUT_FILENO, name);
+    number(answer.code);
+    number(answer.place);
+    number(answer.other);
+    number(count);
+    number(lowest);
+    io::write_all(STDOUT_FILENO, b"\n");
+}
+
+// One case that is yes or no.
+pub fn told(name: &[u8], yes: bool) {
+    io::write_all(STDOUT_FILENO, name);
+    if yes {
+        io::write_all(STDOUT_FILENO, b" yes\n");
+    } else {
+        io::write_all(STDOUT_FILENO, b" no\n");
+    }
+}

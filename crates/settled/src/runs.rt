@@ -1,0 +1,66 @@
+// Steps and deriving: the mortgage application's run of document 000, section 2, and the room of a book.
+use crate::show;
+use graph::FlatChart;
+use graph::Marking;
+
+// The step is taken, and then so many events are open, the lowest first.
+fn step(name: &[u8], chart: FlatChart, marking: Marking, event: u32) -> Marking {
+    let taken = marking.execute(chart, event);
+    let open = taken.marking.count_open(chart);
+    show::counted(name, taken.answer, open.count, open.lowest);
+    taken.marking
+}
+
+// The document's six steps are seven executions, since its second executes two events.
+fn mortgage() {
+    let read = chart::read(
+        b"\x08\x00\x0E\x00\x08\x00\x28\x00\xFF\xFF\x04\x00\xFF\xFF\x04\x00\xFF\xFF\x00\x00\xFF\xFF\x04\x00\xFF\xFF\x04\x00\xFF\xFF\x04\x00\xFF\xFF\x06\x00\xFF\xFF\x06\x00\x05\x00\x06\x00\x00\x00\x05\x00\x06\x00\x01\x00\x05\x00\x07\x00\x01\x00\x06\x00\x07\x00\x02\x00\x06\x00\x07\x00\x01\x00\x00\x00\x07\x00\x00\x00\x04\x00\x07\x00\x00\x00\x03\x00\x07\x00\x00\x00\x04\x00\x03\x00\x04\x00\x03\x00\x04\x00\x04\x00\x01\x00\x04\x00\x04\x00\x01\x00\x03\x00\x03\x00\x01\x00\x02\x00\x03\x00\x02\x00\x03\x00\x00\x00",
+    );
+    let chart = read.chart;
+    let start = read.marking.count_open(chart);
+    show::counted(b"mortgage-start", start.answer, start.count, start.lowest);
+    let irregular = step(b"mortgage-irregular-neighbourhood", chart, read.marking, 1);
+    let appointed = step(b"mortgage-make-appointment", chart, irregular, 2);
+    let appraised = step(b"mortgage-on-site-appraisal", chart, appointed, 3);
+    show::line(
+        b"mortgage-assess-too-soon",
+        appraised.execute(chart, 7).answer,
+    );
+    let collected = step(b"mortgage-collect-documents", chart, appraised, 0);
+    show::line(
+        b"mortgage-assess-unscreened",
+        collected.execute(chart, 7).answer,
+    );
+    let submitted = step(b"mortgage-submit-budget", chart, collected, 5);
+    let screened = step(b"mortgage-approve-screening", chart, submitted, 6);
+    show::told(b"mortgage-unfinished", screened.finished(chart).yes);
+    let assessed = step(b"mortgage-assess", chart, screened, 7);
+    show::told(b"mortgage-finished", assessed.finished(chart).yes);
+}
+
+// The paper's chart needs 162 bytes.
+fn room() {
+    let read = chart::read(
+        b"\x02\x00\x03\x00\x08\x00\x10\x00\xFF\xFF\x04\x00\xFF\xFF\x06\x00\x00\x00\x01\x00\x00\x00\x00\x00\x01\x00\x01\x00\x01\x00\x00\x00\x04\x00",
+    );
+    let mut short = [0u8; 161];
+    show::line(
+        b"derive-one-byte-too-few",
+        deriver::derive(read.chart, &mut short),
+    );
+    let mut exact = [0u8; 162];
+    show::line(
+        b"derive-exactly-enough",
+        deriver::derive(read.chart, &mut exact),
+    );
+    let mut none = [0u8; 1];
+    show::line(
+        b"derive-unfit",
+        deriver::derive(FlatChart::empty(), &mut none),
+    );
+}
+
+pub fn run() {
+    mortgage();
+    room();
+}
