@@ -1,6 +1,8 @@
 // Runs the settled examples that are run, and prints a line for each: its name, code, place and other, and what else it gives.
 mod books;
 mod charts;
+mod checks;
+mod completions;
 mod runs;
 mod show;
 
@@ -8,4 +10,6 @@ fn main() {
     charts::run();
     books::run();
     runs::run();
+    checks::run();
+    completions::run();
 }

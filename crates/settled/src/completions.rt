@@ -1,0 +1,61 @@
+// Completions: the paper's example through its derived book, a hand-made book in two fit orders, and one case each for 27 to 30.
+use crate::show;
+use book::Snapshot;
+
+// A mark m is worth 2 to the m.
+fn case(name: &[u8], book: &[u8], order: &[u16], snapshot: Snapshot, stage: u32) -> Snapshot {
+    let done = runner::complete(book, order, snapshot, stage);
+    show::marked(name, done.answer, done.snapshot);
+    done.snapshot
+}
+
+// 113, then 119, then 238.
+fn paper() {
+    let read = chart::read(
+        b"\x02\x00\x03\x00\x08\x00\x10\x00\xFF\xFF\x04\x00\xFF\xFF\x06\x00\x00\x00\x01\x00\x00\x00\x00\x00\x01\x00\x01\x00\x01\x00\x00\x00\x04\x00",
+    );
+    let mut book = [0u8; 162];
+    deriver::derive(read.chart, &mut book);
+    let mut order = [9999u16; 10];
+    judge::check(&book, &mut order);
+    let start = deriver::matching(read.chart, read.marking);
+    show::marked(b"complete-start", start.answer, start.snapshot);
+    case(b"complete-closed", &book, &order, start.snapshot, 1);
+    let first = case(b"complete-first", &book, &order, start.snapshot, 0);
+    case(b"complete-second", &book, &order, first, 1);
+}
+
+// On completion of 0 set 1 and clear 3; on 1 become yes set 2; on 3 become no set 4.
+fn by_hand() {
+    let book =
+        b"\x01\x00\x00\x00\x05\x00\x00\x00\x04\x00\x00\x00\x00\x00\x00\x00\x00\x00\x00\x00\x20\x00\x00\x00\x48\x00\x00\x00\x48\x00\x00\x00\x01\x00\x01\x00\x00\x00\x00\x00\x01\x00\x02\x00\x01\x00\x01\x00\x00\x00\x02\x00\x01\x00\x00\x00\x00\x00\x00\x00\x03\x00\x03\x00\x01\x00\x03\x00\x00\x00\x04\x00";
+    let mut marks = [false; paper::MAX_MARKS];
+    marks[0] = true;
+    marks[3] = true;
+    let open = Snapshot { marks };
+    case(b"complete-one-order", book, &[0, 1, 2, 3], open, 0);
+    case(b"complete-another", book, &[2, 3, 0, 1], open, 0);
+    case(b"complete-rule-twice", book, &[0, 0, 2, 3], open, 0);
+    case(b"complete-too-early", book, &[1, 0, 2, 3], open, 0);
+    case(b"complete-no-such-stage", book, &[0, 1, 2, 3], open, 1);
+    case(
+        b"complete-stage-closed",
+        book,
+        &[0, 1, 2, 3],
+        Snapshot::empty(),
+        0,
+    );
+    marks[5] = true;
+    case(
+        b"complete-mark-above",
+        book,
+        &[0, 1, 2, 3],
+        Snapshot { marks },
+        0,
+    );
+}
+
+pub fn run() {
+    paper();
+    by_hand();
+}
