@@ -1,0 +1,44 @@
+// The runner: completes a stage along a given order.
+ghost use mathlib.Core.Path.{_≡_};
+ghost use Rattle.runner.specs.Completing.{completing};
+use book::Snapshot;
+use book::header::conditions_from;
+use book::header::counts_at;
+use book::header::words_from;
+use paper::Answer;
+
+pub mod judging;
+pub mod running;
+
+// What completing a stage gives.
+#[repr(C)]
+pub struct Completion {
+    pub answer: Answer,
+    pub snapshot: Snapshot,
+}
+
+// 20 to 30 and the snapshot that was given, or 0 and the snapshot after every rule of the order had its turn.
+// Stack: about 48 KiB, of which the search for a clash takes 34.
+pub fn complete(book: &[u8], order: &[u16], snapshot: Snapshot, stage: u32) -> Completion
+    ensures { λ r. ⌜ r ≡ completing (now (book .entry)) (now (order .entry)) snapshot stage ⌝ }
+{
+    let judged = judging::judge_order(book, order);
+    if judged.code != 0 {
+        return Completion {
+            answer: judged,
+            snapshot,
+        };
+    }
+    let h = counts_at(book);
+    let answer = judging::judge_snapshot(&snapshot.marks, h.stages, h.marks, stage);
+    if answer.code != 0 {
+        return Completion { answer, snapshot };
+    }
+    let begin = conditions_from(h.rules);
+    let from = words_from(h.rules, h.conditions);
+    let after = running::go_through(book, begin, from, order, snapshot, stage);
+    Completion {
+        answer,
+        snapshot: after,
+    }
+}

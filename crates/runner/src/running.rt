@@ -1,0 +1,38 @@
+// One completion: every rule of the order has its turn.
+ghost use mathlib.Core.Path.{_≡_};
+ghost use Prim.Native.Nat.{ℕ, _<_};
+ghost use lib.ListN.{length, getD};
+ghost use Rattle.book.specs.Image.{rulesIn};
+ghost use Rattle.book.specs.Using.{Placed};
+ghost use Rattle.runner.specs.Completing.{through};
+use book::Snapshot;
+use book::applying::applied;
+use book::firing::rule_fires;
+use book::rules::rule_at;
+use ordering::fit::entry_of;
+
+// The snapshot after the turns. Conditions begin at the byte `begin`, words at the byte `from`.
+pub fn go_through(
+    book: &[u8],
+    begin: usize,
+    from: usize,
+    order: &[u16],
+    snapshot: Snapshot,
+    stage: u32,
+) -> Snapshot
+    requires { ⌜ (Placed (now book) begin from) × ((j : ℕ) → j < length (now order) → getD (now order) j 0 < rulesIn (now book)) ⌝ }
+    ensures { λ r. ⌜ r .marks ≡ through (now (book .entry)) (snapshot .marks) stage (snapshot .marks) (now (order .entry)) ⌝ }
+{
+    let start = snapshot.marks;
+    let mut held = snapshot;
+    let mut j = 0;
+    while j < order.len() {
+        let rule = rule_at(book, entry_of(order, j));
+        if rule_fires(book, begin, from, rule, stage, &start, &held.marks) {
+            let next = applied(held, rule);
+            held = next;
+        }
+        j += 1;
+    }
+    held
+}
