@@ -2,29 +2,29 @@
 -- order that respects the book's dependencies, fires as the paper defines, leaves the same snapshot whatever the order, and changes no mark
 -- more than once on the way; the order that the check writes is such an order. (That a completion ends is part of its contract.) Assumes nothing.
 use mathlib.Core.Path.{_≡_, refl, sym, ap, subst, _∙_, fun-ext}
-use mathlib.Core.Bool.{Bool, true, false, cond, _&&_}
-use mathlib.Core.List.{List, [], _∷_, _++_}
+use mathlib.Core.Bool.{true, false, cond}
+use mathlib.Core.List.{List, [], _∷_}
 use Prim.Native.Nat.{ℕ, _≤_, _<_}
 use native.Mathlib.Omega.{arith}
-use lib.Dec.{eqb, ltb}
-use lib.ListN.{length, getD, take, drop}
+use lib.Dec.{eqb}
+use lib.ListN.{length, take, drop}
 use lib.Seq.{take-at}
 use borrow.Author.Tests.{ne-eqb}
 use Rattle.paper.specs.Limits.{maxMarks}
 use Rattle.paper.specs.Answers.{granted}
 use Rattle.paper.specs.declared.Answer.{Answer}
 use Rattle.sets.specs.Cases.{cases, coincide}
-use Rattle.orders.specs.Order.{Mem, Fit}
+use Rattle.orders.specs.Order.{Fit}
 use Rattle.orders.specs.Running.{runningOrder}
-use Rattle.orders.specs.Settle.{Calm, Settled, run, step, changes, run-settled, confluence, toggle-once}
-use Rattle.orders.specs.Snapshots.{at, at-same, runL, length-runL, at-runL}
+use Rattle.orders.specs.Settle.{Calm, Settled, run, step, changes, run-settled, settled-unique, confluence, toggle-once}
+use Rattle.orders.specs.Snapshots.{at, at-same, length-runL, at-runL}
 use Rattle.book.specs.Text.{Snap, snapOf}
 use Rattle.book.specs.Book.{Book, ruleOf}
-use Rattle.book.specs.Image.{stagesIn, marksIn, rulesIn, bookOf}
+use Rattle.book.specs.Image.{stagesIn, rulesIn, bookOf}
 use Rattle.book.specs.Firing.{fires}
 use Rattle.book.specs.declared.Snapshot.{Snapshot}
 use Rattle.ordering.specs.Rules.{netOf, actsOf}
-use Rattle.ordering.specs.Nets.{rulesOf, count-is, targets-small}
+use Rattle.ordering.specs.Nets.{rulesOf, targets-small}
 use Rattle.judge.specs.Clash.{calm}
 use Rattle.judge.specs.Checking.{checking, checkedRoom, granted-room, marks-many, targets-in}
 use Rattle.runner.specs.Completing.{completionAnswer, through, completing}
@@ -124,6 +124,13 @@ module _ (s : List ℕ) (p : Passes s) (snapshot : Snapshot) (stage : ℕ) (o : 
       at-same (through s (snapshot .marks) stage (snapshot .marks) k) (through s (snapshot .marks) stage (snapshot .marks) l) (after-whole k x ∙ sym (after-whole l y))
       (λ m. ap (λ (u : Snap). u m) (completed-run k x) ∙ confluence (rulesOf s) A k l x y quiet (snapOf (snapshot .marks)) m ∙ sym (ap (λ (u : Snap). u m) (completed-run l y))) in
       completed-marks k x ∙ rw z (sym (completed-marks l y))
+
+  -- and a snapshot that is what the rules make of the start, whatever the order, is that one
+  pub completed-is : (order : List ℕ) → Fit (rulesOf s) order → (F : Snap) → Settled (rulesOf s) (actsOf (bookOf s) (snapOf (snapshot .marks)) stage) (snapOf (snapshot .marks)) F
+      → (m : ℕ) → snapOf (completing s order snapshot stage .snapshot .marks) m ≡ F m
+  completed-is order f F g m =
+      settled-unique (rulesOf s) (actsOf (bookOf s) (snapOf (snapshot .marks)) stage) (snapOf (snapshot .marks)) (snapOf (completing s order snapshot stage .snapshot .marks)) F
+      (completes order f .settled) g order f m
 
 -- ---- the order that the check writes
 

@@ -4,3 +4,4 @@ pub mod Ordered
 pub mod Going
 pub mod Table
 pub mod Completion
+pub mod Examples

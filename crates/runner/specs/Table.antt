@@ -1,5 +1,5 @@
 -- The rows of the paper's table for a completion, lower codes first, and that the answer is given exactly as they say. Assumes nothing.
-use mathlib.Core.Path.{_≡_, refl, sym, ap, subst, _∙_}
+use mathlib.Core.Path.{_≡_, sym, ap, subst, _∙_}
 use mathlib.Core.Bool.{Bool, true, false, _&&_}
 use mathlib.Core.List.{List}
 use Prim.Native.Nat.{ℕ, _≤_, _<_}
@@ -10,13 +10,13 @@ use Rattle.paper.specs.Limits.{maxMarks, orderUnfit, markAbove, noSuchStage, st
 use Rattle.paper.specs.Answers.{granted, refusal}
 use Rattle.paper.specs.declared.Answer.{Answer}
 use Rattle.sets.specs.Cases.{contra, cases, both, not-so}
-use Rattle.sets.specs.Below.{some, some-of, some-at, some-none}
+use Rattle.sets.specs.Below.{some-of, some-at, some-none}
 use Rattle.orders.specs.Order.{Fit}
 use Rattle.orders.specs.Pass.{fitPass, fit-pass}
 use Rattle.book.specs.Text.{snapOf}
 use Rattle.book.specs.Image.{stagesIn, marksIn, rulesIn}
 use Rattle.ordering.specs.Nets.{rulesOf}
-use Rattle.judge.specs.Checking.{bookAnswer, checking, Checked, checked, checked-is, Passed, passed-is, is-passed}
+use Rattle.judge.specs.Checking.{bookAnswer, checking, Checked, checked, checked-is, Passed, is-passed}
 use Rattle.runner.specs.Completing.{fitted, orderAnswer, anyFrom, snapshotAnswer, completionAnswer}
 use Rattle.runner.specs.Ordered.{book-passes, passes-book, fitted-granted, fitted-refused}
 
