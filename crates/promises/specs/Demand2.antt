@@ -1,0 +1,233 @@
+-- Demand 2: from a marking and its matching snapshot, chart and derived book grant exactly the same events, and they match again after every
+-- step of every sequence. Stated of what the calls give: derive, check, matching, execute and complete. Assumes nothing.
+use Prim.Native.Nat.{ℕ, _-_, _*_, _≤_, _<_}
+use mathlib.Core.Path.{_≡_, refl, sym, ap, subst, fun-ext, _∙_}
+use mathlib.Core.Bool.{Bool, true, false, not}
+use mathlib.Core.Logic.{_↔_}
+use mathlib.Core.List.{List, [], _∷_, _++_}
+use native.Mathlib.Omega.{arith}
+use lib.ListN.{length, take, drop, replicate, length-append, length-replicate}
+use lib.Dec.{eqb, leb}
+use lib.Seq.{take-at}
+use borrow.Author.Tests.{le-leb, eqb-true, eqb-false}
+use Rattle.paper.specs.Limits.{maxEvents, maxMarks}
+use Rattle.paper.specs.Answers.{granted}
+use Rattle.paper.specs.declared.Answer.{Answer}
+use Rattle.sets.specs.Cases.{cases, contra, not-so}
+use Rattle.graph.specs.Chart.{Fit, FitMarking}
+use Rattle.graph.specs.Fitness.{fit-tested, both-fit}
+use Rattle.graph.specs.Steps.{isOpen, after, executing, granting}
+use Rattle.graph.specs.Execution.{Enabled, Stands, isDone, open-enabled, granted-enabled, after-executed, executes-only, refused-kept, after-fit, step-fit}
+use Rattle.graph.specs.declared.FlatChart.{FlatChart}
+use Rattle.graph.specs.declared.Marking.{Marking}
+use Rattle.book.specs.Text.{Snap, snapOf}
+use Rattle.book.specs.Book.{Book}
+use Rattle.book.specs.Lists.{each, length-each}
+use Rattle.sets.specs.Set.{has}
+use Rattle.book.specs.Image.{bookOf, stagesIn, marksIn, rulesIn}
+use Rattle.book.specs.ImageOf.{book-of-image}
+use Rattle.book.specs.declared.Snapshot.{Snapshot}
+use Rattle.orders.specs.Order as order
+use Rattle.orders.specs.Settle.{Settled}
+use Rattle.orders.specs.Running.{runningOrder}
+use Rattle.orders.specs.Snapshots.{at, at-same}
+use Rattle.ordering.specs.Rules.{netOf, actsOf}
+use Rattle.ordering.specs.Nets.{rulesOf}
+use Rattle.judge.specs.Checking.{Passed, checking, checkedRoom, is-passed, passed-is, granted-room, rules-many, marks-many}
+use Rattle.deriver.specs.Derived.{derivedBook}
+use Rattle.deriver.specs.Deriving.{derivedImage, derivingAnswer, derivedRoom}
+use Rattle.deriver.specs.Formed.{derived-well}
+use Rattle.deriver.specs.Matching.{matchingMarks, matchingOf, markOf, marks-at}
+use Rattle.runner.specs.Table.{Passes, Belongs}
+use Rattle.runner.specs.Completing.{completing}
+use Rattle.runner.specs.Completion.{Open, Completes, completes, completed-is, granted-only, written-fit, refusal-hands-back}
+use Rattle.runner.specs.declared.Completion.{Completion}
+use Rattle.agreement.specs.Matching.{match-stage, match-past}
+use Rattle.agreement.specs.Settling.{derived-settled}
+use Rattle.agreement.specs.Passing.{derived-calm, derived-no-loop}
+
+pub matched : (c : FlatChart) → Fit c → (m : Marking) → FitMarking (c .count) m → matchingOf c m ≡ record { answer = granted; snapshot = record { marks = matchingMarks c m } }
+unfolding matchingOf
+matched c t m k = rw (both-fit c m t k)
+
+-- a matching snapshot has every mark
+long : (c : FlatChart) → c .count ≤ maxEvents → (m : Marking) → length (matchingMarks c m) ≡ maxMarks
+unfolding matchingMarks
+long c few m =
+    let n : ℕ = c .count in
+    let s : length (each n (isOpen c m)) ≡ n = length-each n (isOpen c m) in
+    let x : length (each n (has (m .executed))) ≡ n = length-each n (has (m .executed)) in
+    let i : length (each n (has (m .included))) ≡ n = length-each n (has (m .included)) in
+    let a : length (each n (λ e. not (has (m .pending) e))) ≡ n = length-each n (λ e. not (has (m .pending) e)) in
+    let r : length (replicate (maxMarks - 4 * n) false) ≡ maxMarks - 4 * n = length-replicate (maxMarks - 4 * n) false in
+    simp length-append (omega arith)
+
+-- a granted derivation writes the image and leaves the room behind it as it was
+granted-bytes : (c : FlatChart) → Fit c → (bytes : List ℕ) → length (derivedImage c) ≤ length bytes
+    → (derivingAnswer c (length bytes) ≡ granted) × (take (length (derivedImage c)) (derivedRoom c bytes) ≡ derivedImage c)
+unfolding derivingAnswer derivedRoom
+granted-bytes c t bytes h =
+    rw (fit-tested c t, le-leb (length (derivedImage c)) (length bytes) h)
+    (refl, take-at (derivedImage c) (drop (length (derivedImage c)) bytes) (length (derivedImage c)) refl)
+
+-- ---- a book derived from a fit chart always passes, given room
+
+module _ (c : FlatChart) (fit : Fit c) where
+  -- the image says the derived book
+  said : bookOf (derivedImage c) ≡ derivedBook c
+  said = book-of-image (derivedBook c)
+
+  derived-passed : (room : ℕ) → rulesIn (derivedImage c) ≤ room → Passed (derivedImage c) room
+  derived-passed room h =
+      record {
+        formed = derived-well c fit;
+        acyclic = rw said (derived-no-loop c (fit .few));
+        calm = rw said (derived-calm c);
+        wide = h;
+      }
+
+  pub derived-passes : (room : ℕ) → rulesIn (derivedImage c) ≤ room → checking (derivedImage c) room ≡ granted
+  derived-passes room h = is-passed (derivedImage c) room (derived-passed room h)
+
+  -- ---- the matching snapshot is one that the derived book can be completed from
+
+  module _ (m : Marking) (marked : FitMarking (c .count) m) where
+    matches : matchingOf c m ≡ record { answer = granted; snapshot = record { marks = matchingMarks c m } }
+    matches = matched c fit m marked
+
+    matching-long : length (matchingMarks c m) ≡ maxMarks
+    matching-long = long c (fit .few) m
+
+    stages-are : stagesIn (derivedImage c) ≡ c .count
+    unfolding bookOf derivedBook
+    stages-are = ap (λ (b : Book). b .stages) said
+
+    marks-are : marksIn (derivedImage c) ≡ 4 * c .count
+    unfolding bookOf derivedBook
+    marks-are = ap (λ (b : Book). b .marks) said
+
+    belongs : Belongs (derivedImage c) (matchingMarks c m)
+    belongs k h l = marks-at c m k ∙ match-past c m k (rw marks-are at h)
+
+    -- a stage of the matching snapshot is open exactly if its event is enabled
+    stage-open : (e : ℕ) → e < c .count → snapOf (matchingMarks c m) e ≡ isOpen c m e
+    stage-open e h = marks-at c m e ∙ match-stage c m e h
+
+    opened : (e : ℕ) → e < c .count → Enabled c m e → Open (derivedImage c) (matchingOf c m .snapshot) e
+    opened e h t =
+        rw matches (record {
+          whole = matching-long;
+          belongs = belongs;
+          known = rw stages-are h;
+          yes = stage-open e h ∙ open-enabled c m e .1 t;
+        })
+
+    -- ---- one step
+
+    -- the order may be any fit one
+    module _ (l : List ℕ) (fitOrder : order.Fit (rulesOf (derivedImage c)) l) (e : ℕ) where
+      passes : Passes (derivedImage c)
+      passes = derived-passed (rulesIn (derivedImage c)) (omega arith)
+
+      -- chart and book grant the same event
+      pub same-grants : (executing c m e .answer .code ≡ 0) ↔ (completing (derivedImage c) l (matchingOf c m .snapshot) e .answer .code ≡ 0)
+      same-grants = (
+        λ g. let t = granted-enabled c m e .0 g in
+            ap (λ (a : Answer). a .code) (completes (derivedImage c) passes (matchingOf c m .snapshot) e (opened e (t .0 .exists) (t .1)) l fitOrder .granted),
+        λ g. let o = granted-only (derivedImage c) l (matchingOf c m .snapshot) e (rw matches matching-long) g .2 in
+            let h : e < c .count = rw stages-are at (o .known) in
+            let y : snapOf (matchingMarks c m) e ≡ true = rw matches at (o .yes) in
+            granted-enabled c m e .1 (
+              record { chart = fit; marking = marked; exists = h },
+              open-enabled c m e .0 (sym (stage-open e h) ∙ y),
+            ),
+      )
+
+      -- where both grant, the book's snapshot matches the chart's next marking
+      matched-after : executing c m e .answer .code ≡ 0 → completing (derivedImage c) l (matchingOf c m .snapshot) e .snapshot .marks ≡ matchingMarks c (after c m e)
+      unfolding at
+      matched-after g =
+          let t = granted-enabled c m e .0 g in
+          let h : e < c .count = t .0 .exists in
+          let o = opened e h (t .1) in
+          let k = completes (derivedImage c) passes (matchingOf c m .snapshot) e o l fitOrder in
+          at-same (completing (derivedImage c) l (matchingOf c m .snapshot) e .snapshot .marks) (matchingMarks c (after c m e))
+          (k .whole ∙ sym (matching-long-after h))
+          (λ x. completed-is (derivedImage c) passes (matchingOf c m .snapshot) e o l fitOrder (markOf c (after c m e)) (settles h) x ∙ sym (marks-at c (after c m e) x))
+        where
+          matching-long-after : e < c .count → length (matchingMarks c (after c m e)) ≡ maxMarks
+          matching-long-after h = long c (fit .few) (after c m e)
+
+          settles : e < c .count → Settled (rulesOf (derivedImage c)) (actsOf (bookOf (derivedImage c)) (snapOf (matchingOf c m .snapshot .marks)) e) (snapOf (matchingOf c m .snapshot .marks)) (markOf c (after c m e))
+          settles h =
+              let D : Book = derivedBook c in
+              let F : Snap = markOf c (after c m e) in
+              let q : snapOf (matchingOf c m .snapshot .marks) ≡ markOf c m = rw matches (fun-ext (marks-at c m)) in
+              subst (λ (b : Book). Settled (netOf b) (actsOf b (snapOf (matchingOf c m .snapshot .marks)) e) (snapOf (matchingOf c m .snapshot .marks)) F) (sym said)
+              (subst (λ (S : Snap). Settled (netOf D) (actsOf D S e) S F) (sym q) (derived-settled c fit m e h))
+
+      -- after the step, granted or refused, they match again, and the marking is fit
+      pub fit-again : FitMarking (c .count) (executing c m e .marking)
+      fit-again =
+          cases (eqb (executing c m e .answer .code) 0)
+          (λ g. step-fit c m e (eqb-true _ 0 g))
+          (λ g. rw (refused-kept c m e (eqb-false _ 0 g)) marked)
+
+      pub match-again : completing (derivedImage c) l (matchingOf c m .snapshot) e .snapshot ≡ matchingOf c (executing c m e .marking) .snapshot
+      match-again =
+          cases (eqb (executing c m e .answer .code) 0)
+          (λ g. let z = eqb-true _ 0 g in
+          let t = granted-enabled c m e .0 z in
+          let n : executing c m e ≡ granting (after c m e) = sym (executes-only c m e (isDone (t .0) (t .1) (after-executed c m e))) in
+          rw n (rw (matches-after (t .0 .exists)) (ap (λ (k : List Bool). whole k) (matched-after z))))
+          (λ g. let z = eqb-false _ 0 g in
+          rw (refused-kept c m e z) (refusal-hands-back (derivedImage c) l (matchingOf c m .snapshot) e (λ y. z (same-grants .1 y))))
+        where
+          whole : List Bool → Snapshot
+          whole k = record { marks = k }
+
+          matches-after : e < c .count → matchingOf c (after c m e) ≡ record { answer = granted; snapshot = record { marks = matchingMarks c (after c m e) } }
+          matches-after h = matched c fit (after c m e) (after-fit c m e fit marked h)
+
+-- ---- every step of every sequence
+
+-- along the events: chart and book grant the same ones, the book's snapshot matches the chart's marking after each, and so on from there
+abbrev pub Alike : FlatChart → List ℕ → Marking → List ℕ → Type 0
+Alike c l m [] = Unit {0}
+Alike c l m (e ∷ events) =
+    ((executing c m e .answer .code ≡ 0) ↔ (completing (derivedImage c) l (matchingOf c m .snapshot) e .answer .code ≡ 0))
+    × (completing (derivedImage c) l (matchingOf c m .snapshot) e .snapshot ≡ matchingOf c (executing c m e .marking) .snapshot)
+    × Alike c l (executing c m e .marking) events
+
+pub alike : (c : FlatChart) → Fit c → (l : List ℕ) → order.Fit (rulesOf (derivedImage c)) l → (m : Marking) → FitMarking (c .count) m → (events : List ℕ) → Alike c l m events
+alike c t l f m k [] = tt
+alike c t l f m k (e ∷ events) = (same-grants c t m k l f e, match-again c t m k l f e, alike c t l f (executing c m e .marking) (fit-again c t m k l f e) events)
+
+-- ---- through the calls
+
+-- The book that derive writes into room, and the order that check writes for it into more room, as far as they are written.
+abbrev pub written : FlatChart → List ℕ → List ℕ
+written c bytes = take (length (derivedImage c)) (derivedRoom c bytes)
+
+abbrev pub ordered : List ℕ → List ℕ → List ℕ
+ordered book room = take (rulesIn book) (checkedRoom book room)
+
+pub record Demand2 (c : FlatChart) (bytes room : List ℕ) : Type 0 where
+  -- deriving is granted, and what it writes is the derived book's image
+  pub derives : derivingAnswer c (length bytes) ≡ granted
+  pub writes : written c bytes ≡ derivedImage c
+  -- the check passes it
+  pub passes : checking (written c bytes) (length room) ≡ granted
+  -- from any fit marking and its matching snapshot, along any sequence of events, in the order that the check wrote
+  pub agrees : (m : Marking) → FitMarking (c .count) m → (events : List ℕ) → Alike c (ordered (written c bytes) room) m events
+
+pub demand-2 : (c : FlatChart) → Fit c → (bytes room : List ℕ) → length (derivedImage c) ≤ length bytes → rulesIn (derivedImage c) ≤ length room → Demand2 c bytes room
+demand-2 c t bytes room h k =
+    let g = granted-bytes c t bytes h in
+    let p : checking (derivedImage c) (length room) ≡ granted = derived-passes c t (length room) k in
+    record {
+      derives = g .0;
+      writes = g .1;
+      passes = rw (g .1) p;
+      agrees = λ m f events. rw (g .1) (alike c t (ordered (derivedImage c) room) (written-fit (derivedImage c) room (ap (λ (a : Answer). a .code) p)) m f events);
+    }

@@ -1,0 +1,5 @@
+-- The root of the crate's specs.
+pub mod Demand2
+pub mod Demand1
+pub mod Demand3
+pub mod Rows

@@ -1,0 +1,1 @@
+// The demands as theorems about the public calls, in specs/.
