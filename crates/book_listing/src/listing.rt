@@ -1,14 +1,19 @@
 // A rule book's lines: the five counts, the rules, the conditions.
 ghost use Prim.Native.Nat.{_+_, _*_, _<_, _≤_};
 ghost use lib.ListN.{length};
+ghost use Rattle.paper.specs.Limits.{bookHeader, ruleSize, conditionSize, wordSize};
 use crate::out;
 use crate::out::ROOM;
 use book::Rule;
 use book::Sense;
 use book::Trigger;
 use paper::AND;
+use paper::BOOK_HEADER;
+use paper::CONDITION_SIZE;
 use paper::NOT;
 use paper::OR;
+use paper::RULE_SIZE;
+use paper::WORD_SIZE;
 
 fn counts_line(
     buffer: &mut [u8; ROOM],
@@ -78,7 +83,7 @@ fn rule_line(buffer: &mut [u8; ROOM], at: usize, i: usize, rule: Rule) -> usize
 }
 
 fn rule_lines(buffer: &mut [u8; ROOM], at: usize, image: &[u8], rules: u32) -> usize
-    requires { ⌜ (at < 4096) × (32 + 10 * rules ≤ length (now image)) ⌝ }
+    requires { ⌜ (at < 4096) × (bookHeader + ruleSize * rules ≤ length (now image)) ⌝ }
     ensures { λ r. ⌜ r < 4096 ⌝ }
 {
     let mut next = at;
@@ -104,13 +109,13 @@ fn word_text(buffer: &mut [u8; ROOM], at: usize, word: u16) -> usize
 }
 
 fn words_text(buffer: &mut [u8; ROOM], at: usize, image: &[u8], from: usize, count: u32) -> usize
-    requires { ⌜ (at < 4096) × (from + 2 * count ≤ length (now image)) ⌝ }
+    requires { ⌜ (at < 4096) × (from + wordSize * count ≤ length (now image)) ⌝ }
     ensures { λ r. ⌜ r < 4096 ⌝ }
 {
     let mut next = at;
     let mut i = 0;
     while i < count as usize {
-        next = word_text(buffer, next, wire::u16_at(image, from + 2 * i));
+        next = word_text(buffer, next, wire::u16_at(image, from + WORD_SIZE * i));
         i += 1;
     }
     next
@@ -131,8 +136,8 @@ fn condition_line(
 {
     let a = out::named(buffer, at, b"cond ", c as u64);
     let b = out::text(buffer, a, b":");
-    let text = from + 2 * start as usize;
-    if image.len() < text + 2 * count as usize {
+    let text = from + WORD_SIZE * start as usize;
+    if image.len() < text + WORD_SIZE * count as usize {
         return b;
     }
     let d = words_text(buffer, b, image, text, count);
@@ -146,15 +151,15 @@ fn condition_lines(
     rules: u32,
     conditions: u32,
 ) -> usize
-    requires { ⌜ (at < 4096) × (32 + 10 * rules + 8 * conditions ≤ length (now image)) ⌝ }
+    requires { ⌜ (at < 4096) × (bookHeader + ruleSize * rules + conditionSize * conditions ≤ length (now image)) ⌝ }
     ensures { λ r. ⌜ r < 4096 ⌝ }
 {
-    let first = 32 + 10 * rules as usize;
-    let from = first + 8 * conditions as usize;
+    let first = BOOK_HEADER + RULE_SIZE * rules as usize;
+    let from = first + CONDITION_SIZE * conditions as usize;
     let mut next = at;
     let mut c = 0;
     while c < conditions as usize {
-        let place = first + 8 * c;
+        let place = first + CONDITION_SIZE * c;
         let start = wire::u32_at(image, place);
         let count = wire::u32_at(image, place + 4);
         next = condition_line(buffer, next, image, c, from, start, count);
@@ -165,13 +170,15 @@ fn condition_lines(
 
 // Prints a book that the deriver wrote.
 pub fn list(image: &[u8]) {
-    if image.len() < 32 {
+    if image.len() < BOOK_HEADER {
         return;
     }
     let h = book::header::counts_at(image);
     let rules = h.rules;
     let conditions = h.conditions;
-    if image.len() < 32 + 10 * rules as usize + 8 * conditions as usize {
+    if image.len()
+        < BOOK_HEADER + RULE_SIZE * rules as usize + CONDITION_SIZE * conditions as usize
+    {
         return;
     }
     let mut buffer = [0u8; ROOM];

@@ -1,6 +1,6 @@
 -- The derived book's parts by the chart's tables, as the code is lent them, and what it needs of their sets. Assumes nothing.
 use Prim.Native.Nat.{ℕ, _+_, _<_}
-use mathlib.Core.Path.{_≡_, refl}
+use mathlib.Core.Path.{_≡_}
 use mathlib.Core.Bool.{true}
 use mathlib.Core.List.{List, [], _∷_}
 use lib.ListN.{length, getD}
@@ -8,9 +8,9 @@ use Rattle.sets.specs.Set.{union, within}
 use Rattle.graph.specs.Chart.{condition, response, milestone, Fit}
 use Rattle.graph.specs.declared.FlatChart.{FlatChart}
 use Rattle.book.specs.Book.{Condition}
-use Rattle.book.specs.Lists.{flat, each}
+use Rattle.book.specs.Lists.{flat}
 use Rattle.book.specs.declared.Rule.{Rule}
-use Rattle.deriver.specs.Derived.{clause, completion, textFor, eventRules, derivedText, derivedCondition}
+use Rattle.deriver.specs.Derived.{clause, completion, textFor}
 use Rattle.deriver.specs.Sizes.{set-within, both-within}
 
 -- what e's completion does, where i, x and r are the tables of includes, excludes and responses
@@ -43,18 +43,6 @@ clauseFrom n base f = clause n (λ k. base + k) f
 -- ---- a chart's own tables
 
 module _ (c : FlatChart) where
-  pub event-rules : flat (c .count) (completionAt (c .count) (c .includes) (c .excludes) (c .responses)) ≡ flat (c .count) (eventRules c)
-  unfolding completionAt eventRules
-  event-rules = refl
-
-  pub texts : flat (c .count) (textAt (c .count) (c .conditions) (c .milestones)) ≡ flat (c .count) (derivedText c)
-  unfolding textAt derivedText
-  texts = refl
-
-  pub conditions : flat (c .count) (conditionPart (c .count) (c .conditions) (c .milestones)) ≡ each (c .count) (derivedCondition c)
-  unfolding conditionPart derivedCondition textAt derivedText
-  conditions = refl
-
   module _ (fit : Fit c) where
     pub completions-in : CompletionsIn (c .count) (c .includes) (c .excludes) (c .responses)
     completions-in = record { inclusions = both-within c fit; responses = set-within c fit response }

@@ -2,6 +2,7 @@
 ghost use mathlib.Core.Path.{_≡_};
 ghost use Prim.Native.Nat.{_*_, _≤_};
 ghost use lib.ListN.{length};
+ghost use Rattle.paper.specs.Limits.{maxEvents, maxRules, bookHeader};
 ghost use Rattle.graph.specs.Chart.{chartOf};
 ghost use Rattle.book.specs.ImageOf.{headerBytes};
 ghost use Rattle.deriver.specs.Writing.{Wrote};
@@ -32,17 +33,19 @@ pub struct Matched {
 
 // The counts of a book of n events, and where its parts lie.
 fn put_header(room: &mut [u8], n: u32, rules: u32, words: u32) -> usize
-    requires { ⌜ (n ≤ 64) × (rules ≤ 8384) × (32 ≤ length (now room)) ⌝ }
+    requires { ⌜ (n ≤ maxEvents) × (rules ≤ maxRules) × (bookHeader ≤ length (now room)) ⌝ }
     ensures { λ r. ⌜ Wrote (now (room .entry)) 0 (headerBytes n (4 * n) rules n words) r (now (room .exit)) ⌝ }
 {
+    let conditions = BOOK_HEADER + RULE_SIZE * rules as usize;
+    let texts = conditions + CONDITION_SIZE * n as usize;
     wire::put32(room, 0, n);
     wire::put32(room, 4, 4 * n);
     wire::put32(room, 8, rules);
     wire::put32(room, 12, n);
     wire::put32(room, 16, words);
     wire::put32(room, 20, BOOK_HEADER as u32);
-    wire::put32(room, 24, 32 + 10 * rules);
-    wire::put32(room, 28, 32 + 10 * rules + 8 * n);
+    wire::put32(room, 24, conditions as u32);
+    wire::put32(room, 28, texts as u32);
     BOOK_HEADER
 }
 

@@ -2,6 +2,7 @@
 ghost use mathlib.Core.Path.{_≡_};
 ghost use Prim.Native.Nat.{_+_, _≤_};
 ghost use lib.Seq.{sets};
+ghost use Rattle.paper.specs.Limits.{maxMarks};
 ghost use Rattle.sets.specs.Set.{has};
 ghost use Rattle.graph.specs.Chart.{chartOf};
 ghost use Rattle.book.specs.Lists.{each};
@@ -14,7 +15,7 @@ use paper::MAX_MARKS;
 
 // The n marks from a place on say which of the first n events are in the set.
 fn put_marks(marks: &mut [bool; MAX_MARKS], at: usize, n: usize, set: u64)
-    requires { ⌜ at + n ≤ 256 ⌝ }
+    requires { ⌜ at + n ≤ maxMarks ⌝ }
     ensures { λ _. ⌜ now (marks .exit) ≡ sets (now (marks .entry)) at (each n (has set)) ⌝ }
 {
     let mut e = 0;

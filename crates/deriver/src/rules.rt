@@ -1,13 +1,14 @@
 // The rules of a derived book, written into lent room one record after another.
 ghost use mathlib.Core.Path.{_≡_};
-ghost use mathlib.Core.Bool.{Bool, true};
+ghost use mathlib.Core.Bool.{true};
 ghost use mathlib.Core.List.{[], _∷_};
-ghost use Prim.Native.Nat.{ℕ, _+_, _*_, _<_, _≤_};
-ghost use lib.ListN.{length, getD};
-ghost use Rattle.sets.specs.Set.{has, union, within};
+ghost use Prim.Native.Nat.{_+_, _*_, _<_, _≤_};
+ghost use lib.ListN.{length};
+ghost use Rattle.paper.specs.Limits.{maxEvents, maxRules, ruleSize};
+ghost use Rattle.sets.specs.Set.{union, within};
 ghost use Rattle.book.specs.Lists.{flat, packed};
 ghost use Rattle.book.specs.ImageOf.{effectByte, ruleRecord, ruleBytes};
-ghost use Rattle.deriver.specs.Derived.{on, opens, closes, answering, completion, stageRules};
+ghost use Rattle.deriver.specs.Derived.{on, answering, completion, stageRules};
 ghost use Rattle.deriver.specs.Sizes.{effects, completionSize, completionsSize};
 ghost use Rattle.deriver.specs.Writing.{Fits, Wrote};
 ghost use Rattle.deriver.specs.Tables.{completionAt, CompletionsIn};
@@ -34,7 +35,7 @@ fn put_rule(
     condition: u16,
     target: u16,
 ) -> usize
-    requires { ⌜ at + 10 ≤ length (now room) ⌝ }
+    requires { ⌜ at + ruleSize ≤ length (now room) ⌝ }
     ensures { λ r. ⌜ Wrote (now (room .entry)) at (ruleRecord kind sense effect number condition target) r (now (room .exit)) ⌝ }
 {
     room[at] = kind;
@@ -49,7 +50,7 @@ fn put_rule(
 
 // On completion of e, set the mark or clear it.
 fn put_on(room: &mut [u8], at: usize, e: usize, effect: bool, mark: usize) -> usize
-    requires { ⌜ (e < 65536) × (mark < 65536) × (at + 10 ≤ length (now room)) ⌝ }
+    requires { ⌜ (e < 65536) × (mark < 65536) × (at + ruleSize ≤ length (now room)) ⌝ }
     ensures { λ r. ⌜ Wrote (now (room .entry)) at (packed ruleBytes (on e effect mark ∷ [])) r (now (room .exit)) ⌝ }
 {
     put_rule(room, at, 1, 0, flag(effect), e as u16, 0, mark as u16)
@@ -65,7 +66,7 @@ fn put_effects(
     among: u64,
     base: usize,
 ) -> usize
-    requires { ⌜ (n ≤ 64) × (e < n) × (base ≤ 192) × (within n among ≡ true) × Fits (now room) at (packed ruleBytes (effects n e raise among base)) ⌝ }
+    requires { ⌜ (n ≤ maxEvents) × (e < n) × (base ≤ 3 * maxEvents) × (within n among ≡ true) × Fits (now room) at (packed ruleBytes (effects n e raise among base)) ⌝ }
     ensures { λ r. ⌜ Wrote (now (room .entry)) at (packed ruleBytes (effects n e raise among base)) r (now (room .exit)) ⌝ }
 {
     let mut rest = among;
@@ -80,7 +81,7 @@ fn put_effects(
 
 // Set answered e, unless e is its own response.
 fn put_answer(room: &mut [u8], at: usize, n: usize, e: usize, responses: u64) -> usize
-    requires { ⌜ (n ≤ 64) × (e < n) × Fits (now room) at (packed ruleBytes (answering n e responses)) ⌝ }
+    requires { ⌜ (n ≤ maxEvents) × (e < n) × Fits (now room) at (packed ruleBytes (answering n e responses)) ⌝ }
     ensures { λ r. ⌜ Wrote (now (room .entry)) at (packed ruleBytes (answering n e responses)) r (now (room .exit)) ⌝ }
 {
     if sets::member(responses, e) {
@@ -99,7 +100,7 @@ fn put_completion(
     excludes: u64,
     responses: u64,
 ) -> usize
-    requires { ⌜ (n ≤ 64) × (e < n) × (within n (union includes excludes) ≡ true) × (within n responses ≡ true) × Fits (now room) at (packed ruleBytes (completion n e includes excludes responses)) ⌝ }
+    requires { ⌜ (n ≤ maxEvents) × (e < n) × (within n (union includes excludes) ≡ true) × (within n responses ≡ true) × Fits (now room) at (packed ruleBytes (completion n e includes excludes responses)) ⌝ }
     ensures { λ r. ⌜ Wrote (now (room .entry)) at (packed ruleBytes (completion n e includes excludes responses)) r (now (room .exit)) ⌝ }
 {
     let a = put_effects(room, at, n, e, includes, includes | excludes, 2 * n);
@@ -116,7 +117,7 @@ pub fn put_completions<'a>(
     excludes: &'a [u64; MAX_EVENTS],
     responses: &'a [u64; MAX_EVENTS],
 ) -> usize
-    requires { ⌜ (n ≤ 64) × CompletionsIn n (now includes) (now excludes) (now responses) × Fits (now room) at (packed ruleBytes (flat n (completionAt n (now includes) (now excludes) (now responses)))) ⌝ }
+    requires { ⌜ (n ≤ maxEvents) × CompletionsIn n (now includes) (now excludes) (now responses) × Fits (now room) at (packed ruleBytes (flat n (completionAt n (now includes) (now excludes) (now responses)))) ⌝ }
     ensures { λ r. ⌜ Wrote (now (room .entry)) at (packed ruleBytes (flat n (completionAt n (now (includes .entry)) (now (excludes .entry)) (now (responses .entry))))) r (now (room .exit)) ⌝ }
 {
     let mut next = at;
@@ -130,7 +131,7 @@ pub fn put_completions<'a>(
 
 // Without trigger: set stage e if condition e, and clear it if not.
 fn put_stage(room: &mut [u8], at: usize, e: usize) -> usize
-    requires { ⌜ (e < 65536) × (at + 20 ≤ length (now room)) ⌝ }
+    requires { ⌜ (e < 65536) × (at + 2 * ruleSize ≤ length (now room)) ⌝ }
     ensures { λ r. ⌜ Wrote (now (room .entry)) at (packed ruleBytes (stageRules e)) r (now (room .exit)) ⌝ }
 {
     let e = e as u16;
@@ -139,7 +140,7 @@ fn put_stage(room: &mut [u8], at: usize, e: usize) -> usize
 }
 
 pub fn put_stages(room: &mut [u8], at: usize, n: usize) -> usize
-    requires { ⌜ (n ≤ 64) × Fits (now room) at (packed ruleBytes (flat n stageRules)) ⌝ }
+    requires { ⌜ (n ≤ maxEvents) × Fits (now room) at (packed ruleBytes (flat n stageRules)) ⌝ }
     ensures { λ r. ⌜ Wrote (now (room .entry)) at (packed ruleBytes (flat n stageRules)) r (now (room .exit)) ⌝ }
 {
     let mut next = at;
@@ -153,7 +154,7 @@ pub fn put_stages(room: &mut [u8], at: usize, n: usize) -> usize
 
 // How many rules the completion of e has: e and its responses together are the events whose answer changes.
 fn completion_size(e: usize, includes: u64, excludes: u64, responses: u64) -> usize
-    requires { ⌜ e < 64 ⌝ }
+    requires { ⌜ e < maxEvents ⌝ }
     ensures { λ r. ⌜ r ≡ completionSize e includes excludes responses ⌝ }
 {
     let answers = sets::join(responses, sets::one(e));
@@ -166,8 +167,8 @@ pub fn completions_size<'a>(
     excludes: &'a [u64; MAX_EVENTS],
     responses: &'a [u64; MAX_EVENTS],
 ) -> usize
-    requires { ⌜ (n ≤ 64) × CompletionsIn n (now includes) (now excludes) (now responses) ⌝ }
-    ensures { λ r. ⌜ (r ≡ completionsSize n (now (includes .entry)) (now (excludes .entry)) (now (responses .entry))) × (r ≤ 8256) ⌝ }
+    requires { ⌜ (n ≤ maxEvents) × CompletionsIn n (now includes) (now excludes) (now responses) ⌝ }
+    ensures { λ r. ⌜ (r ≡ completionsSize n (now (includes .entry)) (now (excludes .entry)) (now (responses .entry))) × (r + 2 * maxEvents ≤ maxRules) ⌝ }
 {
     let mut sum: usize = 0;
     let mut e = 0;

@@ -1,10 +1,11 @@
 // The condition records and texts of a derived book, written into lent room one after another.
 ghost use mathlib.Core.Path.{_≡_};
-ghost use mathlib.Core.Bool.{Bool, true};
+ghost use mathlib.Core.Bool.{true};
 ghost use mathlib.Core.List.{[], _∷_};
-ghost use Prim.Native.Nat.{ℕ, _+_, _*_, _<_, _≤_};
-ghost use lib.ListN.{length, getD};
-ghost use Rattle.sets.specs.Set.{has, union, within};
+ghost use Prim.Native.Nat.{_+_, _*_, _<_, _≤_};
+ghost use lib.ListN.{length};
+ghost use Rattle.paper.specs.Limits.{maxEvents, maxWords, conditionSize, wordSize, notWord, orWord, andWord};
+ghost use Rattle.sets.specs.Set.{within};
 ghost use Rattle.wire.specs.Wire.{bytes16};
 ghost use Rattle.book.specs.Lists.{flat, packed};
 ghost use Rattle.book.specs.ImageOf.{conditionBytes};
@@ -30,8 +31,8 @@ pub fn texts_size<'a>(
     conditions: &'a [u64; MAX_EVENTS],
     milestones: &'a [u64; MAX_EVENTS],
 ) -> usize
-    requires { ⌜ (n ≤ 64) × TextsIn n (now conditions) (now milestones) ⌝ }
-    ensures { λ r. ⌜ (r ≡ textsSize n (now (conditions .entry)) (now (milestones .entry))) × (r ≤ 41024) ⌝ }
+    requires { ⌜ (n ≤ maxEvents) × TextsIn n (now conditions) (now milestones) ⌝ }
+    ensures { λ r. ⌜ (r ≡ textsSize n (now (conditions .entry)) (now (milestones .entry))) × (r ≤ maxWords) ⌝ }
 {
     let mut sum: usize = 0;
     let mut e = 0;
@@ -43,7 +44,7 @@ pub fn texts_size<'a>(
 }
 
 fn put_condition(room: &mut [u8], at: usize, start: usize, count: usize) -> usize
-    requires { ⌜ (start ≤ 41024) × (count ≤ 41024) × (at + 8 ≤ length (now room)) ⌝ }
+    requires { ⌜ (start ≤ maxWords) × (count ≤ maxWords) × (at + conditionSize ≤ length (now room)) ⌝ }
     ensures { λ r. ⌜ Wrote (now (room .entry)) at (packed conditionBytes (conditionMade start count ∷ [])) r (now (room .exit)) ⌝ }
 {
     wire::put32(room, at, start as u32);
@@ -59,7 +60,7 @@ pub fn put_conditions<'a>(
     conditions: &'a [u64; MAX_EVENTS],
     milestones: &'a [u64; MAX_EVENTS],
 ) -> usize
-    requires { ⌜ (n ≤ 64) × TextsIn n (now conditions) (now milestones) × Fits (now room) at (packed conditionBytes (flat n (conditionPart n (now conditions) (now milestones)))) ⌝ }
+    requires { ⌜ (n ≤ maxEvents) × TextsIn n (now conditions) (now milestones) × Fits (now room) at (packed conditionBytes (flat n (conditionPart n (now conditions) (now milestones)))) ⌝ }
     ensures { λ r. ⌜ Wrote (now (room .entry)) at (packed conditionBytes (flat n (conditionPart n (now (conditions .entry)) (now (milestones .entry))))) r (now (room .exit)) ⌝ }
 {
     let mut next = at;
@@ -76,8 +77,8 @@ pub fn put_conditions<'a>(
 
 // Not included, or the mark is yes.
 fn put_clause(room: &mut [u8], at: usize, included: u16, mark: u16) -> usize
-    requires { ⌜ at + 10 ≤ length (now room) ⌝ }
-    ensures { λ r. ⌜ Wrote (now (room .entry)) at (packed bytes16 (included ∷ (65535 ∷ (mark ∷ (65534 ∷ (65533 ∷ [])))))) r (now (room .exit)) ⌝ }
+    requires { ⌜ at + 5 * wordSize ≤ length (now room) ⌝ }
+    ensures { λ r. ⌜ Wrote (now (room .entry)) at (packed bytes16 (included ∷ (notWord ∷ (mark ∷ (orWord ∷ (andWord ∷ [])))))) r (now (room .exit)) ⌝ }
 {
     wire::put16(room, at, included);
     wire::put16(room, at + 2, NOT);
@@ -89,7 +90,7 @@ fn put_clause(room: &mut [u8], at: usize, included: u16, mark: u16) -> usize
 
 // A clause for each f of the set, rising, on the mark base + f.
 fn put_clauses(room: &mut [u8], at: usize, n: usize, base: usize, set: u64) -> usize
-    requires { ⌜ (n ≤ 64) × (base ≤ 192) × (within n set ≡ true) × Fits (now room) at (packed bytes16 (flat n (listed (clauseFrom n base) set))) ⌝ }
+    requires { ⌜ (n ≤ maxEvents) × (base ≤ 3 * maxEvents) × (within n set ≡ true) × Fits (now room) at (packed bytes16 (flat n (listed (clauseFrom n base) set))) ⌝ }
     ensures { λ r. ⌜ Wrote (now (room .entry)) at (packed bytes16 (flat n (listed (clauseFrom n base) set))) r (now (room .exit)) ⌝ }
 {
     let mut rest = set;
@@ -110,7 +111,7 @@ fn put_text(
     conditions: u64,
     milestones: u64,
 ) -> usize
-    requires { ⌜ (n ≤ 64) × (e < n) × (within n conditions ≡ true) × (within n milestones ≡ true) × Fits (now room) at (packed bytes16 (textFor n e conditions milestones)) ⌝ }
+    requires { ⌜ (n ≤ maxEvents) × (e < n) × (within n conditions ≡ true) × (within n milestones ≡ true) × Fits (now room) at (packed bytes16 (textFor n e conditions milestones)) ⌝ }
     ensures { λ r. ⌜ Wrote (now (room .entry)) at (packed bytes16 (textFor n e conditions milestones)) r (now (room .exit)) ⌝ }
 {
     wire::put16(room, at, (2 * n + e) as u16);
@@ -125,7 +126,7 @@ pub fn put_texts<'a>(
     conditions: &'a [u64; MAX_EVENTS],
     milestones: &'a [u64; MAX_EVENTS],
 ) -> usize
-    requires { ⌜ (n ≤ 64) × TextsIn n (now conditions) (now milestones) × Fits (now room) at (packed bytes16 (flat n (textAt n (now conditions) (now milestones)))) ⌝ }
+    requires { ⌜ (n ≤ maxEvents) × TextsIn n (now conditions) (now milestones) × Fits (now room) at (packed bytes16 (flat n (textAt n (now conditions) (now milestones)))) ⌝ }
     ensures { λ r. ⌜ Wrote (now (room .entry)) at (packed bytes16 (flat n (textAt n (now (conditions .entry)) (now (milestones .entry))))) r (now (room .exit)) ⌝ }
 {
     let mut next = at;
