@@ -11,7 +11,8 @@ use book::firing::rule_fires;
 use book::rules::rule_at;
 use ordering::fit::entry_of;
 
-// The snapshot after the turns. Conditions begin at the byte `begin`, words at the byte `from`.
+// The snapshot after the turns. Conditions begin at the byte `begin`, words at the byte `from`. A rule that does not fire copies
+// nothing; one that fires goes through `applied`, whose one store is in place and which copies the 256 marks.
 pub fn go_through(
     book: &[u8],
     begin: usize,
