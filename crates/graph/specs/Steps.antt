@@ -1,12 +1,13 @@
 -- Steps as the code takes them: the open rule, executing, counting and the finished test, and the law for each return. Assumes nothing.
-use Prim.Native.Nat.{ℕ, _+_, _≤_, _<_, _^_}
-use mathlib.Core.Path.{_≡_, sym, ap, _∙_}
-use mathlib.Core.Bool.{Bool, true, false, not, _&&_, cond}
+use Prim.Native.Nat.{ℕ, _+_, _*_, _%_, _≤_, _<_, _^_}
+use mathlib.Core.Path.{_≡_, refl, sym, ap, _∙_}
+use mathlib.Core.Bool.{Bool, true, false, not, _&&_, cond, and-true, and-false}
 use mathlib.Core.List.{List}
 use native.Mathlib.Omega.{arith}
-use native.Mathlib.Nat.{le-trans}
+use native.Mathlib.Nat.{le-trans, one-mul}
+use lib.Pow.{pow-add}
 use lib.ListN.{getD}
-use lib.Dec.{eqb, leb}
+use lib.Dec.{eqb, leb, ltb}
 use lib.Bits.{and-le-l}
 use borrow.Author.Tests.{not-true, not-false, eq-eqb, ne-eqb, le-leb, lt-leb}
 use Rattle.paper.specs.Limits.{maxEvents, noSuchEvent, notIncluded, conditionWanting, milestoneWanting, unfit}
@@ -14,7 +15,7 @@ use Rattle.paper.specs.Answers.{answer, granted, refusal}
 use Rattle.paper.specs.declared.Answer.{Answer}
 use Rattle.sets.specs.Cases.{not-so}
 use Rattle.sets.specs.Set.{has, union, inter, minus, only, lowest, size, collect, putIf}
-use Rattle.sets.specs.Laws.{lowest-wide, minus-le, below, collect-step}
+use Rattle.sets.specs.Laws.{lowest-wide, minus-le, below, collect-step, one-bit, ext, has-inter, has-collect}
 use Rattle.graph.specs.Chart.{setOf, condition, response, milestone, include, exclude}
 use Rattle.graph.specs.Tests.{fit}
 use Rattle.graph.specs.Fitness.{fit-both}
@@ -36,6 +37,10 @@ awaitedOf m milestones = inter (inter (m .included) milestones) (m .pending)
 
 unfoldable pub openWith : Marking → ℕ → ℕ → ℕ → Bool
 openWith m e conditions milestones = has (m .included) e && eqb (unmetOf m conditions) 0 && eqb (awaitedOf m milestones) 0
+
+-- no condition wants and no milestone is awaited
+unfoldable pub freeWith : Marking → ℕ → ℕ → Bool
+freeWith m conditions milestones = eqb (unmetOf m conditions) 0 && eqb (awaitedOf m milestones) 0
 
 abbrev pub isOpen : FlatChart → Marking → ℕ → Bool
 isOpen c m e = openWith m e (setOf c condition e) (setOf c milestone e)
@@ -72,17 +77,40 @@ executing c m e =
 
 -- ---- counting
 
+-- the bit of e, doubled, is that of e + 1, as long as it lies in the word
+pub bit-more : (e b r : ℕ) → e + 1 < 64 → b ≡ only e → r ≡ (b * 2 ^ 1) % 2 ^ 64 → r ≡ only (e + 1)
+bit-more e b r h p q = q ∙ rw (p, ← pow-add 2 e 1) (rw one-mul at (one-bit 64 (e + 1) h))
+
 unfoldable pub openAmong : Marking → List ℕ → List ℕ → ℕ → ℕ
 openAmong m conditions milestones n = collect n (λ e. openWith m e (getD conditions e 0) (getD milestones e 0))
 
-module _ (m : Marking) (conditions milestones : List ℕ) where
-  pub among-more : (e : ℕ) {s t : ℕ} {o : Bool} → s ≡ openAmong m conditions milestones e → o ≡ openWith m e (getD conditions e 0) (getD milestones e 0)
-      → t ≡ putIf s e o → t ≡ openAmong m conditions milestones (e + 1)
-  unfolding openAmong
-  among-more e p q h = rw (collect-step, h, p, q)
+-- those of the first n that nothing holds back
+unfoldable pub freeAmong : Marking → List ℕ → List ℕ → ℕ → ℕ
+freeAmong m conditions milestones n = collect n (λ e. freeWith m (getD conditions e 0) (getD milestones e 0))
 
-  pub among-end : (e n s : ℕ) → e ≤ n → n ≤ e → s ≡ openAmong m conditions milestones e → s ≡ openAmong m conditions milestones n
-  among-end e n s h l p = let z : e ≡ n = omega arith in p ∙ ap (openAmong m conditions milestones) z
+module _ (m : Marking) (conditions milestones : List ℕ) where
+  pub free-more : (e : ℕ) {s t b : ℕ} (o : Bool) → b ≡ only e → s ≡ freeAmong m conditions milestones e
+      → o ≡ freeWith m (getD conditions e 0) (getD milestones e 0) → t ≡ cond o (union s b) s → t ≡ freeAmong m conditions milestones (e + 1)
+  unfolding freeAmong
+  free-more e o d p q h = h ∙ rw (d, p, collect-step, ← q) (put o)
+    where
+      put : (o : Bool) → cond o (union (freeAmong m conditions milestones e) (only e)) (freeAmong m conditions milestones e) ≡ putIf (freeAmong m conditions milestones e) e o
+      put true = refl
+      put false = refl
+
+  -- what is open is what is free and included
+  free-open : (n : ℕ) → inter (freeAmong m conditions milestones n) (m .included) ≡ openAmong m conditions milestones n
+  unfolding freeAmong openAmong freeWith openWith
+  free-open n =
+      ext (inter (freeAmong m conditions milestones n) (m .included)) (openAmong m conditions milestones n) (λ e. simp (has-inter, has-collect) (turned (ltb e n) (has (m .included) e) _ _))
+    where
+      turned : (l i a b : Bool) → ((l && (a && b)) && i) ≡ (l && ((i && a) && b))
+      turned false i a b = refl
+      turned true true a b = and-true (a && b)
+      turned true false a b = and-false (a && b)
+
+  pub among-end : (e n s : ℕ) → e ≤ n → n ≤ e → s ≡ freeAmong m conditions milestones e → inter s (m .included) ≡ openAmong m conditions milestones n
+  among-end e n s h l p = let z : e ≡ n = omega arith in rw (p, z) (free-open n)
 
 abbrev pub openSet : FlatChart → Marking → ℕ
 openSet c m = openAmong m (c .conditions) (c .milestones) (c .count)

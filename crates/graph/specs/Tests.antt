@@ -1,10 +1,11 @@
 -- The test that a chart and a marking are fit, in the form in which the code makes it, and the law for each return. Assumes nothing.
-use Prim.Native.Nat.{ℕ, zero, suc, _+_, _≤_, _<_}
-use mathlib.Core.Path.{_≡_, ap, _∙_}
+use Prim.Native.Nat.{ℕ, zero, suc, _+_, _-_, _≤_, _<_}
+use mathlib.Core.Path.{_≡_, refl, ap, _∙_}
 use mathlib.Core.Bool.{Bool, false, _&&_, cond, and-false}
 use mathlib.Core.List.{List}
 use native.Mathlib.Numerals.{add-one}
 use native.Mathlib.Omega.{arith}
+use native.Mathlib.Nat.{zero-add, add-zero, add-suc}
 use lib.ListN.{getD}
 use lib.Dec.{eqb, leb, ltb}
 use borrow.Author.Tests.{lt-leb, le-leb, lt-ltb, le-ltb}
@@ -37,13 +38,45 @@ module _ (n : ℕ) (a b d i x : List ℕ) where
   spillOf zero = zero
   spillOf (suc k) = union (spillOf k) (spillAt k)
 
-  pub spill-more : (k : ℕ) {all w r o t : ℕ} → all ≡ allBelow n → w ≡ allowedAt all k n → r ≡ rowSpill w (getD a k 0) (getD b k 0) (getD d k 0) (getD i k 0) (getD x k 0)
-      → o ≡ spillOf k → t ≡ union o r → t ≡ spillOf (k + 1)
-  unfolding spillOf spillAt
-  spill-more k p q h g e = rw (add-one, e, g, h, q, p)
+-- what the k rows from one on add to o, where each may hold w
+module _ (w o from : ℕ) (a b d i x : List ℕ) where
+  unfoldable pub spillRows : ℕ → ℕ
+  spillRows zero = o
+  spillRows (suc k) = union (spillRows k) (rowSpill w (getD a (from + k) 0) (getD b (from + k) 0) (getD d (from + k) 0) (getD i (from + k) 0) (getD x (from + k) 0))
 
-  pub spill-end : (k o : ℕ) → k ≤ maxEvents → maxEvents ≤ k → o ≡ spillOf k → o ≡ spillOf maxEvents
-  spill-end k o h l e = let z : k ≡ maxEvents = omega arith in e ∙ ap spillOf z
+  pub rows-none : (e : ℕ) → e ≡ from → o ≡ spillRows (e - from)
+  unfolding spillRows
+  rows-none e h = let z : e - from ≡ 0 = omega arith in rw z
+
+  pub rows-more : (e : ℕ) {r s t : ℕ} → from ≤ e → s ≡ spillRows (e - from) → r ≡ rowSpill w (getD a e 0) (getD b e 0) (getD d e 0) (getD i e 0) (getD x e 0)
+      → t ≡ union s r → t ≡ spillRows (e + 1 - from)
+  unfolding spillRows
+  rows-more e l p q h =
+      let z : e + 1 - from ≡ suc (e - from) = omega arith in
+      let y : from + (e - from) ≡ e = omega arith in
+      rw (z, y, h, p, q)
+
+  pub rows-end : (e end s : ℕ) → e ≤ end → end ≤ e → s ≡ spillRows (e - from) → s ≡ spillRows (end - from)
+  rows-end e end s h l p = let z : e ≡ end = omega arith in p ∙ ap (λ (m : ℕ). spillRows (m - from)) z
+
+module _ (n : ℕ) (a b d i x : List ℕ) where
+  first-rows : (k : ℕ) → k ≤ n → spillRows (allBelow n) 0 0 a b d i x k ≡ spillOf n a b d i x k
+  unfolding spillRows spillOf spillAt
+  first-rows zero h = refl
+  first-rows (suc k) h = rw (zero-add, first-rows k (omega arith), ← allowed-in (allBelow n) k n (omega arith))
+
+  last-rows : (k : ℕ) → spillRows 0 (spillOf n a b d i x n) n a b d i x k ≡ spillOf n a b d i x (n + k)
+  unfolding spillRows spillOf spillAt
+  last-rows zero = rw add-zero
+  last-rows (suc k) = rw (add-suc, last-rows k, ← allowed-past (allBelow n) (n + k) n (omega arith))
+
+  -- the rows of the events, which may hold all of them, and the rows past the count, which may hold nothing
+  pub spill-whole : (all s t : ℕ) → n ≤ maxEvents → all ≡ allBelow n → s ≡ spillRows all 0 0 a b d i x (n - 0) → t ≡ spillRows 0 s n a b d i x (maxEvents - n)
+      → t ≡ spillOf n a b d i x maxEvents
+  spill-whole all s t h p q r =
+      let z : n + (maxEvents - n) ≡ maxEvents = omega arith in
+      let y : n - 0 ≡ n = omega arith in
+      r ∙ rw (q, y, p, first-rows n (omega arith), last-rows (maxEvents - n), z)
 
 unfoldable pub fitTables : ℕ → FlatChart → Bool
 fitTables n c = eqb (spillOf n (c .conditions) (c .responses) (c .milestones) (c .includes) (c .excludes) maxEvents) 0

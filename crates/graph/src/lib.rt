@@ -2,11 +2,9 @@
 pub mod steps;
 
 ghost use mathlib.Core.Path.{_≡_};
-ghost use mathlib.Core.Bool.{Bool, cond};
-ghost use Prim.Native.Nat.{_≤_};
-ghost use lib.Dec.{ltb};
+ghost use Prim.Native.Nat.{_-_, _≤_};
 ghost use Rattle.graph.specs.Chart.{chartOf, emptyChart, emptyMarking};
-ghost use Rattle.graph.specs.Tests.{allowedAt, rowSpill, spillOf, fitChart, fitMarking, fit};
+ghost use Rattle.graph.specs.Tests.{rowSpill, spillRows, spillOf, fitChart, fitMarking, fit};
 use paper::MAX_EVENTS;
 
 // One set for each event and kind. Entry e of conditions and milestones is who holds e back; of the others, what e reaches.
@@ -26,16 +24,6 @@ pub struct Marking {
     pub executed: u64,
     pub pending: u64,
     pub included: u64,
-}
-
-// What a set of event e may hold: every event of the chart, and past the count nothing.
-fn allowed_at(all: u64, e: usize, n: usize) -> u64
-    ensures { λ r. ⌜ r ≡ allowedAt all e n ⌝ }
-{
-    if e < n {
-        return all;
-    }
-    0
 }
 
 // What one event's sets hold that they may not.
@@ -58,7 +46,39 @@ fn row_spill(
     )
 }
 
-// Every row's spill in one set, so that the loop has no branch.
+// What the rows from one to another add to a set, where each may hold what is allowed. The loop has no branch.
+fn spill_rows<'a>(
+    start: u64,
+    from: usize,
+    end: usize,
+    allowed: u64,
+    conditions: &'a [u64; MAX_EVENTS],
+    responses: &'a [u64; MAX_EVENTS],
+    milestones: &'a [u64; MAX_EVENTS],
+    includes: &'a [u64; MAX_EVENTS],
+    excludes: &'a [u64; MAX_EVENTS],
+) -> u64
+    requires { ⌜ (from ≤ end) × (end ≤ 64) ⌝ }
+    ensures { λ r. ⌜ r ≡ spillRows allowed start from (now (conditions .entry)) (now (responses .entry)) (now (milestones .entry)) (now (includes .entry)) (now (excludes .entry)) (end - from) ⌝ }
+{
+    let mut over = start;
+    let mut e = from;
+    while e < end {
+        let row = row_spill(
+            allowed,
+            conditions[e],
+            responses[e],
+            milestones[e],
+            includes[e],
+            excludes[e],
+        );
+        over = sets::join(over, row);
+        e += 1;
+    }
+    over
+}
+
+// Every row's spill in one set: an event's sets may hold all events, and past the count nothing.
 fn spill<'a>(
     n: usize,
     conditions: &'a [u64; MAX_EVENTS],
@@ -71,21 +91,29 @@ fn spill<'a>(
     ensures { λ r. ⌜ r ≡ spillOf n (now (conditions .entry)) (now (responses .entry)) (now (milestones .entry)) (now (includes .entry)) (now (excludes .entry)) 64 ⌝ }
 {
     let all = sets::all_below(n);
-    let mut over: u64 = 0;
-    let mut e = 0;
-    while e < MAX_EVENTS {
-        let row = row_spill(
-            allowed_at(all, e, n),
-            conditions[e],
-            responses[e],
-            milestones[e],
-            includes[e],
-            excludes[e],
-        );
-        over = sets::join(over, row);
-        e += 1;
-    }
-    over
+    let none: u64 = 0;
+    let over = spill_rows(
+        none,
+        0,
+        n,
+        all,
+        conditions,
+        responses,
+        milestones,
+        includes,
+        excludes,
+    );
+    spill_rows(
+        over,
+        n,
+        MAX_EVENTS,
+        none,
+        conditions,
+        responses,
+        milestones,
+        includes,
+        excludes,
+    )
 }
 
 // Whether the chart of this count and these tables is fit.

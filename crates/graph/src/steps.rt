@@ -1,8 +1,10 @@
 // Steps of a flat chart: the open rule, executing, counting what is open, the finished test.
 ghost use mathlib.Core.Path.{_≡_};
-ghost use Prim.Native.Nat.{_<_, _≤_};
+ghost use mathlib.Core.Bool.{cond};
+ghost use Prim.Native.Nat.{_*_, _%_, _^_, _<_, _≤_};
+ghost use Rattle.sets.specs.Set.{union};
 ghost use Rattle.graph.specs.Chart.{chartOf};
-ghost use Rattle.graph.specs.Steps.{unmetOf, awaitedOf, openWith, afterWith, refusing, openAmong, executing, counting, finishing};
+ghost use Rattle.graph.specs.Steps.{unmetOf, awaitedOf, freeWith, afterWith, refusing, openAmong, executing, counting, finishing};
 use crate::FlatChart;
 use crate::Marking;
 use paper::Answer;
@@ -29,6 +31,22 @@ pub struct Finished {
     pub yes: bool,
 }
 
+// The bit of the next event; the last one falls out.
+fn next_bit(bit: u64) -> u64
+    ensures { λ r. ⌜ r ≡ (bit * 2 ^ 1) % 2 ^ 64 ⌝ }
+{
+    bit << 1
+}
+
+fn put_bit_if(s: u64, bit: u64, on: bool) -> u64
+    ensures { λ r. ⌜ r ≡ cond on (union s bit) s ⌝ }
+{
+    if on {
+        return s | bit;
+    }
+    s
+}
+
 impl Marking {
     // Which of an event's conditions are included and not executed.
     fn unmet(self, conditions: u64) -> u64
@@ -44,13 +62,13 @@ impl Marking {
         self.included & milestones & self.pending
     }
 
-    fn is_open(self, e: usize, conditions: u64, milestones: u64) -> bool
-        ensures { λ r. ⌜ r ≡ openWith self e conditions milestones ⌝ }
+    // Whether nothing holds an event back: it is open if it is included too.
+    fn is_free(self, conditions: u64, milestones: u64) -> bool
+        ensures { λ r. ⌜ r ≡ freeWith self conditions milestones ⌝ }
     {
-        let included = sets::member(self.included, e);
         let unmet = self.unmet(conditions);
         let awaited = self.awaited(milestones);
-        included & (unmet == 0) & (awaited == 0)
+        (unmet == 0) & (awaited == 0)
     }
 
     // The marking after e, which excludes before it includes.
@@ -126,7 +144,7 @@ impl Marking {
         )
     }
 
-    // The open events among the first n.
+    // The open events among the first n. The bit is carried along, since shifting it anew costs more than the test.
     pub fn open_among<'a>(
         self,
         n: usize,
@@ -137,12 +155,14 @@ impl Marking {
         ensures { λ r. ⌜ r ≡ openAmong self (now (conditions .entry)) (now (milestones .entry)) n ⌝ }
     {
         let mut all: u64 = 0;
+        let mut bit: u64 = 1;
         let mut e = 0;
         while e < n {
-            all = sets::put_if(all, e, self.is_open(e, conditions[e], milestones[e]));
+            all = put_bit_if(all, bit, self.is_free(conditions[e], milestones[e]));
+            bit = next_bit(bit);
             e += 1;
         }
-        all
+        all & self.included
     }
 
     // Counting over lent tables.
