@@ -221,14 +221,14 @@ static uint64_t open_set(const struct flat_chart *chart, struct marking marking)
     return open & marking.included;
 }
 
-struct step plain_execute(const struct flat_chart *chart, struct marking marking, uint32_t event)
+struct step plain_execute(struct flat_chart chart, struct marking marking, uint32_t event)
 {
     struct step step = {granted, marking};
-    if (!fit(chart, marking)) {
+    if (!fit(&chart, marking)) {
         step.answer = refused(14, 0, 0);
         return step;
     }
-    if (event >= chart->count) {
+    if (event >= chart.count) {
         step.answer = refused(10, 0, 0);
         return step;
     }
@@ -236,46 +236,46 @@ struct step plain_execute(const struct flat_chart *chart, struct marking marking
         step.answer = refused(11, 0, 0);
         return step;
     }
-    uint64_t wanting = chart->conditions[event] & marking.included & ~marking.executed;
+    uint64_t wanting = chart.conditions[event] & marking.included & ~marking.executed;
     if (wanting != 0) {
         step.answer = refused(12, lowest(wanting), 0);
         return step;
     }
-    wanting = chart->milestones[event] & marking.included & marking.pending;
+    wanting = chart.milestones[event] & marking.included & marking.pending;
     if (wanting != 0) {
         step.answer = refused(13, lowest(wanting), 0);
         return step;
     }
     step.marking.executed = marking.executed | only(event);
-    step.marking.pending = (marking.pending & ~only(event)) | chart->responses[event];
-    step.marking.included = (marking.included & ~chart->excludes[event]) | chart->includes[event];
+    step.marking.pending = (marking.pending & ~only(event)) | chart.responses[event];
+    step.marking.included = (marking.included & ~chart.excludes[event]) | chart.includes[event];
     return step;
 }
 
-struct open_count plain_count_open(const struct flat_chart *chart, struct marking marking)
+struct open_count plain_count_open(struct flat_chart chart, struct marking marking)
 {
-    if (!fit(chart, marking))
+    if (!fit(&chart, marking))
         return (struct open_count){refused(14, 0, 0), 0, 64};
-    uint64_t open = open_set(chart, marking);
+    uint64_t open = open_set(&chart, marking);
     return (struct open_count){granted, size(open), open == 0 ? 64 : lowest(open)};
 }
 
-struct finish plain_finished(const struct flat_chart *chart, struct marking marking)
+struct finish plain_finished(struct flat_chart chart, struct marking marking)
 {
-    if (!fit(chart, marking))
+    if (!fit(&chart, marking))
         return (struct finish){refused(14, 0, 0), false};
     return (struct finish){granted, (marking.included & marking.pending) == 0};
 }
 
-struct settled plain_matching(const struct flat_chart *chart, struct marking marking)
+struct settled plain_matching(struct flat_chart chart, struct marking marking)
 {
     struct settled settled = {.answer = granted};
-    if (!fit(chart, marking)) {
+    if (!fit(&chart, marking)) {
         settled.answer = refused(14, 0, 0);
         return settled;
     }
-    uint32_t n = chart->count;
-    uint64_t open = open_set(chart, marking);
+    uint32_t n = chart.count;
+    uint64_t open = open_set(&chart, marking);
     bool *marks = settled.snapshot.marks;
     for (uint32_t e = 0; e < n; e++) {
         marks[e] = open >> e & 1;
@@ -323,14 +323,14 @@ static uint8_t *put_clauses(uint8_t *at, uint64_t set, uint32_t included, uint32
     return at;
 }
 
-struct answer plain_derive(const struct flat_chart *chart, uint8_t *room, size_t length)
+struct answer plain_derive(struct flat_chart chart, uint8_t *room, size_t length)
 {
-    if (!fit_chart(chart))
+    if (!fit_chart(&chart))
         return refused(14, 0, 0);
-    uint32_t n = chart->count, rules = 3 * n, words = n;
+    uint32_t n = chart.count, rules = 3 * n, words = n;
     for (uint32_t e = 0; e < n; e++) {
-        rules += size(chart->includes[e] | chart->excludes[e]) + size(chart->responses[e] | only(e));
-        words += 5 * (size(chart->conditions[e]) + size(chart->milestones[e]));
+        rules += size(chart.includes[e] | chart.excludes[e]) + size(chart.responses[e] | only(e));
+        words += 5 * (size(chart.conditions[e]) + size(chart.milestones[e]));
     }
     uint32_t conditions_at = 32 + 10 * rules, words_at = conditions_at + 8 * n, needed = words_at + 2 * words;
     if (length < needed)
@@ -340,20 +340,20 @@ struct answer plain_derive(const struct flat_chart *chart, uint8_t *room, size_t
     for (uint32_t i = 0; i < 8; i++)
         at = put32(at, header[i]);
     for (uint32_t e = 0; e < n; e++)
-        at = put_completion(at, chart, e);
+        at = put_completion(at, &chart, e);
     for (uint32_t e = 0; e < n; e++) {
         at = put_rule(at, NO_TRIGGER, AS_WRITTEN, SET, 0, e, e);
         at = put_rule(at, NO_TRIGGER, NEGATED, CLEAR, 0, e, e);
     }
     for (uint32_t e = 0, start = 0; e < n; e++) {
-        uint32_t count = 1 + 5 * (size(chart->conditions[e]) + size(chart->milestones[e]));
+        uint32_t count = 1 + 5 * (size(chart.conditions[e]) + size(chart.milestones[e]));
         at = put32(put32(at, start), count);
         start += count;
     }
     for (uint32_t e = 0; e < n; e++) {
         at = put16(at, 2 * n + e);
-        at = put_clauses(at, chart->conditions[e], 2 * n, n);
-        at = put_clauses(at, chart->milestones[e], 2 * n, 3 * n);
+        at = put_clauses(at, chart.conditions[e], 2 * n, n);
+        at = put_clauses(at, chart.milestones[e], 2 * n, 3 * n);
     }
     return granted;
 }
@@ -672,10 +672,10 @@ static bool triggered(struct rule rule, uint32_t stage, const bool *start, const
     }
 }
 
-struct settled plain_complete(const uint8_t *image, size_t length, const uint16_t *order, size_t count,
-                              const struct snapshot *snapshot, uint32_t stage)
+struct settled plain_complete(const uint8_t *image, size_t length, const uint16_t *order, size_t count, struct snapshot snapshot,
+                              uint32_t stage)
 {
-    struct settled settled = {.snapshot = *snapshot};
+    struct settled settled = {.snapshot = snapshot};
     struct book book;
     settled.answer = judge(image, length, &book);
     if (settled.answer.code != 0)
@@ -685,18 +685,18 @@ struct settled plain_complete(const uint8_t *image, size_t length, const uint16_
         return settled;
     }
     for (uint32_t m = book.marks; m < MAX_MARKS; m++)
-        if (snapshot->marks[m]) {
+        if (snapshot.marks[m]) {
             settled.answer = refused(28, 0, 0);
             return settled;
         }
-    if (stage >= book.stages || !snapshot->marks[stage]) {
+    if (stage >= book.stages || !snapshot.marks[stage]) {
         settled.answer = refused(stage >= book.stages ? 29 : 30, 0, 0);
         return settled;
     }
     bool *now = settled.snapshot.marks;
     for (size_t i = 0; i < count; i++) {
         struct rule rule = rule_of(&book, order[i]);
-        if (!triggered(rule, stage, snapshot->marks, now))
+        if (!triggered(rule, stage, snapshot.marks, now))
             continue;
         if (rule.sense != NO_CONDITION && holds(&book, rule.condition, now) != (rule.sense == AS_WRITTEN))
             continue;

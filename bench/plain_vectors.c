@@ -92,19 +92,19 @@ static bool on_chart(int operation, const uint8_t *at, size_t length)
     struct flat_chart chart = flat_at(at);
     struct marking marking = marking_at(at + FLAT);
     if (operation == 2) {
-        struct step step = plain_execute(&chart, marking, (uint32_t)number(at + FLAT + MARKING, 4));
+        struct step step = plain_execute(chart, marking, (uint32_t)number(at + FLAT + MARKING, 4));
         say("execute", step.answer);
         say_marking(step.marking);
     } else if (operation == 3) {
-        struct open_count count = plain_count_open(&chart, marking);
+        struct open_count count = plain_count_open(chart, marking);
         say("count", count.answer);
         printf(" %" PRIu32 " %" PRIu32, count.open, count.lowest);
     } else if (operation == 4) {
-        struct finish finish = plain_finished(&chart, marking);
+        struct finish finish = plain_finished(chart, marking);
         say("finished", finish.answer);
         printf(finish.yes ? " yes" : " no");
     } else {
-        struct settled settled = plain_matching(&chart, marking);
+        struct settled settled = plain_matching(chart, marking);
         say("matching", settled.answer);
         say_snapshot(&settled.snapshot);
     }
@@ -118,7 +118,7 @@ static bool derive(const uint8_t *at, size_t length)
     size_t bytes = number(at, 4);
     struct flat_chart chart = flat_at(at + 4);
     uint8_t *room = filled(bytes);
-    say("derive", plain_derive(&chart, room, bytes));
+    say("derive", plain_derive(chart, room, bytes));
     printf(" %" PRIu32, adler(room, bytes, 1));
     free(room);
     return true;
@@ -151,8 +151,7 @@ static bool complete(const uint8_t *at, size_t length)
     for (size_t i = 0; i < count; i++)
         numbers[i] = (uint16_t)number(at + 40 + 2 * i, 2);
     size_t start = 40 + 2 * count;
-    struct settled settled
-        = plain_complete(at + start, length - start, numbers, count, &snapshot, (uint32_t)number(at, 4));
+    struct settled settled = plain_complete(at + start, length - start, numbers, count, snapshot, (uint32_t)number(at, 4));
     say("complete", settled.answer);
     say_snapshot(&settled.snapshot);
     free(numbers);

@@ -1,0 +1,240 @@
+// Times each call of the library and of the plain C on the same buffers, and prints a table.
+#define _POSIX_C_SOURCE 199309L
+#include "inputs.h"
+#include "ozhimka.h"
+#include "plain.h"
+
+#include <stdio.h>
+#include <stdlib.h>
+#include <string.h>
+#include <time.h>
+
+enum { ROUNDS = 9 };
+static const double ROUND_SECONDS = 0.004;
+
+// ---- what both sides are called on
+
+static uint8_t image[CHART_BYTES], book[BOOK_BYTES], room[BOOK_BYTES];
+static uint16_t order[ORDER_NUMBERS], numbers[ORDER_NUMBERS];
+static size_t image_length, book_length, rules;
+static struct flat_chart chart;
+static struct marking marking;
+static struct snapshot snapshot;
+static const uint32_t event = 1;
+
+// the same chart, marking and snapshot under the library's names
+static struct ozhimka_chart own_chart;
+static struct ozhimka_marking own_marking;
+static struct ozhimka_snapshot own_snapshot;
+
+_Static_assert(sizeof own_chart == sizeof chart && sizeof own_marking == sizeof marking && sizeof own_snapshot == sizeof snapshot
+                   && sizeof(struct ozhimka_reading) == sizeof(struct reading) && sizeof(struct ozhimka_step) == sizeof(struct step)
+                   && sizeof(struct ozhimka_settled) == sizeof(struct settled),
+               "both sides pass the same bytes");
+
+static void share(void)
+{
+    memcpy(&own_chart, &chart, sizeof chart);
+    memcpy(&own_marking, &marking, sizeof marking);
+    memcpy(&own_snapshot, &snapshot, sizeof snapshot);
+}
+
+// ---- one call, on either side; the result goes where a test can see it
+
+static union {
+    uint8_t bytes[sizeof(struct reading)];
+    struct reading reading;
+    struct step step;
+    struct open_count open_count;
+    struct finish finish;
+    struct settled settled;
+    struct answer answer;
+    struct ozhimka_reading own_reading;
+    struct ozhimka_step own_step;
+    struct ozhimka_open_count own_open_count;
+    struct ozhimka_finish own_finish;
+    struct ozhimka_settled own_settled;
+    struct ozhimka_answer own_answer;
+} out;
+
+static void plain_1(void) { out.reading = plain_read_chart(image, image_length); }
+static void own_1(void) { out.own_reading = ozhimka_read_chart(image, image_length); }
+static void plain_2(void) { out.step = plain_execute(chart, marking, event); }
+static void own_2(void) { out.own_step = ozhimka_execute(own_chart, own_marking, event); }
+static void plain_3(void) { out.open_count = plain_count_open(chart, marking); }
+static void own_3(void) { out.own_open_count = ozhimka_count_open(own_chart, own_marking); }
+static void plain_4(void) { out.finish = plain_finished(chart, marking); }
+static void own_4(void) { out.own_finish = ozhimka_finished(own_chart, own_marking); }
+static void plain_5(void) { out.settled = plain_matching(chart, marking); }
+static void own_5(void) { out.own_settled = ozhimka_matching(own_chart, own_marking); }
+static void plain_6(void) { out.answer = plain_derive(chart, room, sizeof room); }
+static void own_6(void) { out.own_answer = ozhimka_derive(own_chart, room, sizeof room); }
+static void plain_7(void) { out.answer = plain_check(book, book_length, numbers, ORDER_NUMBERS); }
+static void own_7(void) { out.own_answer = ozhimka_check(book, book_length, numbers, ORDER_NUMBERS); }
+static void plain_8(void) { out.settled = plain_complete(book, book_length, order, rules, snapshot, event); }
+static void own_8(void) { out.own_settled = ozhimka_complete(book, book_length, order, rules, own_snapshot, event); }
+
+struct call {
+    const char *name;
+    void (*plain)(void), (*own)(void);
+    size_t bytes; // of the result that are compared
+};
+
+static const struct call calls[] = {
+    {"read_chart", plain_1, own_1, sizeof(struct answer)},
+    {"execute", plain_2, own_2, sizeof(struct step)},
+    {"count_open", plain_3, own_3, sizeof(struct open_count)},
+    {"finished", plain_4, own_4, sizeof(struct answer) + 1},
+    {"matching", plain_5, own_5, sizeof(struct settled)},
+    {"derive", plain_6, own_6, sizeof(struct answer)},
+    {"check", plain_7, own_7, sizeof(struct answer)},
+    {"complete", plain_8, own_8, sizeof(struct settled)},
+};
+
+enum { CALLS = sizeof calls / sizeof calls[0], CHECK = 6, COMPLETE = 7 };
+
+// ---- timing
+
+static double seconds(void)
+{
+    struct timespec now;
+    clock_gettime(CLOCK_PROCESS_CPUTIME_ID, &now);
+    return (double)now.tv_sec + 1e-9 * (double)now.tv_nsec;
+}
+
+static double run(void (*side)(void), long times)
+{
+    double start = seconds();
+    for (long i = 0; i < times; i++)
+        side();
+    return (seconds() - start) / (double)times;
+}
+
+// How often one round makes the call.
+static long enough(void (*side)(void))
+{
+    long times = 1;
+    while (run(side, times) * (double)times < ROUND_SECONDS)
+        times *= 2;
+    return times;
+}
+
+struct times {
+    double plain, own;
+};
+
+// The best of several rounds, the two sides by turns.
+static struct times measure(const struct call *call)
+{
+    long plain_times = enough(call->plain), own_times = enough(call->own);
+    struct times best = {1e9, 1e9};
+    for (int round = 0; round < ROUNDS; round++) {
+        double plain = run(call->plain, plain_times), own = run(call->own, own_times);
+        best.plain = plain < best.plain ? plain : best.plain;
+        best.own = own < best.own ? own : best.own;
+    }
+    return best;
+}
+
+// Both sides have to grant, and to give the same.
+static void compare(const struct call *call)
+{
+    static uint8_t result[sizeof out], bytes[sizeof room + sizeof numbers];
+    memset(&out, 0, sizeof out);
+    call->plain();
+    memcpy(result, &out, sizeof out);
+    memcpy(bytes, room, sizeof room);
+    memcpy(bytes + sizeof room, numbers, sizeof numbers);
+    call->own();
+    if (out.answer.code != 0 || memcmp(result, &out, call->bytes) != 0 || memcmp(bytes, room, sizeof room) != 0
+        || memcmp(bytes + sizeof room, numbers, sizeof numbers) != 0) {
+        fprintf(stderr, "%s: the two sides differ, or refuse (code %u)\n", call->name, (unsigned)out.answer.code);
+        exit(1);
+    }
+}
+
+// ---- the table
+
+static void print_time(double time)
+{
+    if (time < 1e-6)
+        printf(" %.0f ns |", 1e9 * time);
+    else if (time < 1e-3)
+        printf(" %.1f us |", 1e6 * time);
+    else
+        printf(" %.2f ms |", 1e3 * time);
+}
+
+// `before` is the time at half the events, 0 where there is none.
+static struct times print_row(const struct call *call, const char *input, const char *size, struct times before)
+{
+    compare(call);
+    struct times now = measure(call);
+    printf("| %s | %s | %s |", call->name, input, size);
+    print_time(now.plain);
+    print_time(now.own);
+    printf(" %.2f |", now.own / now.plain);
+    if (before.own > 0)
+        printf(" %.1f, %.1f |\n", now.plain / before.plain, now.own / before.own);
+    else
+        printf(" |\n");
+    fflush(stdout);
+    return now;
+}
+
+// Loads a chart and its book. Every event was executed and none is pending, so that all are open and every call is granted.
+static void load_chart(size_t (*write)(uint8_t *, uint32_t), uint32_t n)
+{
+    image_length = write(image, n);
+    struct reading reading = plain_read_chart(image, image_length);
+    uint64_t all = n == 64 ? ~(uint64_t)0 : ((uint64_t)1 << n) - 1;
+    chart = reading.chart;
+    marking = (struct marking){all, 0, all};
+    snapshot = plain_matching(chart, marking).snapshot;
+    plain_derive(chart, book, sizeof book);
+    rules = book[8] | (size_t)book[9] << 8;
+    book_length = 32 + 10 * rules + 8 * n + 2 * (book[16] | (size_t)book[17] << 8);
+    plain_check(book, book_length, order, ORDER_NUMBERS);
+    share();
+}
+
+static void load_book(size_t (*write)(uint8_t *))
+{
+    book_length = write(book);
+    rules = ORDER_NUMBERS;
+    memset(&snapshot, 1, sizeof snapshot);
+    if (plain_check(book, book_length, order, ORDER_NUMBERS).code != 0)
+        abort();
+    share();
+}
+
+static void print_charts(const char *input, size_t (*write)(uint8_t *, uint32_t))
+{
+    struct times before[CALLS] = {{0, 0}};
+    for (uint32_t n = 8; n <= 64; n *= 2) {
+        char size[16];
+        snprintf(size, sizeof size, "%u events", (unsigned)n);
+        load_chart(write, n);
+        for (int i = 0; i < CALLS; i++)
+            before[i] = print_row(&calls[i], input, size, before[i]);
+    }
+}
+
+static void print_books(const char *input, size_t (*write)(uint8_t *))
+{
+    struct times none = {0, 0};
+    load_book(write);
+    print_row(&calls[CHECK], input, "8384 rules", none);
+    print_row(&calls[COMPLETE], input, "8384 rules", none);
+}
+
+int main(void)
+{
+    printf("| call | input | size | plain C | ozhimka | ratio | growth from half the events, plain C and ozhimka |\n");
+    printf("|---|---|---|---:|---:|---:|---|\n");
+    print_charts("all relations", full_chart);
+    print_charts("sparse", sparse_chart);
+    print_books("largest book, layered", layered_book);
+    print_books("largest book, one mark", paired_book);
+    return 0;
+}

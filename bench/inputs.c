@@ -1,0 +1,150 @@
+// Writes the inputs that the calls are timed on.
+#include "inputs.h"
+
+enum { CONDITION, RESPONSE, MILESTONE, INCLUDE, EXCLUDE };
+enum { NO_PARENT = 65535, INCLUDED = 4 };
+enum { STAGES = 64, MARKS = 256, RULES = 8384, CONDITIONS = 256, WORDS = 41024, OR = 65534, NOT = 65535 };
+
+static uint8_t *put16(uint8_t *at, uint32_t number)
+{
+    at[0] = (uint8_t)number;
+    at[1] = (uint8_t)(number >> 8);
+    return at + 2;
+}
+
+static uint8_t *put32(uint8_t *at, uint32_t number)
+{
+    return put16(put16(at, number), number >> 16);
+}
+
+// ---- charts
+
+static uint8_t *put_chart_header(uint8_t *at, uint32_t nodes, uint32_t relations)
+{
+    return put16(put16(put16(put16(at, nodes), relations), 8), 8 + 4 * nodes);
+}
+
+static uint8_t *put_relation(uint8_t *at, uint32_t from, uint32_t to, uint32_t kind)
+{
+    return put16(put16(put16(at, from), to), kind);
+}
+
+// Even events lie below one chain of groups, odd events below another, and the last node is the top of both.
+static uint32_t full_parent(uint32_t node, uint32_t n)
+{
+    uint32_t top = 2 * n - 1;
+    if (node < n)
+        return n + node < top ? n + node : top - 2; // the last odd event shares its chain's last group
+    return node == top ? NO_PARENT : node + 2 < top ? node + 2 : top;
+}
+
+size_t full_chart(uint8_t *image, uint32_t n)
+{
+    uint32_t top = 2 * n - 1, even = 2 * n - 2, odd = 2 * n - 3;
+    const uint32_t wide[7][3] = {{top, top, CONDITION}, {top, top, RESPONSE}, {top, top, MILESTONE}, {even, even, INCLUDE},
+                                 {odd, odd, INCLUDE},   {even, odd, EXCLUDE}, {odd, even, EXCLUDE}};
+    uint8_t *at = put_chart_header(image, 2 * n, n * n);
+    for (uint32_t node = 0; node < 2 * n; node++)
+        at = put16(put16(at, full_parent(node, n)), node < n ? INCLUDED : 0);
+    for (uint32_t i = 0; i < n * n; i++)
+        at = i < 7 ? put_relation(at, wide[i][0], wide[i][1], wide[i][2]) : put_relation(at, i / n, i % n, i % INCLUDE);
+    return (size_t)(at - image);
+}
+
+static uint8_t *put_sparse(uint8_t *at, uint32_t e, uint32_t n)
+{
+    uint32_t next = (e + 1) % n, far = (e + 5) % n;
+    if (e + 1 < n)
+        at = put_relation(at, e, next, CONDITION);
+    if (e % 2 == 0)
+        at = put_relation(at, e, next, RESPONSE);
+    if (e % 3 == 0)
+        at = put_relation(at, far, e, MILESTONE);
+    if (e % 4 == 1)
+        at = put_relation(at, e, e, EXCLUDE);
+    if (e % 4 == 3)
+        at = put_relation(at, e, n + e / 4, INCLUDE); // its whole group
+    return at;
+}
+
+size_t sparse_chart(uint8_t *image, uint32_t n)
+{
+    uint32_t nodes = n + n / 4;
+    uint8_t *start = image + 8 + 4 * nodes, *at = start;
+    for (uint32_t e = 0; e < n; e++)
+        at = put_sparse(at, e, n);
+    size_t length = (size_t)(at - image);
+    at = put_chart_header(image, nodes, (uint32_t)(length - (size_t)(start - image)) / 6);
+    for (uint32_t e = 0; e < n; e++)
+        at = put16(put16(at, n + e / 4), INCLUDED);
+    for (uint32_t g = n; g < nodes; g++)
+        at = put16(put16(at, NO_PARENT), 0);
+    return length;
+}
+
+// ---- books
+
+static uint8_t *put_book_header(uint8_t *at)
+{
+    const uint32_t header[8] = {STAGES, MARKS, RULES, CONDITIONS, WORDS, 32, 32 + 10 * RULES, 32 + 10 * RULES + 8 * CONDITIONS};
+    for (int i = 0; i < 8; i++)
+        at = put32(at, header[i]);
+    return at;
+}
+
+// Sets the target if the condition holds, or clears it unless.
+static uint8_t *put_rule(uint8_t *at, uint32_t set, uint32_t condition, uint32_t target)
+{
+    at[0] = 0;
+    at[1] = set ? 1 : 2;
+    at[2] = (uint8_t)set;
+    at[3] = 0;
+    return put16(put16(put16(at + 4, 0), condition), target);
+}
+
+// Words of condition c: the whole text divided as evenly as it goes.
+static uint32_t words_before(uint32_t c)
+{
+    return WORDS / CONDITIONS * c + (c < WORDS % CONDITIONS ? c : WORDS % CONDITIONS);
+}
+
+// A text of `count` words: a mark from `first` on, then mark and or by turns, round and round up to mark 255, and a last not where one
+// word is left.
+static uint8_t *put_text(uint8_t *at, uint32_t first, uint32_t count)
+{
+    uint32_t mark = first, put = 1;
+    at = put16(at, mark);
+    for (; put + 2 <= count; put += 2) {
+        mark = mark < MARKS - 1 ? mark + 1 : first;
+        at = put16(put16(at, mark), OR);
+    }
+    return put < count ? put16(at, NOT) : at;
+}
+
+// Conditions whose text starts with the mark above their number, and condition 255 with the last mark.
+static uint8_t *put_conditions(uint8_t *at)
+{
+    for (uint32_t c = 0; c < CONDITIONS; c++)
+        at = put32(put32(at, words_before(c)), words_before(c + 1) - words_before(c));
+    for (uint32_t c = 0; c < CONDITIONS; c++)
+        at = put_text(at, c < MARKS - 1 ? c + 1 : c, words_before(c + 1) - words_before(c));
+    return at;
+}
+
+size_t layered_book(uint8_t *book)
+{
+    uint8_t *at = put_book_header(book);
+    for (uint32_t p = 0; p < RULES; p++) {
+        uint32_t target = p * (MARKS - 1) / RULES; // never mark 255, which condition 254 names
+        at = put_rule(at, p % 2, target, target);
+    }
+    return (size_t)(put_conditions(at) - book);
+}
+
+size_t paired_book(uint8_t *book)
+{
+    uint8_t *at = put_book_header(book);
+    for (uint32_t p = 0; p < RULES; p++)
+        at = put_rule(at, p % 2, 0, 0);
+    return (size_t)(put_conditions(at) - book);
+}
