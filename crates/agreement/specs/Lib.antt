@@ -3,4 +3,3 @@ pub mod Matching
 pub mod Texts
 pub mod Settling
 pub mod Passing
-pub mod Agreeing

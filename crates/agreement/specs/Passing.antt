@@ -1,16 +1,16 @@
--- A book derived from a fit chart has no clash and no loop, so its running order is fit. Assumes nothing.
+-- A book derived from a fit chart has no clash and no loop, so the check passes it. Assumes nothing.
 use Prim.Native.Nat.{ℕ, _+_, _-_, _*_, _≤_, _<_}
-use mathlib.Core.Path.{_≡_, refl, sym, ap, subst, _∙_}
-use mathlib.Core.Bool.{Bool, true, false, not, cond, _&&_, _||_, Bool·beq, and-false}
-use mathlib.Core.List.{List, [], _∷_, _++_}
+use mathlib.Core.Path.{_≡_, refl, ap, subst}
+use mathlib.Core.Bool.{Bool, true, false, not, cond, _||_, Bool·beq, and-false}
+use mathlib.Core.List.{List, [], _∷_}
 use native.Mathlib.Omega.{arith}
 use lib.Dec.{eqb, ltb}
 use lib.ListN.{length}
 use borrow.Author.Tests.{eqb-true, ne-eqb, lt-ltb, le-ltb}
-use Rattle.paper.specs.Limits.{maxEvents, andWord, orWord, notWord}
+use Rattle.paper.specs.Limits.{maxEvents}
 use Rattle.sets.specs.Cases.{contra, cases, either}
 use Rattle.sets.specs.Set.{has}
-use Rattle.graph.specs.Chart.{setOf, condition, response, milestone, include, exclude, Fit}
+use Rattle.graph.specs.Chart.{setOf, condition, response, milestone, include, exclude}
 use Rattle.graph.specs.declared.FlatChart.{FlatChart}
 use Rattle.book.specs.Text.{elem}
 use Rattle.book.specs.Book.{ruleOf, textOf, noRule}
@@ -18,11 +18,10 @@ use Rattle.book.specs.Firing.{refers, awaits, reads}
 use Rattle.book.specs.Lists.{flat, All, all-append, all-flat, all-at}
 use Rattle.book.specs.declared.Rule.{Rule}
 use Rattle.orders.specs.Order.{NoLoop}
-use Rattle.orders.specs.Order as order
-use Rattle.orders.specs.Running.{turn, runningOrder, running-fit}
+use Rattle.orders.specs.Running.{turn}
 use Rattle.ordering.specs.Rules.{netOf}
 use Rattle.judge.specs.Clash.{clash, opposed, apart, otherStages, completesOther, oppositeSenses, isWritten, isNegated, NoClash}
-use Rattle.deriver.specs.Derived.{executedMark, includedMark, answeredMark, on, opens, closes, listed, clause, textFor, inclusion, responding, answering, executing, derivedText, derivedBook, derivedRules, derived-text, Parts, join}
+use Rattle.deriver.specs.Derived.{executedMark, includedMark, answeredMark, on, opens, closes, listed, clause, textFor, inclusion, responding, answering, executing, derivedText, derivedBook, derivedRules, derived-text, join}
 
 all-elem : (P : ℕ → Type 0) (l : List ℕ) → All P l → (k : ℕ) → elem k l ≡ true → P k
 unfolding elem
@@ -137,16 +136,3 @@ module _ (c : FlatChart) where
         let a = refers-high (ruleOf (derivedBook c) r) (ruleOf (derivedBook c) q .target) (shape-at r h) e in
         let b = refers-high (ruleOf (derivedBook c) q) (ruleOf (derivedBook c) p .target) (shape-at q i) g in
         omega (arith, a .1, b .0)
-
-    target-small : (x : Rule) → Shape x → x .target < 4 * c .count
-    target-small x (writes d k l h) = h
-    target-small x (opening f h) = omega arith
-    target-small x (closing f h) = omega arith
-
-    pub derived-targets : (r : ℕ) → r < length (derivedBook c .rules) → ruleOf (derivedBook c) r .target < 4 * c .count
-    derived-targets r h = target-small (ruleOf (derivedBook c) r) (shape-at r h)
-
-    -- its running order is fit
-    pub derived-order : order.Fit (netOf (derivedBook c)) (runningOrder (netOf (derivedBook c)))
-    unfolding netOf
-    derived-order = running-fit (netOf (derivedBook c)) (4 * c .count) derived-targets derived-no-loop

@@ -1,27 +1,26 @@
 -- The matching snapshot of the next marking settles the derived book, so every fit order ends there. Assumes nothing.
 use Prim.Native.Nat.{ℕ, _+_, _-_, _*_, _≤_, _<_}
 use mathlib.Core.Path.{_≡_, refl, sym, ap, _∙_}
-use mathlib.Core.Bool.{Bool, true, false, not, cond, _&&_, _||_, or-true, or-false}
+use mathlib.Core.Bool.{Bool, true, false, not, _&&_, _||_, or-true, or-false}
 use native.Mathlib.Omega.{arith}
 use lib.Dec.{eqb, ltb}
-use lib.ListN.{getD}
-use borrow.Author.Tests.{eqb-true, eqb-false, eq-eqb, ne-eqb, ltb-true, ltb-false, not-true, not-false}
+use borrow.Author.Tests.{eqb-true, eq-eqb, ltb-true, ltb-false, not-true, not-false}
 use Rattle.sets.specs.Cases.{contra, cases, both}
-use Rattle.sets.specs.Set.{has, union, minus, only}
+use Rattle.sets.specs.Set.{has, minus, only}
 use Rattle.sets.specs.Laws.{has-union, has-minus, has-only}
-use Rattle.graph.specs.Chart.{setOf, condition, response, milestone, include, exclude, Fit}
-use Rattle.graph.specs.Steps.{isOpen, after, afterWith}
+use Rattle.graph.specs.Chart.{setOf, response, include, exclude, Fit}
+use Rattle.graph.specs.Steps.{after, afterWith}
 use Rattle.graph.specs.declared.FlatChart.{FlatChart}
 use Rattle.graph.specs.declared.Marking.{Marking}
-use Rattle.book.specs.Text.{Snap, holds}
-use Rattle.book.specs.Book.{ruleOf, textOf, noRule}
+use Rattle.book.specs.Text.{holds}
+use Rattle.book.specs.Book.{textOf, noRule}
 use Rattle.book.specs.Firing.{fires, triggered, allowed}
-use Rattle.book.specs.Lists.{All, all-at, at-all}
+use Rattle.book.specs.Lists.{all-at, at-all}
 use Rattle.book.specs.declared.Rule.{Rule}
 use Rattle.orders.specs.Settle.{Settled}
 use Rattle.ordering.specs.Rules.{netOf, actsOf}
 use Rattle.deriver.specs.Matching.{markOf}
-use Rattle.deriver.specs.Derived.{executedMark, includedMark, answeredMark, on, opens, closes, inclusion, responding, answering, executing, derivedText, derivedBook, derivedRules, derived-text, Parts, join, parts}
+use Rattle.deriver.specs.Derived.{executedMark, includedMark, answeredMark, on, inclusion, responding, answering, derivedText, derivedBook, derivedRules, derived-text, Parts, join, parts}
 use Rattle.agreement.specs.Matching.{match-stage, match-executed, match-included, match-answered, match-past}
 use Rattle.agreement.specs.Texts.{text-open}
 

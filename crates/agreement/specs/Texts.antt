@@ -1,15 +1,15 @@
 -- A derived text holds in a matching snapshot exactly if its event is open. Assumes nothing.
-use Prim.Native.Nat.{ℕ, zero, suc, _+_, _*_, _≤_, _<_}
+use Prim.Native.Nat.{ℕ, zero, suc, _≤_, _<_}
 use mathlib.Core.Path.{_≡_, refl, sym, ap, _∙_}
-use mathlib.Core.Bool.{Bool, true, false, not, cond, _&&_, _||_, and-true, and-assoc}
+use mathlib.Core.Bool.{Bool, true, false, not, _&&_, _||_, and-true, and-assoc}
 use mathlib.Core.List.{List, [], _∷_, _++_}
 use native.Mathlib.Omega.{arith}
 use lib.Dec.{eqb}
 use borrow.Author.Tests.{ne-eqb, eq-eqb, eqb-true}
 use Rattle.paper.specs.Limits.{maxEvents, andWord, orWord, notWord}
-use Rattle.sets.specs.Cases.{contra, cases, both, all3, not-so, same-test, or-left, or-right}
+use Rattle.sets.specs.Cases.{contra, cases, all3, not-so, same-test}
 use Rattle.sets.specs.Below.{every, every-at, every-of, every-same}
-use Rattle.sets.specs.Set.{has, inter, minus}
+use Rattle.sets.specs.Set.{has, inter}
 use Rattle.sets.specs.Laws.{has-inter, has-minus, has-empty, none-zero}
 use Rattle.graph.specs.Chart.{setOf, condition, milestone, In, Fit}
 use Rattle.graph.specs.Steps.{isOpen, openWith, unmetOf, awaitedOf}

@@ -3,19 +3,11 @@ use mathlib.Core.Path.{_≡_, refl}
 use mathlib.Core.Bool.{Bool, true, false, not, cond, _&&_, _||_}
 use mathlib.Core.List.{List, [], _∷_}
 use Prim.Native.Nat.{ℕ}
-use lib.ListN.{getD}
 use lib.Dec.{eqb}
 use borrow.Author.Tests.{eq-eqb}
+pub use Rattle.paper.specs.Snapshots.{Snap, snapOf}
 use Rattle.paper.specs.Limits.{andWord, orWord, notWord}
 use Rattle.sets.specs.Cases.{or-right}
-
--- a snapshot, for the theorems: each mark yes or no
-abbrev pub Snap : Type 0
-Snap = ℕ → Bool
-
--- a list of marks, read as a snapshot; past its end every mark is no
-abbrev pub snapOf : List Bool → Snap
-snapOf l m = getD l m false
 
 -- ---- what a text says
 

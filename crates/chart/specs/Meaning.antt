@@ -11,14 +11,14 @@ use Rattle.paper.specs.Limits.{maxEvents}
 use Rattle.sets.specs.Cases.{contra, cases, both, not-so, same-test}
 use Rattle.sets.specs.Set.{has, lowest, collect}
 use Rattle.sets.specs.Laws.{ext, has-collect, has-inter, has-empty, none-zero, below, lowest-lt, lowest-has, lowest-least}
-use Rattle.sets.specs.Below.{some, some-of, some-at, some-none, some-same, first, first-found, tally}
+use Rattle.sets.specs.Below.{some, some-of, some-at, some-none, some-same, first, first-found, first-same, tally, tally-same}
 use Rattle.sets.specs.Tables.{tabulate, tabulate-same}
 use Rattle.reach.specs.Rows.{bit}
 use Rattle.graph.specs.Chart.{Kind, condition, response, milestone, include, exclude}
 use Rattle.graph.specs.declared.FlatChart.{FlatChart}
 use Rattle.graph.specs.declared.Marking.{Marking}
-use Rattle.chart.specs.Scan.{first-same, collect-same}
-use Rattle.chart.specs.Numbering.{tally-same, tally-find, first-numbered}
+use Rattle.chart.specs.Scan.{collect-same}
+use Rattle.chart.specs.Numbering.{tally-find, first-numbered}
 use Rattle.chart.specs.Image.{nodes, relations, fromOf, toOf, kindOf, flagsOf, nodeAt, Whole}
 use Rattle.chart.specs.Nesting.{parent, atOrAbove, onLoopAt, isGroup, isEvent, number, eventCount, eventNode, flaggedGroupAt}
 use Rattle.chart.specs.Tables.{rowWidth, Groups, isEventIn, flaggedIn, EventNodes, Nestings, atOrAboveIn}

@@ -15,11 +15,6 @@ module _ (f : ℕ → Bool) where
   unfolding tally
   tally-step k = rw add-one
 
-  pub tally-le : (k : ℕ) → tally k f ≤ k
-  unfolding tally
-  tally-le zero = omega arith
-  tally-le (suc k) = let i = tally-le k in cases (f k) (λ e. rw e (omega arith)) (λ e. rw e (omega arith))
-
   pub tally-grows : (i k : ℕ) → i ≤ k → tally i f ≤ tally k f
   unfolding tally
   tally-grows i zero h = let e : i ≡ zero = omega arith in rw e (omega arith)
@@ -67,12 +62,6 @@ module _ (f : ℕ → Bool) where
       (λ p l. not-so (λ t. let b = both (f p) (eqb (tally p f) (tally i f)) t in
       let z = tally-lt p i l (b .0) in let y = eqb-true (tally p f) (tally i f) (b .1) in absurd (omega arith)))
       (rw (e, eq-eqb (tally i f) (tally i f) refl)))
-
--- tests that agree below n count alike
-pub tally-same : (n : ℕ) (f g : ℕ → Bool) → ((p : ℕ) → p < n → f p ≡ g p) → tally n f ≡ tally n g
-unfolding tally
-tally-same zero f g h = refl
-tally-same (suc n) f g h = rw (h n (omega arith), tally-same n f g (λ p l. h p (omega arith)))
 
 -- a count along a loop: nothing yet, one more, all
 pub tally-none : (f : ℕ → Bool) → 0 ≡ tally 0 f

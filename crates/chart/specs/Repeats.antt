@@ -8,12 +8,11 @@ use lib.Dec.{eqb, ltb}
 use borrow.Author.Tests.{ltb-true}
 use Rattle.sets.specs.Cases.{cases, same-test}
 use Rattle.sets.specs.Set.{has, collect}
-use Rattle.sets.specs.Below.{some, some-of, some-at, some-same, first}
+use Rattle.sets.specs.Below.{some, some-of, some-at, some-same, first, first-same, tally-same}
 use Rattle.sets.specs.Tables.{tabulate-same}
 use Rattle.reach.specs.Closure.{within}
 use Rattle.graph.specs.Chart.{Kind, condition, response, milestone, include, exclude}
-use Rattle.chart.specs.Scan.{first-same, collect-same}
-use Rattle.chart.specs.Numbering.{tally-same}
+use Rattle.chart.specs.Scan.{collect-same}
 use Rattle.chart.specs.Image.{nodes, relations, parentOf, flagsOf, fromOf, toOf, kindOf, badNodeAt, badRelationAt}
 use Rattle.chart.specs.Nesting.{parent, nested, atOrAbove, onLoopAt, isGroup, isEvent, number, eventCount, eventNode, flaggedGroupAt}
 use Rattle.chart.specs.Flattening.{kindNumber, holdsBack, leads, related, entered, flatSet, flatTable, flatChart, flagged, startMarking, conflict, conflictAt}

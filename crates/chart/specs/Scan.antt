@@ -6,7 +6,7 @@ use native.Mathlib.Omega.{arith}
 use borrow.Author.Count.{below-more}
 use Rattle.sets.specs.Set.{putIf, collect}
 use Rattle.sets.specs.Laws.{collect-step}
-use Rattle.sets.specs.Below.{first, first-is, first-unique, first-found, first-none}
+use Rattle.sets.specs.Below.{first, first-found, first-none}
 
 -- the scan has come to i, and no number before it passes
 pub record Passed (n : ℕ) (f : ℕ → Bool) (i : ℕ) : Type 0 where
@@ -26,15 +26,6 @@ module _ {n : ℕ} {f : ℕ → Bool} where
 
     pub passed-end : n ≤ i → n ≡ first n f
     passed-end h = first-none n f (λ p k. l .none p (omega arith))
-
--- tests that agree below n have the same first
-pub first-same : (n : ℕ) (f g : ℕ → Bool) → ((p : ℕ) → p < n → f p ≡ g p) → first n f ≡ first n g
-first-same n f g h =
-    let i = first-is n f in
-    let b = i .fits in
-    first-unique n g (first n f) (first n g)
-    (record { fits = b; passes = λ l. sym (h (first n f) l) ∙ i .passes l; lowest = λ p l. sym (h p (omega arith)) ∙ i .lowest p l })
-    (first-is n g)
 
 -- a loop that counts up has come to its end
 pub at-end : (P : ℕ → Type 0) {i n : ℕ} → i ≤ n → n ≤ i → P i → P n

@@ -16,9 +16,6 @@ use Rattle.book.specs.declared.Sense.the-variants.{NoCondition, AsWritten, Nega
 
 -- ---- "marks e stage, n+e executed, 2n+e included, 3n+e answered (not pending)"
 
-abbrev pub stageMark : ℕ → ℕ → ℕ
-stageMark n e = e
-
 abbrev pub executedMark : ℕ → ℕ → ℕ
 executedMark n e = n + e
 

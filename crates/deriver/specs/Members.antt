@@ -12,7 +12,7 @@ use lib.Dec.{ltb}
 use lib.ListN.{length, length-append}
 use borrow.Author.Tests.{eq-eqb, ne-eqb, lt-ltb, ltb-true}
 use Rattle.sets.specs.Cases.{contra, cases, lt-suc}
-use Rattle.sets.specs.Below.{tally}
+use Rattle.sets.specs.Below.{tally, tally-same}
 use Rattle.sets.specs.Set.{has, minus, only, size, lowest, within, collect}
 use Rattle.sets.specs.Laws.{ext, has-minus, has-only, has-empty, has-collect, size-collect, lowest-lt, lowest-has, lowest-least, minus-le, within-lt}
 use Rattle.deriver.specs.Derived.{listed}
@@ -29,18 +29,6 @@ size-within n s h = ap size (sym (ext (collect n (has s)) s same)) ∙ size-coll
         has-collect n (has s) e
         ∙ cases (ltb e n) (λ t. rw t)
         (λ t. cases (has s e) (λ m. contra (lt-ltb e n (within-lt n s e h m)) t) (λ m. rw (t, m)))
-
-pub tally-le : (n : ℕ) (p : ℕ → Bool) → tally n p ≤ n
-unfolding tally
-tally-le zero p = omega arith
-tally-le (suc n) p =
-    let i : tally n p ≤ n = tally-le n p in
-    cases (p n) (λ t. rw t (omega arith)) (λ t. rw t (omega arith))
-
-pub tally-same : (n : ℕ) (p q : ℕ → Bool) → ((e : ℕ) → e < n → p e ≡ q e) → tally n p ≡ tally n q
-unfolding tally
-tally-same zero p q h = refl
-tally-same (suc n) p q h = rw (tally-same n p q (λ e l. h e (omega arith)), h n (omega arith))
 
 -- one number more, unless it passes already
 pub tally-more : (n e : ℕ) (p q : ℕ → Bool) → e < n → q e ≡ true → ((f : ℕ) → f ≢ e → q f ≡ p f) → tally n q ≡ tally n p + cond (p e) 0 1

@@ -9,7 +9,7 @@ use lib.ListN.{length, getD, length-append}
 use borrow.Author.Tests.{eq-eqb, ne-eqb, eqb-true}
 use Rattle.paper.specs.Limits.{maxRules, maxWords, bookHeader, ruleSize, conditionSize, wordSize}
 use Rattle.sets.specs.Cases.{cases, either}
-use Rattle.sets.specs.Below.{tally}
+use Rattle.sets.specs.Below.{tally, tally-le}
 use Rattle.sets.specs.Set.{has, union, only, size, within}
 use Rattle.sets.specs.Laws.{has-union, has-only, has-empty, within-lt, lt-within}
 use Rattle.graph.specs.Chart.{Kind, condition, response, milestone, include, exclude, setOf, Fit}
@@ -18,7 +18,7 @@ use Rattle.book.specs.Lists.{total, total-same, total-le, flat, flat-same, leng
 use Rattle.book.specs.ImageOf.{imageOf, image-length}
 use Rattle.book.specs.declared.Rule.{Rule}
 use Rattle.deriver.specs.Derived.{listed, executedMark, answeredMark, on, inclusion, responding, answering, completion, clause, textFor, stageRules, eventRules, derivedRules, derivedText, derivedCondition, derivedBook}
-use Rattle.deriver.specs.Members.{size-within, tally-le, tally-more, length-listed}
+use Rattle.deriver.specs.Members.{size-within, tally-more, length-listed}
 
 -- ---- one event
 

@@ -11,7 +11,7 @@ use lib.Seq.{getD-set-same, getD-set-other}
 use borrow.Author.Tests.{eqb-true, eqb-false, eq-eqb, ne-eqb, lt-ltb}
 use Rattle.paper.specs.Limits.{maxMarks, maxRules}
 use Rattle.sets.specs.Cases.{cases}
-use Rattle.sets.specs.Below.{tally, tally-step}
+use Rattle.sets.specs.Below.{tally, tally-step, tally-le}
 use Rattle.sets.specs.Set.{has, union, minus, only}
 use Rattle.sets.specs.Laws.{has-minus, has-only, has-empty}
 use Rattle.book.specs.Marks.{wordBits, markWords, hasMark, withMark, has-with}
@@ -59,11 +59,6 @@ has-unmarked row t m l h k =
         (λ e. rw e (ne-eqb (t % wordBits) (m % wordBits) (λ q. eqb-false m t e (omega arith))))
 
 -- ---- the first k rules counted
-
-tally-le : (k : ℕ) (f : ℕ → Bool) → tally k f ≤ k
-unfolding tally
-tally-le zero f = omega arith
-tally-le (suc k) f = cases (f k) (λ e. rw e (omega (arith, tally-le k f))) (λ e. rw e (omega (arith, tally-le k f)))
 
 module _ (N : Net) where
   -- how many of the first k rules target m

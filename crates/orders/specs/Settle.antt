@@ -7,13 +7,10 @@ use Prim.Native.Nat.{ℕ, _+_, _≤_, _<_}
 use native.Mathlib.Omega.{arith}
 use lib.Dec.{eqb}
 use borrow.Author.Tests.{eqb-true, eq-eqb}
+pub use Rattle.paper.specs.Snapshots.{Snap}
 use Rattle.sets.specs.Cases.{contra, cases, both}
 use Rattle.sets.specs.Below.{find}
 use Rattle.orders.specs.Order.{Net, Mem, Fit, Respects, before}
-
--- a snapshot: whether a mark is yes
-abbrev pub Snap : Type 0
-Snap = ℕ → Bool
 
 -- what the rules do, where the start and the completed stage are given: a rule's firing hangs on the marks that it refers to
 pub record Acts (N : Net) : Type 0 where

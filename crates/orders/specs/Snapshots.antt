@@ -9,21 +9,17 @@ use lib.Dec.{eqb}
 use lib.ListN.{length, getD, set, drop, length-set, drop-of-length-le}
 use lib.Seq.{getD-set-same, getD-set-other, ext-getD, drop-cons}
 use borrow.Author.Tests.{eqb-true, eqb-false}
+use Rattle.paper.specs.Snapshots.{snapOf}
 use Rattle.sets.specs.Cases.{cases}
 use Rattle.orders.specs.Order.{Net, Mem}
-use Rattle.orders.specs.Settle.{Snap, Acts, step, run}
+use Rattle.orders.specs.Settle.{Acts, step, run}
 
--- the marks past the list are no
-unfoldable pub at : List Bool → Snap
-at l m = getD l m false
-
-pub at-same : (k l : List Bool) → length k ≡ length l → ((m : ℕ) → at k m ≡ at l m) → k ≡ l
-unfolding at
+pub at-same : (k l : List Bool) → length k ≡ length l → ((m : ℕ) → snapOf k m ≡ snapOf l m) → k ≡ l
 at-same k l e h = ext-getD false k l e (λ i c. h i)
 
 module _ (N : Net) (A : Acts N) where
   unfoldable pub stepL : List Bool → ℕ → List Bool
-  stepL l r = cond (A .fires (at l) r) (set l (N .target r) (A .effect r)) l
+  stepL l r = cond (A .fires (snapOf l) r) (set l (N .target r) (A .effect r)) l
 
   unfoldable pub runL : List Bool → List ℕ → List Bool
   runL l [] = l
@@ -31,11 +27,11 @@ module _ (N : Net) (A : Acts N) where
 
   pub length-stepL : (l : List Bool) (r : ℕ) → length (stepL l r) ≡ length l
   unfolding stepL
-  length-stepL l r = cases (A .fires (at l) r) (λ e. rw e (length-set l (N .target r) (A .effect r))) (λ e. rw e)
+  length-stepL l r = cases (A .fires (snapOf l) r) (λ e. rw e (length-set l (N .target r) (A .effect r))) (λ e. rw e)
 
-  pub at-stepL : (l : List Bool) (r : ℕ) → N .target r < length l → at (stepL l r) ≡ step N A (at l) r
-  unfolding stepL step at
-  at-stepL l r h = fun-ext (λ m. cases (A .fires (at l) r)
+  pub at-stepL : (l : List Bool) (r : ℕ) → N .target r < length l → snapOf (stepL l r) ≡ step N A (snapOf l) r
+  unfolding stepL step
+  at-stepL l r h = fun-ext (λ m. cases (A .fires (snapOf l) r)
       (λ f. cases (eqb m (N .target r))
       (λ e. rw (f, e) (rw (eqb-true m (N .target r) e) (getD-set-same l (N .target r) (A .effect r) false h)))
       (λ e. rw (f, e) (getD-set-other l (N .target r) m (A .effect r) false (eqb-false m (N .target r) e))))
@@ -46,7 +42,7 @@ module _ (N : Net) (A : Acts N) where
   length-runL [] l = refl
   length-runL (r ∷ o) l = length-runL o (stepL l r) ∙ length-stepL l r
 
-  pub at-runL : (o : List ℕ) (l : List Bool) → ((q : ℕ) → Mem q o → N .target q < length l) → at (runL l o) ≡ run N A (at l) o
+  pub at-runL : (o : List ℕ) (l : List Bool) → ((q : ℕ) → Mem q o → N .target q < length l) → snapOf (runL l o) ≡ run N A (snapOf l) o
   unfolding runL run
   at-runL [] l h = refl
   at-runL (r ∷ o) l h = at-runL o (stepL l r) (λ q i. rw (length-stepL l r) (h q (inr i))) ∙ rw (at-stepL l r (h r (inl refl)))

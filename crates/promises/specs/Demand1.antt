@@ -2,10 +2,10 @@
 -- or snapshot it was given and leaves lent room as it was. Assumes nothing.
 use Prim.Native.Nat.{ℕ, _≤_}
 use mathlib.Core.Path.{_≡_, refl}
-use mathlib.Core.Bool.{Bool, true, false, not, cond}
+use mathlib.Core.Bool.{Bool, false}
 use mathlib.Core.List.{List}
 use lib.ListN.{length, replicate}
-use lib.Dec.{eqb, leb}
+use lib.Dec.{leb}
 use Rattle.paper.specs.Limits.{maxMarks, unfit, bookRoom}
 use Rattle.paper.specs.Answers.{answer, granted, refusal}
 use Rattle.paper.specs.declared.Answer.{Answer}
@@ -13,8 +13,8 @@ use Rattle.sets.specs.Cases.{cases, contra, coincide, not-so}
 use Rattle.graph.specs.Chart.{Fit, FitMarking}
 use Rattle.graph.specs.Tests.{fit, fitChart}
 use Rattle.graph.specs.Fitness.{fit-chart, fit-both}
-use Rattle.graph.specs.Steps.{executing, counting, finishing}
-use Rattle.graph.specs.Execution.{Executes, executes, executes-only, refused-kept, count-refused, finish-refused}
+use Rattle.graph.specs.Steps.{executing}
+use Rattle.graph.specs.Execution.{Executes, executes, refused-kept}
 use Rattle.graph.specs.declared.FlatChart.{FlatChart}
 use Rattle.graph.specs.declared.Marking.{Marking}
 use Rattle.chart.specs.Reading.{reading, refused}

@@ -4,20 +4,20 @@ use Prim.Native.Nat.{ℕ, _-_, _*_, _≤_, _<_}
 use mathlib.Core.Path.{_≡_, refl, sym, ap, subst, fun-ext, _∙_}
 use mathlib.Core.Bool.{Bool, true, false, not}
 use mathlib.Core.Logic.{_↔_}
-use mathlib.Core.List.{List, [], _∷_, _++_}
+use mathlib.Core.List.{List, [], _∷_}
 use native.Mathlib.Omega.{arith}
 use lib.ListN.{length, take, drop, replicate, length-append, length-replicate}
-use lib.Dec.{eqb, leb}
+use lib.Dec.{eqb}
 use lib.Seq.{take-at}
 use borrow.Author.Tests.{le-leb, eqb-true, eqb-false}
 use Rattle.paper.specs.Limits.{maxEvents, maxMarks}
 use Rattle.paper.specs.Answers.{granted}
 use Rattle.paper.specs.declared.Answer.{Answer}
-use Rattle.sets.specs.Cases.{cases, contra, not-so}
+use Rattle.sets.specs.Cases.{cases}
 use Rattle.graph.specs.Chart.{Fit, FitMarking}
 use Rattle.graph.specs.Fitness.{fit-tested, both-fit}
 use Rattle.graph.specs.Steps.{isOpen, after, executing, granting}
-use Rattle.graph.specs.Execution.{Enabled, Stands, isDone, open-enabled, granted-enabled, after-executed, executes-only, refused-kept, after-fit, step-fit}
+use Rattle.graph.specs.Execution.{Enabled, isDone, open-enabled, granted-enabled, after-executed, executes-only, refused-kept, after-fit, step-fit}
 use Rattle.graph.specs.declared.FlatChart.{FlatChart}
 use Rattle.graph.specs.declared.Marking.{Marking}
 use Rattle.book.specs.Text.{Snap, snapOf}
@@ -29,19 +29,17 @@ use Rattle.book.specs.ImageOf.{book-of-image}
 use Rattle.book.specs.declared.Snapshot.{Snapshot}
 use Rattle.orders.specs.Order as order
 use Rattle.orders.specs.Settle.{Settled}
-use Rattle.orders.specs.Running.{runningOrder}
-use Rattle.orders.specs.Snapshots.{at, at-same}
+use Rattle.orders.specs.Snapshots.{at-same}
 use Rattle.ordering.specs.Rules.{netOf, actsOf}
 use Rattle.ordering.specs.Nets.{rulesOf}
-use Rattle.judge.specs.Checking.{Passed, checking, checkedRoom, is-passed, passed-is, granted-room, rules-many, marks-many}
+use Rattle.judge.specs.Checking.{Passed, checking, checkedRoom, is-passed}
 use Rattle.deriver.specs.Derived.{derivedBook}
 use Rattle.deriver.specs.Deriving.{derivedImage, derivingAnswer, derivedRoom}
 use Rattle.deriver.specs.Formed.{derived-well}
 use Rattle.deriver.specs.Matching.{matchingMarks, matchingOf, markOf, marks-at}
 use Rattle.runner.specs.Table.{Passes, Belongs}
 use Rattle.runner.specs.Completing.{completing}
-use Rattle.runner.specs.Completion.{Open, Completes, completes, completed-is, granted-only, written-fit, refusal-hands-back}
-use Rattle.runner.specs.declared.Completion.{Completion}
+use Rattle.runner.specs.Completion.{Open, completes, completed-is, granted-only, written-fit, refusal-hands-back}
 use Rattle.agreement.specs.Matching.{match-stage, match-past}
 use Rattle.agreement.specs.Settling.{derived-settled}
 use Rattle.agreement.specs.Passing.{derived-calm, derived-no-loop}
@@ -145,7 +143,6 @@ module _ (c : FlatChart) (fit : Fit c) where
 
       -- where both grant, the book's snapshot matches the chart's next marking
       matched-after : executing c m e .answer .code ≡ 0 → completing (derivedImage c) l (matchingOf c m .snapshot) e .snapshot .marks ≡ matchingMarks c (after c m e)
-      unfolding at
       matched-after g =
           let t = granted-enabled c m e .0 g in
           let h : e < c .count = t .0 .exists in

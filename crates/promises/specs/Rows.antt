@@ -1,6 +1,6 @@
 -- The settled examples P1 to P12 as rows under one theorem. Assumes nothing.
 use Prim.Native.Nat.{ℕ, _<_}
-use mathlib.Core.Path.{_≡_, refl, _∙_}
+use mathlib.Core.Path.{_≡_, refl}
 use mathlib.Core.Bool.{true}
 use mathlib.Core.List.{List, [], _∷_}
 use lib.ListN.{length, getD, set, replicate}
@@ -16,7 +16,6 @@ use Rattle.graph.specs.Rows as graph
 use Rattle.chart.specs.Reading.{reading, refused}
 use Rattle.chart.specs.Examples.{wholeChart, groupChart, conflictChart}
 use Rattle.chart.specs.Examples as chart
-use Rattle.chart.specs.declared.Reading.{Reading}
 use Rattle.book.specs.Image.{rulesIn}
 use Rattle.book.specs.declared.Snapshot.{Snapshot}
 use Rattle.deriver.specs.Derived.{derivedBook}

@@ -17,7 +17,7 @@ use Rattle.sets.specs.Cases.{cases, coincide}
 use Rattle.orders.specs.Order.{Fit}
 use Rattle.orders.specs.Running.{runningOrder}
 use Rattle.orders.specs.Settle.{Calm, Settled, run, step, changes, run-settled, settled-unique, confluence, toggle-once}
-use Rattle.orders.specs.Snapshots.{at, at-same, length-runL, at-runL}
+use Rattle.orders.specs.Snapshots.{at-same, length-runL, at-runL}
 use Rattle.book.specs.Text.{Snap, snapOf}
 use Rattle.book.specs.Book.{Book, ruleOf}
 use Rattle.book.specs.Image.{stagesIn, rulesIn, bookOf}
@@ -92,7 +92,7 @@ module _ (s : List ℕ) (p : Passes s) (snapshot : Snapshot) (stage : ℕ) (o : 
 
     -- the snapshot after the call is the paper's run from the snapshot before it
     completed-run : snapOf (through s (snapshot .marks) stage (snapshot .marks) order) ≡ run (rulesOf s) (actsOf (bookOf s) (snapOf (snapshot .marks)) stage) (snapOf (snapshot .marks)) order
-    unfolding through at
+    unfolding through
     completed-run =
         at-runL (rulesOf s) (actsOf (bookOf s) (snapOf (snapshot .marks)) stage) order (snapshot .marks)
         (λ q i. rw (o .whole) (targets-small s (p .formed) q (f .below q i)))
@@ -117,7 +117,6 @@ module _ (s : List ℕ) (p : Passes s) (snapshot : Snapshot) (stage : ℕ) (o : 
 
   -- every order that respects the book's dependencies leaves the same snapshot
   pub orders-end-alike : (k l : List ℕ) → Fit (rulesOf s) k → Fit (rulesOf s) l → completing s k snapshot stage ≡ completing s l snapshot stage
-  unfolding at
   orders-end-alike k l x y =
       let A = actsOf (bookOf s) (snapOf (snapshot .marks)) stage in
       let z : through s (snapshot .marks) stage (snapshot .marks) k ≡ through s (snapshot .marks) stage (snapshot .marks) l =

@@ -6,7 +6,7 @@ use Prim.Native.Nat.{ℕ, _+_, _≤_, _<_}
 use native.Mathlib.Omega.{arith}
 use lib.ListN.{length, getD, drop}
 use Rattle.paper.specs.Limits.{maxMarks}
-use Rattle.orders.specs.Snapshots.{at, stepL, runL-on, runL-end}
+use Rattle.orders.specs.Snapshots.{stepL, runL-on, runL-end}
 use Rattle.book.specs.Text.{snapOf}
 use Rattle.book.specs.Book.{ruleOf, textOf}
 use Rattle.book.specs.Image.{stagesIn, marksIn, rulesIn, conditionsIn, rulePlace, ruleFrom, bookOf}
@@ -23,12 +23,12 @@ use Rattle.runner.specs.Completing.{through}
 -- one turn: the rule r in the marks as they stand
 pub turn-fired : (s : List ℕ) (start : List Bool) (stage : ℕ) (marks : List Bool) (r : ℕ) → fires (bookOf s) (snapOf start) stage (snapOf marks) r ≡ true
     → stepL (rulesOf s) (actsOf (bookOf s) (snapOf start) stage) marks r ≡ effectOn marks (ruleOf (bookOf s) r)
-unfolding stepL netOf actsOf at
+unfolding stepL netOf actsOf
 turn-fired s start stage marks r e = rw e
 
 pub turn-kept : (s : List ℕ) (start : List Bool) (stage : ℕ) (marks : List Bool) (r : ℕ) → fires (bookOf s) (snapOf start) stage (snapOf marks) r ≡ false
     → stepL (rulesOf s) (actsOf (bookOf s) (snapOf start) stage) marks r ≡ marks
-unfolding stepL netOf actsOf at
+unfolding stepL netOf actsOf
 turn-kept s start stage marks r e = rw e
 
 -- j rules had their turn: what the rest gives from these marks is what the whole gives from the start

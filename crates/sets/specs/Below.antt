@@ -131,6 +131,11 @@ unfolding tally
 tally-same zero f g h = refl
 tally-same (suc k) f g h = rw (h k (omega arith), tally-same k f g (λ p l. h p (omega arith)))
 
+pub tally-le : (k : ℕ) (f : ℕ → Bool) → tally k f ≤ k
+unfolding tally
+tally-le zero f = omega arith
+tally-le (suc k) f = cases (f k) (λ e. rw e (omega (arith, tally-le k f))) (λ e. rw e (omega (arith, tally-le k f)))
+
 pub tally-all : (k : ℕ) (f : ℕ → Bool) → ((p : ℕ) → p < k → f p ≡ true) → tally k f ≡ k
 unfolding tally
 tally-all zero f h = refl

@@ -1,7 +1,7 @@
 -- `chart::read_nodes` meets its contract. Assumes nothing.
 use Rattle.chart.specs.Returns.{nodes-bad, nodes-loop, nodes-flags, nodes-many, nodes-on, ground-is}
 use native.Mathlib.Omega.{arith}
-use Rattle.chart.specs.Numbering.{tally-le}
+use Rattle.sets.specs.Below.{tally-le}
 use Rattle.chart.specs.Tables.{isEventIn}
 use borrow.Author.Needs.{needs}
 use Rattle.chart.proofs.read_nodes.Statement.{statement}
@@ -27,7 +27,7 @@ read-nodes-spec =
     (λ c κs. search needs)
     (λ c. nodes-flags (c .before .before .before .before .before .before .before .before .before .before .before .before .pre) (c .before .before .before .before .before .before .before .before .before .before .first-bad-node .ensures) (c .before .before .before .before .before .before .before .before .before .if1 .left) (c .before .before .before .before .before .before .before .before .nesting-of .ensures) (c .before .before .before .before .before .before .lowest-on-diagonal .ensures) (c .before .before .before .before .before .if2 .left) (c .before .before .before .before .groups-of .ensures) (c .before .before .first-flagged-group .ensures) (c .refuse3 .ensures) (c .before .if3 .taken))
     (λ c κs. search needs)
-    (λ c. record { fits = omega (arith, tally-le (isEventIn (c .before .before .before .before .before .before .groups-of .result)) (c .before .before .before .before .before .before .before .before .before .before .before .before .before .before .args .n)) })
+    (λ c. record { fits = omega (arith, tally-le (c .before .before .before .before .before .before .before .before .before .before .before .before .before .before .args .n) (isEventIn (c .before .before .before .before .before .before .groups-of .result))) })
     (λ c κs. search needs)
     (λ c. nodes-many (c .before .before .before .before .before .before .before .before .before .before .before .before .before .before .before .pre) (c .before .before .before .before .before .before .before .before .before .before .before .before .before .first-bad-node .ensures) (c .before .before .before .before .before .before .before .before .before .before .before .before .if1 .left) (c .before .before .before .before .before .before .before .before .before .before .before .nesting-of .ensures) (c .before .before .before .before .before .before .before .before .before .lowest-on-diagonal .ensures) (c .before .before .before .before .before .before .before .before .if2 .left) (c .before .before .before .before .before .before .before .groups-of .ensures) (c .before .before .before .before .before .first-flagged-group .ensures) (c .before .before .before .before .if3 .left) (c .before .before .count-events .ensures) (c .refuse4 .ensures) (c .before .if4 .taken))
     (λ c κs. ground-is (c .before .before .before .before .before .before .before .before .before .before .before .before .before .before .before .before .pre) (c .before .before .before .before .before .before .before .before .before .before .before .before .before .before .first-bad-node .ensures) (c .before .before .before .before .before .before .before .before .before .before .before .before .before .if1 .left) (c .before .before .before .before .before .before .before .before .before .before .before .before .nesting-of .ensures) (c .before .before .before .before .before .before .before .before .before .before .lowest-on-diagonal .ensures) (c .before .before .before .before .before .before .before .before .before .if2 .left) (c .before .before .before .before .before .before .before .before .groups-of .ensures) (c .before .before .before .before .before .before .first-flagged-group .ensures) (c .before .before .before .before .before .if3 .left) (c .before .before .before .count-events .ensures) (c .before .before .if4 .left))

@@ -1,8 +1,8 @@
 -- `chart::nesting::count_events` meets its contract. Assumes nothing.
 use Prim.Native.Nat.{_≤_, _-_}
-use Rattle.chart.specs.Numbering.{tally-none, tally-more, tally-end, tally-le, byte-le}
+use Rattle.chart.specs.Numbering.{tally-none, tally-more, tally-end, byte-le}
 use Rattle.chart.specs.Tables.{isEventIn}
-use Rattle.sets.specs.Below.{tally}
+use Rattle.sets.specs.Below.{tally-le, tally}
 use denote.Ref.{now}
 use borrow.Author.Needs.{needs}
 use mathlib.Core.Path.{_≡_}
@@ -25,7 +25,7 @@ count-events-spec =
     (λ c. (search needs, tally-none _))
     (λ c. search needs)
     (λ c. search needs)
-    (λ c. record { fits = omega (arith, tally-le (isEventIn (now (c .before .before .before .args .groups))) (c .before .before .loop .i), byte-le (isEventIn (now (c .before .before .before .args .groups)) (c .before .before .loop .i))) })
+    (λ c. record { fits = omega (arith, tally-le (c .before .before .loop .i) (isEventIn (now (c .before .before .before .args .groups))), byte-le (isEventIn (now (c .before .before .before .args .groups)) (c .before .before .loop .i))) })
     (λ c. search needs)
     (λ c. search needs)
     (λ c. (search needs, tally-more _ _ _ (c .before .before .loop .inv .1)))

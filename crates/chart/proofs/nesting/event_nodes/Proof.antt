@@ -2,9 +2,9 @@
 use denote.Ref.{now}
 use native.Mathlib.Omega.{arith}
 use Prim.Native.Nat.{_≤_, _-_}
-use Rattle.chart.specs.Numbering.{tally-none, tally-more, tally-le, byte-le}
+use Rattle.chart.specs.Numbering.{tally-none, tally-more, byte-le}
 use Rattle.chart.specs.Tables.{isEventIn, EventNodes, numbered-none, numbered-more, number-fits, numbered-end}
-use Rattle.sets.specs.Below.{tally}
+use Rattle.sets.specs.Below.{tally-le, tally}
 use borrow.Author.Needs.{needs}
 use mathlib.Core.Path.{_≡_}
 use Rattle.chart.proofs.nesting.event_nodes.Statement.{statement}
@@ -27,7 +27,7 @@ event-nodes-spec =
     (λ c κs. λ h. let q = c .before .before .before .loop .inv .1 in rw q (number-fits _ _ _ (c .before .before .loop-test .taken) h (c .before .before .before .before .pre .1)))
     (λ c. search needs)
     (λ c. search needs)
-    (λ c. record { fits = omega (arith, tally-le (isEventIn (now (c .before .before .before .before .before .before .args .groups))) (c .before .before .before .before .before .loop .i), byte-le (isEventIn (now (c .before .before .before .before .before .before .args .groups)) (c .before .before .before .before .before .loop .i))) })
+    (λ c. record { fits = omega (arith, tally-le (c .before .before .before .before .before .loop .i) (isEventIn (now (c .before .before .before .before .before .before .args .groups))), byte-le (isEventIn (now (c .before .before .before .before .before .before .args .groups)) (c .before .before .before .before .before .loop .i))) })
     (λ c. search needs)
     (λ c. search needs)
     (λ c. (search needs, tally-more _ _ _ (c .before .before .before .before .before .loop .inv .1), numbered-more (c .before .before .before .before .before .loop .inv .2) (c .before .before .before .before .before .loop .inv .1) (search needs) (c .before .before .before .before .before .before .pre .1) (c .before .put-node .ensures)))
