@@ -1,0 +1,26 @@
+-- `vectors::adler::of_bytes` meets its contract. Assumes nothing.
+use Prim.Native.Nat.{_≤_, _<_, _-_}
+use borrow.Author.Needs.{needs}
+use Rattle.vectors.proofs.adler.of_bytes.Statement.{statement}
+use Rattle.vectors.proofs.adler.of_bytes.Tie as tie
+
+abbrev Inv-loop : tie.InvT-loop
+Inv-loop bytes n s₀ i₀ s i = (i ≤ n) × (s .low < 65521) × (s .high < 65521)
+
+abbrev μ-loop : tie.MeasureT-loop
+μ-loop bytes n s₀ i₀ s i = n - i
+
+pub of-bytes-spec : {M : Type 1} → statement M
+of-bytes-spec =
+    tie.close
+    (tie.spec
+    Inv-loop
+    μ-loop
+    (λ c. search needs)
+    (λ c. search needs)
+    (λ c κs. search needs)
+    (λ c. search needs)
+    (λ c. search needs)
+    (λ c. search needs)
+    (λ c κs. search needs)
+    (λ c. search needs))

@@ -1,0 +1,66 @@
+// The Adler-32 sum of a room's first bytes, or of its first 16-bit numbers as two bytes each.
+ghost use Prim.Native.Nat.{_≤_, _<_};
+use crate::rooms::MAX_BYTES;
+use crate::rooms::MAX_NUMBERS;
+
+const BASE: u32 = 65521;
+
+// The two sums; the bytes summed are those so far.
+struct Sums {
+    low: u32,
+    high: u32,
+}
+
+fn wide(b: u8) -> u32
+    ensures { λ r. ⌜ r < 256 ⌝ }
+{
+    b as u32
+}
+
+fn with_byte(s: Sums, b: u8) -> Sums
+    requires { ⌜ (s .low < 65521) × (s .high < 65521) ⌝ }
+    ensures { λ r. ⌜ (r .low < 65521) × (r .high < 65521) ⌝ }
+{
+    let low = (s.low + wide(b)) % BASE;
+    Sums {
+        low,
+        high: (s.high + low) % BASE,
+    }
+}
+
+fn with_number(s: Sums, n: u16) -> Sums
+    requires { ⌜ (s .low < 65521) × (s .high < 65521) ⌝ }
+    ensures { λ r. ⌜ (r .low < 65521) × (r .high < 65521) ⌝ }
+{
+    with_byte(with_byte(s, (n % 256) as u8), (n / 256) as u8)
+}
+
+fn value(s: Sums) -> u64
+    requires { ⌜ (s .low < 65521) × (s .high < 65521) ⌝ }
+{
+    (s.high * 65536 + s.low) as u64
+}
+
+pub fn of_bytes(bytes: &[u8; MAX_BYTES], n: usize) -> u64
+    requires { ⌜ n ≤ 200000 ⌝ }
+{
+    let mut s = Sums { low: 1, high: 0 };
+    let mut i = 0;
+    while i < n {
+        s = with_byte(s, bytes[i]);
+        i += 1;
+    }
+    value(s)
+}
+
+pub fn of_numbers(numbers: &[u16; MAX_NUMBERS], n: usize) -> u64
+    requires { ⌜ n ≤ 10000 ⌝ }
+{
+    let mut s = Sums { low: 1, high: 0 };
+    let mut i = 0;
+    while i < n {
+        s = with_number(s, numbers[i]);
+        i += 1;
+    }
+    value(s)
+}

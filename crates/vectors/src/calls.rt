@@ -1,0 +1,131 @@
+// One function for each operation: decodes a request's fields, makes the call, and puts its line together.
+use crate::adler;
+use crate::fields;
+use crate::rooms;
+use crate::show;
+use fields::FLAT;
+use fields::MARKING;
+use fields::SNAPSHOT;
+use rooms::FILL;
+use rooms::FILL_NUMBER;
+use rooms::MAX_BYTES;
+use rooms::MAX_NUMBERS;
+use show::LINE;
+
+// Where the fields of a request start: after the operation.
+const FIELDS: usize = 1;
+
+// Where the order starts in a request to complete: after the stage, the snapshot and the order's length.
+const ORDER: usize = FIELDS + 4 + SNAPSHOT + 4;
+
+// The image is all that follows the operation.
+pub fn read(body: &[u8], line: &mut [u8; LINE]) -> usize {
+    if body.len() < FIELDS {
+        return show::bad_request(line);
+    }
+    let reading = chart::read(&body[FIELDS..]);
+    let at = show::answer(line, b"read", reading.answer);
+    let at = show::number(line, at, reading.chart.count as u64);
+    let at = show::marking(line, at, reading.marking);
+    show::chart(line, at, reading.chart)
+}
+
+pub fn execute(body: &[u8], line: &mut [u8; LINE]) -> usize {
+    if body.len() < FIELDS + FLAT + MARKING + 4 {
+        return show::bad_request(line);
+    }
+    let chart = fields::chart_at(body, FIELDS);
+    let marking = fields::marking_at(body, FIELDS + FLAT);
+    let event = wire::u32_at(body, FIELDS + FLAT + MARKING);
+    let step = marking.execute(chart, event);
+    let at = show::answer(line, b"execute", step.answer);
+    show::marking(line, at, step.marking)
+}
+
+pub fn count_open(body: &[u8], line: &mut [u8; LINE]) -> usize {
+    if body.len() < FIELDS + FLAT + MARKING {
+        return show::bad_request(line);
+    }
+    let chart = fields::chart_at(body, FIELDS);
+    let marking = fields::marking_at(body, FIELDS + FLAT);
+    let open = marking.count_open(chart);
+    let at = show::answer(line, b"count", open.answer);
+    let at = show::number(line, at, open.count as u64);
+    show::number(line, at, open.lowest as u64)
+}
+
+pub fn finished(body: &[u8], line: &mut [u8; LINE]) -> usize {
+    if body.len() < FIELDS + FLAT + MARKING {
+        return show::bad_request(line);
+    }
+    let chart = fields::chart_at(body, FIELDS);
+    let marking = fields::marking_at(body, FIELDS + FLAT);
+    let finished = marking.finished(chart);
+    let at = show::answer(line, b"finished", finished.answer);
+    if finished.yes {
+        return show::text(line, at, b" yes");
+    }
+    show::text(line, at, b" no")
+}
+
+pub fn matching(body: &[u8], line: &mut [u8; LINE]) -> usize {
+    if body.len() < FIELDS + FLAT + MARKING {
+        return show::bad_request(line);
+    }
+    let chart = fields::chart_at(body, FIELDS);
+    let marking = fields::marking_at(body, FIELDS + FLAT);
+    let matched = deriver::matching(chart, marking);
+    let at = show::answer(line, b"matching", matched.answer);
+    show::snapshot(line, at, matched.snapshot)
+}
+
+pub fn derive(body: &[u8], line: &mut [u8; LINE]) -> usize {
+    if body.len() < FIELDS + 4 + FLAT {
+        return show::bad_request(line);
+    }
+    let n = wire::u32_at(body, FIELDS) as usize;
+    if MAX_BYTES < n {
+        return show::bad_request(line);
+    }
+    let chart = fields::chart_at(body, FIELDS + 4);
+    let mut room = [FILL; MAX_BYTES];
+    let answer = rooms::derive(chart, &mut room, n);
+    let at = show::answer(line, b"derive", answer);
+    show::number(line, at, adler::of_bytes(&room, n))
+}
+
+// The book is all that follows the room's size.
+pub fn check(body: &[u8], line: &mut [u8; LINE]) -> usize {
+    if body.len() < FIELDS + 4 {
+        return show::bad_request(line);
+    }
+    let n = wire::u32_at(body, FIELDS) as usize;
+    if MAX_NUMBERS < n {
+        return show::bad_request(line);
+    }
+    let mut room = [FILL_NUMBER; MAX_NUMBERS];
+    let answer = rooms::check(&body[FIELDS + 4..], &mut room, n);
+    let at = show::answer(line, b"check", answer);
+    show::number(line, at, adler::of_numbers(&room, n))
+}
+
+// The book is all that follows the order.
+pub fn complete(body: &[u8], line: &mut [u8; LINE]) -> usize {
+    if body.len() < ORDER {
+        return show::bad_request(line);
+    }
+    let n = wire::u32_at(body, ORDER - 4) as usize;
+    if MAX_NUMBERS < n {
+        return show::bad_request(line);
+    }
+    let end = ORDER + 2 * n;
+    if body.len() < end {
+        return show::bad_request(line);
+    }
+    let stage = wire::u32_at(body, FIELDS);
+    let snapshot = fields::snapshot_at(body, FIELDS + 4);
+    let order = fields::order_at(body, ORDER, n);
+    let completion = rooms::complete(&body[end..], &order, n, snapshot, stage);
+    let at = show::answer(line, b"complete", completion.answer);
+    show::snapshot(line, at, completion.snapshot)
+}

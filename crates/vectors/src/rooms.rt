@@ -1,0 +1,62 @@
+// Rooms that the calls write into: the first part of a larger array, so long as a request says.
+ghost use Prim.Native.Nat.{_≤_};
+ghost use lib.ListN.{length};
+use book::Snapshot;
+use graph::FlatChart;
+use paper::Answer;
+use runner::Completion;
+
+// The longest room for a book, in bytes, and for an order, in numbers.
+pub const MAX_BYTES: usize = 200000;
+
+pub const MAX_NUMBERS: usize = 10000;
+
+// What room is filled with before a call: the byte 165, and two of them.
+pub const FILL: u8 = 165;
+
+pub const FILL_NUMBER: u16 = 42405;
+
+fn derive_part(chart: FlatChart, room: &mut [u8], n: usize) -> Answer
+    requires { ⌜ n ≤ length (now room) ⌝ }
+{
+    deriver::derive(chart, &mut room[..n])
+}
+
+// Derives into the first n bytes.
+pub fn derive(chart: FlatChart, room: &mut [u8; MAX_BYTES], n: usize) -> Answer
+    requires { ⌜ n ≤ 200000 ⌝ }
+{
+    derive_part(chart, room, n)
+}
+
+fn check_part(book: &[u8], room: &mut [u16], n: usize) -> Answer
+    requires { ⌜ n ≤ length (now room) ⌝ }
+{
+    judge::check(book, &mut room[..n])
+}
+
+// Checks into the first n numbers.
+pub fn check(book: &[u8], room: &mut [u16; MAX_NUMBERS], n: usize) -> Answer
+    requires { ⌜ n ≤ 10000 ⌝ }
+{
+    check_part(book, room, n)
+}
+
+fn complete_part(book: &[u8], order: &[u16], n: usize, snapshot: Snapshot, stage: u32) -> Completion
+    requires { ⌜ n ≤ length (now order) ⌝ }
+{
+    runner::complete(book, &order[..n], snapshot, stage)
+}
+
+// Completes a stage along the first n numbers.
+pub fn complete(
+    book: &[u8],
+    order: &[u16; MAX_NUMBERS],
+    n: usize,
+    snapshot: Snapshot,
+    stage: u32,
+) -> Completion
+    requires { ⌜ n ≤ 10000 ⌝ }
+{
+    complete_part(book, order, n, snapshot, stage)
+}

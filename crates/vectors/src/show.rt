@@ -1,0 +1,115 @@
+// Printing: a line is put together in a buffer, number by number, and written at its end.
+ghost use Prim.Native.Nat.{_+_, _≤_};
+ghost use lib.ListN.{length};
+use book::Snapshot;
+use graph::FlatChart;
+use graph::Marking;
+use libc::STDOUT_FILENO;
+use paper::Answer;
+use paper::MAX_EVENTS;
+use paper::MAX_MARKS;
+
+// Room for the longest line, a chart of 64 events; a longer one would be written in parts.
+pub const LINE: usize = 8192;
+
+fn put(line: &mut [u8; LINE], at: usize, b: u8) -> usize
+    ensures { λ r. ⌜ r ≤ 8192 ⌝ }
+{
+    if at < LINE {
+        line[at] = b;
+        return at + 1;
+    }
+    io::write_all(STDOUT_FILENO, line);
+    line[0] = b;
+    1
+}
+
+pub fn text(line: &mut [u8; LINE], start: usize, words: &[u8]) -> usize {
+    let mut at = start;
+    let mut i = 0;
+    while i < words.len() {
+        at = put(line, at, words[i]);
+        i += 1;
+    }
+    at
+}
+
+pub fn number(line: &mut [u8; LINE], at: usize, n: u64) -> usize {
+    let mut digits = [0u8; 20];
+    let k = io::decimal(n, &mut digits);
+    let next = put(line, at, b' ');
+    text(line, next, &digits[..k])
+}
+
+// A call's name and its answer: how each line begins.
+pub fn answer(line: &mut [u8; LINE], name: &[u8], a: Answer) -> usize {
+    let at = text(line, 0, name);
+    let at = number(line, at, a.code as u64);
+    let at = number(line, at, a.place as u64);
+    number(line, at, a.other as u64)
+}
+
+pub fn marking(line: &mut [u8; LINE], at: usize, m: Marking) -> usize {
+    let at = number(line, at, m.executed);
+    let at = number(line, at, m.pending);
+    number(line, at, m.included)
+}
+
+// The five sets of each event.
+pub fn chart(line: &mut [u8; LINE], start: usize, c: FlatChart) -> usize {
+    let n = c.count as usize;
+    let mut at = start;
+    let mut e = 0;
+    while e < MAX_EVENTS && e < n {
+        at = number(line, at, c.conditions[e]);
+        at = number(line, at, c.responses[e]);
+        at = number(line, at, c.milestones[e]);
+        at = number(line, at, c.includes[e]);
+        at = number(line, at, c.excludes[e]);
+        e += 1;
+    }
+    at
+}
+
+// 64 marks as a number.
+fn word(marks: &[bool; MAX_MARKS], from: usize) -> u64
+    requires { ⌜ from + 64 ≤ 256 ⌝ }
+{
+    let mut set: u64 = 0;
+    let mut i = 0;
+    while i < 64 {
+        set = sets::put_if(set, i, marks[from + i]);
+        i += 1;
+    }
+    set
+}
+
+pub fn snapshot(line: &mut [u8; LINE], at: usize, s: Snapshot) -> usize {
+    let at = number(line, at, word(&s.marks, 0));
+    let at = number(line, at, word(&s.marks, 64));
+    let at = number(line, at, word(&s.marks, 128));
+    number(line, at, word(&s.marks, 192))
+}
+
+pub fn bad_request(line: &mut [u8; LINE]) -> usize {
+    text(line, 0, b"bad request")
+}
+
+fn write_first(line: &[u8], n: usize) -> bool
+    requires { ⌜ n ≤ length (now line) ⌝ }
+{
+    io::write_all(STDOUT_FILENO, &line[..n])
+}
+
+// Writes the line out; answers whether that went well.
+pub fn end_line(line: &mut [u8; LINE], at: usize) -> bool {
+    let end = put(line, at, b'\n');
+    write_first(line, end)
+}
+
+// The line of a request that cannot be told from what follows it.
+pub fn last_line(line: &mut [u8; LINE]) -> bool {
+    let at = bad_request(line);
+    end_line(line, at);
+    false
+}
