@@ -5,6 +5,7 @@ pub mod Image
 pub mod Nesting
 pub mod Tables
 pub mod Flattening
+pub mod Climbing
 pub mod Cells
 pub mod Meaning
 pub mod Reading

@@ -4,8 +4,10 @@ ghost use mathlib.Core.Bool.{true, false, not, cond};
 ghost use Prim.Native.Nat.{_+_, _*_, _≤_, _<_};
 ghost use lib.ListN.{length, set};
 ghost use Rattle.paper.specs.Limits.{maxNodes, maxEvents, nodeSize};
-ghost use Rattle.sets.specs.Below.{first, tally};
+ghost use Rattle.sets.specs.Below.{some, first, tally};
 ghost use Rattle.chart.specs.Image.{nodes, nodeAt, Whole};
+ghost use Rattle.chart.specs.Nesting.{onLoopAt};
+ghost use Rattle.chart.specs.Climbing.{Climbed, Stamps};
 ghost use Rattle.chart.specs.Tables.{markAt, Groups, EventNodes, isEventIn, flaggedIn, linkAt, Parents, Nestings};
 use crate::image;
 use paper::MAX_EVENTS;
@@ -122,4 +124,47 @@ pub fn nesting_of(image: &[u8], n: usize, k: usize) -> [u64; ROWS]
     let mut rows = parents_of(image, n, k);
     reach::close(&mut rows, n, WIDTH);
     rows
+}
+
+// Stamps the nodes from a upwards that have no stamp yet; whether that ends above a root or at an older stamp, and not at its own.
+fn climb(image: &[u8], n: usize, k: usize, stamps: &mut [u16; MAX_NODES], a: usize) -> bool
+    requires { ⌜ Whole (now image) n k × (a < n) × Stamps (now image) n a (now stamps) ⌝ }
+    ensures { λ r. ⌜ Climbed (now (image .entry)) n a (now (stamps .exit)) r ⌝ }
+{
+    let stamp = a as u16 + 1;
+    let mut c = a;
+    while c < n {
+        if stamps[c] != 0 {
+            return stamps[c] != stamp;
+        }
+        stamps[c] = stamp;
+        c = image::parent_of(image, c) as usize;
+    }
+    true
+}
+
+// Whether no parents loop, by one walk over the nodes: each is stamped once.
+fn all_free(image: &[u8], n: usize, k: usize) -> bool
+    requires { ⌜ Whole (now image) n k ⌝ }
+    ensures { λ r. ⌜ r ≡ not (some n (onLoopAt (now (image .entry)))) ⌝ }
+{
+    let mut stamps = [0u16; MAX_NODES];
+    for start in 0..n {
+        if !climb(image, n, k, &mut stamps, start) {
+            return false;
+        }
+    }
+    true
+}
+
+// The lowest node on a loop of parents, or n. The closure over all pairs of nodes is made only for a chart that is refused.
+pub fn lowest_on_loop(image: &[u8], n: usize, k: usize) -> usize
+    requires { ⌜ Whole (now image) n k ⌝ }
+    ensures { λ r. ⌜ r ≡ first n (onLoopAt (now (image .entry))) ⌝ }
+{
+    if all_free(image, n, k) {
+        return n;
+    }
+    let rows = nesting_of(image, n, k);
+    reach::lowest_on_diagonal(&rows, n, WIDTH)
 }
