@@ -1,243 +1,315 @@
--- The five tables in one run of cells, the cell of a kind and an event at kind * 64 + event: what each step of flattening makes of them. Assumes nothing.
-use Prim.Native.Nat.{ℕ, zero, suc, _+_, _*_, _^_, _≤_, _<_}
+-- Sets side by side, five to a row: at a node what the relations gather there, at an event its set of each kind. What each step of flattening makes of them.
+-- Assumes nothing.
+use Prim.Native.Nat.{ℕ, zero, suc, _+_, _*_, _≤_, _<_}
 use mathlib.Core.Path.{_≡_, refl, sym, ap, _∙_}
-use mathlib.Core.Bool.{Bool, true, false, not, cond, _&&_, _||_, and-true, and-false, and-comm, or-false}
+use mathlib.Core.Bool.{Bool, true, false, not, cond, _&&_, _||_, and-true, and-false, or-false, or-assoc}
 use mathlib.Core.List.{List}
 use native.Mathlib.Numerals.{add-one}
 use native.Mathlib.Omega.{arith}
 use lib.ListN.{length, getD, set, replicate, length-set, length-replicate}
 use lib.Seq.{getD-set-same, getD-set-other, ext-getD}
-use lib.Dec.{eqb, leb}
-use borrow.Author.Tests.{eq-eqb, ne-eqb, eqb-true, leb-false}
+use lib.Dec.{eqb, leb, ltb}
+use borrow.Author.Tests.{eq-eqb, ne-eqb, eqb-true, eqb-false, leb-false, lt-ltb, le-ltb}
 use Rattle.paper.specs.Limits.{maxNodes, maxEvents, kinds}
-use Rattle.sets.specs.Cases.{contra, cases, both, neither, lt-suc}
-use Rattle.sets.specs.Set.{has, union, inter, minus, only, lowest, putIf, collect}
-use Rattle.sets.specs.Laws.{has-union, has-minus, has-only, has-empty, lowest-lt, lowest-has, minus-le}
-use Rattle.sets.specs.Below.{some, some-step, first}
+use Rattle.sets.specs.Cases.{contra, cases, both, either, neither, or-left, or-right, same-test, lt-suc}
+use Rattle.sets.specs.Set.{has, union, inter, only, putIf, collect}
+use Rattle.sets.specs.Laws.{has-union, has-only, has-empty}
+use Rattle.sets.specs.Below.{some, some-of, some-at, some-none, some-step, first}
 use Rattle.sets.specs.Tables.{tabulate, length-tabulate, getD-tabulate}
-use Rattle.reach.specs.Bits.{apart}
-use Rattle.chart.specs.Scan.{Passed, passed-more, passed-found, at-end, collect-more}
-use Rattle.chart.specs.Image.{fromOf, toOf, kindOf, flagsOf, nodes, badRelationAt, Whole}
+use Rattle.reach.specs.Rows.{takeRow}
+use Rattle.reach.specs.Bits.{apart, take-word, take-kept, length-takeRow}
+use Rattle.chart.specs.Scan.{Passed, passed-none, passed-more, passed-found, passed-end, at-end, ltb-more, collect-more}
+use Rattle.chart.specs.Image.{parentOf, fromOf, toOf, kindOf, flagsOf, nodes, badRelationAt, Whole}
 use Rattle.graph.specs.Chart.{condition, response, milestone, include, exclude}
 use Rattle.graph.specs.declared.FlatChart.{FlatChart}
 use Rattle.graph.specs.declared.Marking.{Marking}
+use Rattle.chart.specs.Climbing.{fromUp, from-none, from-step}
 use Rattle.chart.specs.Flattening.{kindNumber, holdsBack}
-use Rattle.chart.specs.Tables.{rowWidth, atOrAboveIn}
 
+-- the set for the kind κ in row i
 abbrev pub cell : List ℕ → ℕ → ℕ → ℕ
-cell tables κ e = getD tables (κ * maxEvents + e) 0
+cell tables κ i = getD tables (i * kinds + κ) 0
 
--- how many cells
-abbrev pub cells : ℕ
-cells = kinds * maxEvents
-
--- f is in the set of event e for the kind κ
+-- f is in it
 abbrev pub holds : List ℕ → ℕ → ℕ → ℕ → Bool
-holds tables κ e f = has (cell tables κ e) f
-
--- the set of each event of from has taken in to, and nothing else has changed
-pub record Spread (old : List ℕ) (kind from to : ℕ) (new : List ℕ) : Type 0 where
-  pub size : length new ≡ cells
-  pub each : (κ e f : ℕ) → e < maxEvents → holds new κ e f ≡ (holds old κ e f || (eqb kind κ && (has from e && has to f)))
-
--- on the way: left is what is still to come
-pub record Spreading (old : List ℕ) (kind from to left : ℕ) (new : List ℕ) : Type 0 where
-  pub size : length new ≡ cells
-  pub wide : left < 2 ^ maxEvents
-  pub rest : (e : ℕ) → has left e ≡ true → has from e ≡ true
-  pub each : (κ e f : ℕ) → e < maxEvents → holds new κ e f ≡ (holds old κ e f || (eqb kind κ && ((has from e && not (has left e)) && has to f)))
-
-none-yet : (a b : Bool) → (a && not a) ≡ b → b ≡ false
-none-yet true b e = sym e
-none-yet false b e = sym e
-
-pub spread-none : (old : List ℕ) (kind from to : ℕ) → length old ≡ cells → from < 2 ^ maxEvents → Spreading old kind from to from old
-spread-none old kind from to h l =
-    record {
-      size = h;
-      wide = l;
-      rest = λ e t. t;
-      each = λ κ e f i. sym (rw (none-yet (has from e) _ refl, and-false (eqb kind κ)) (or-false (holds old κ e f)));
-    }
-
-pub spread-end : {old new : List ℕ} {kind from to left : ℕ} → Spreading old kind from to left new → left ≡ 0 → Spread old kind from to new
-spread-end {old} {new} {kind} {from} {to} {left} m z =
-    record { size = m .size; each = λ κ e f i. m .each κ e f i ∙ rw (z, has-empty e, and-true (has from e)) }
-
-module _ {old new : List ℕ} {kind from to left : ℕ} (m : Spreading old kind from to left new) (n : left ≡ 0 → ⊥) where
-  -- the least of what is left
-  pub least-fits : lowest maxEvents left < maxEvents
-  least-fits = let w = m .wide in lowest-lt maxEvents left (omega arith) w
-
-  pub least-in : {e : ℕ} → e ≡ lowest maxEvents left → e < maxEvents
-  least-in p = rw p least-fits
-
-  pub left-falls : minus left (only (lowest maxEvents left)) < left
-  left-falls =
-      let h = lowest-has maxEvents left least-fits in
-      let l = minus-le left (only (lowest maxEvents left)) in
-      let d : minus left (only (lowest maxEvents left)) ≡ left → ⊥ =
-      λ z. contra h (ap (λ (x : ℕ). has x (lowest maxEvents left)) (sym z) ∙ has-minus left (only (lowest maxEvents left)) (lowest maxEvents left) ∙ rw (has-only (lowest maxEvents left) (lowest maxEvents left), eq-eqb (lowest maxEvents left) (lowest maxEvents left) refl, and-false (has left (lowest maxEvents left)))) in
-      omega arith
-
-  pub left-less : {e one rest : ℕ} → e ≡ lowest maxEvents left → one ≡ only e → rest ≡ minus left one → rest < left
-  left-less p o s = rw (s, o, p) left-falls
-
-  pub spread-more : {next : List ℕ} {e one rest : ℕ} → kind < kinds → e ≡ lowest maxEvents left → next ≡ set new (kind * maxEvents + e) (union (cell new kind e) to) → one ≡ only e → rest ≡ minus left one → Spreading old kind from to rest next
-  spread-more {next} {e} {one} {rest} k p r o s = rw (r, s, o) (record {
-    size = length-set new (kind * maxEvents + e) (union (cell new kind e) to) ∙ m .size;
-    wide = let l = minus-le left (only e) in let w = m .wide in omega arith;
-    rest = λ x t. m .rest x (both (has left x) (not (has (only e) x)) (sym (has-minus left (only e) x) ∙ t) .0);
-    each = λ κ x f i. cases (eqb kind κ && eqb e x) (λ t. here κ x f i t) (λ t. there κ x f i t);
-  })
-    where
-      fits : e < maxEvents
-      fits = rw p least-fits
-
-      member : has left e ≡ true
-      member = rw p (lowest-has maxEvents left least-fits)
-
-      here : (κ x f : ℕ) → x < maxEvents → (eqb kind κ && eqb e x) ≡ true
-          → holds (set new (kind * maxEvents + e) (union (cell new kind e) to)) κ x f ≡ (holds old κ x f || (eqb kind κ && ((has from x && not (has (minus left (only e)) x)) && has to f)))
-      here κ x f i t =
-          let u = both (eqb kind κ) (eqb e x) t in
-          let a : kind ≡ κ = eqb-true kind κ (u .0) in
-          let b : e ≡ x = eqb-true e x (u .1) in
-          let s = m .size in
-          rw (
-            ← a,
-            ← b,
-            eq-eqb kind kind refl,
-            getD-set-same new (kind * maxEvents + e) (union (cell new kind e) to) 0 (omega arith),
-            has-union (cell new kind e) to f,
-            m .each kind e f fits,
-            eq-eqb kind kind refl,
-            member,
-            has-minus left (only e) e,
-            member,
-            has-only e e,
-            eq-eqb e e refl,
-            m .rest e member,
-          )
-          (ap (λ (y : Bool). y || has to f) (or-false (holds old kind e f)))
-
-      there : (κ x f : ℕ) → x < maxEvents → (eqb kind κ && eqb e x) ≡ false
-          → holds (set new (kind * maxEvents + e) (union (cell new kind e) to)) κ x f ≡ (holds old κ x f || (eqb kind κ && ((has from x && not (has (minus left (only e)) x)) && has to f)))
-      there κ x f i t =
-          rw (getD-set-other new (kind * maxEvents + e) (κ * maxEvents + x) (union (cell new kind e) to) 0
-          (λ z. let u = apart maxEvents κ x kind e i fits z in contra (rw (eq-eqb kind κ (sym (u .0)), eq-eqb e x (sym (u .1)))) t))
-          (m .each κ x f i ∙ cases (eqb kind κ) (λ a. let b : eqb e x ≡ false = rw a at t in rw (has-minus left (only e) x, has-only e x, b, and-true (has left x))) (λ a. rw a))
-
--- ---- one relation
-
--- what a relation of a kind from one set of events to another enters in the set of e
-abbrev pub pairs : ℕ → ℕ → ℕ → ℕ → ℕ → Bool
-pairs kind from to e f = cond (holdsBack kind) (has from f && has to e) (has from e && has to f)
-
-pub record Added (old : List ℕ) (kind from to : ℕ) (new : List ℕ) : Type 0 where
-  pub size : length new ≡ cells
-  pub each : (κ e f : ℕ) → e < maxEvents → holds new κ e f ≡ (holds old κ e f || (eqb kind κ && pairs kind from to e f))
-
-pub added-back : {old new : List ℕ} {kind from to : ℕ} → Spread old kind to from new → holdsBack kind ≡ true → Added old kind from to new
-added-back {old} {new} {kind} {from} {to} m h =
-    record { size = m .size; each = λ κ e f i. m .each κ e f i ∙ rw h (ap (λ (b : Bool). holds old κ e f || (eqb kind κ && b)) (and-comm (has to e) (has from f))) }
-
-pub added-on : {old new : List ℕ} {kind from to : ℕ} → Spread old kind from to new → holdsBack kind ≡ false → Added old kind from to new
-added-on m h = record { size = m .size; each = λ κ e f i. m .each κ e f i ∙ rw h }
-
--- ---- the events at or below each node
-
--- rows and nodes that can be looked up
-pub record Placed (rows nodes : List ℕ) (events : ℕ) : Type 0 where
-  pub size : length rows ≡ maxNodes * rowWidth
-  pub few : events ≤ maxEvents
-  pub places : (e : ℕ) → e < events → getD nodes e 0 < maxNodes
-
-abbrev pub membersIn : List ℕ → List ℕ → ℕ → ℕ → ℕ
-membersIn rows nodes events g = collect events (λ e. atOrAboveIn rows (getD nodes e 0) g)
-
--- one more event
-pub member-more : (rows nodes : List ℕ) (g e s r : ℕ) (b : Bool) → s ≡ membersIn rows nodes e g → b ≡ atOrAboveIn rows (getD nodes e 0) g → r ≡ putIf s e b → r ≡ membersIn rows nodes (e + 1) g
-member-more rows nodes g e s r b h i j = collect-more (λ e. atOrAboveIn rows (getD nodes e 0) g) e s r b h i j
-
-pub record Members (rows nodes : List ℕ) (events n : ℕ) (all : List ℕ) : Type 0 where
-  pub size : length all ≡ maxNodes
-  pub each : (g : ℕ) → g < n → getD all g 0 ≡ membersIn rows nodes events g
-
-pub members-none : (rows nodes : List ℕ) (events : ℕ) → Members rows nodes events 0 (replicate maxNodes 0)
-members-none rows nodes events = record { size = length-replicate {A = ℕ} maxNodes 0; each = λ g h. absurd (omega arith) }
-
-pub members-more : {rows nodes all : List ℕ} {events n g s : ℕ} → Members rows nodes events g all → n ≤ maxNodes → g < n → s ≡ membersIn rows nodes events g
-    → Members rows nodes events (g + 1) (set all g s)
-members-more {rows} {nodes} {all} {events} {n} {g} {s} m l h e =
-    record {
-      size = length-set all g s ∙ m .size;
-      each = λ x i.
-          lt-suc (rw add-one at i) (λ z. rw z (getD-set-same all g s 0 (let b = m .size in omega arith) ∙ e))
-          (λ i. getD-set-other all g x s 0 (λ z. omega arith) ∙ m .each x i);
-    }
-
-pub members-end : {rows nodes all : List ℕ} {events n g : ℕ} → g ≤ n → n ≤ g → Members rows nodes events g all → Members rows nodes events n all
-members-end {rows} {nodes} {all} {events} = at-end (λ (g : ℕ). Members rows nodes events g all)
-
--- ---- every relation
-
--- an image whose header and relations are right
-pub record Sound (image : List ℕ) (n k : ℕ) : Type 0 where
-  pub whole : Whole image n k
-  pub good : (r : ℕ) → r < k → badRelationAt image r ≡ false
-
-pub record Good (image : List ℕ) (n r : ℕ) : Type 0 where
-  pub from : fromOf image r < n
-  pub to : toOf image r < n
-  pub kind : kindOf image r < kinds
-
-pub good-at : {image : List ℕ} {n k : ℕ} → Sound image n k → (r : ℕ) → r < k → Good image n r
-unfolding badRelationAt
-good-at {image} {n} {k} s r h =
-    let t = neither (leb (nodes image) (fromOf image r) || leb (nodes image) (toOf image r)) (leb kinds (kindOf image r)) (s .good r h) in
-    let u = neither (leb (nodes image) (fromOf image r)) (leb (nodes image) (toOf image r)) (t .0) in
-    let e = s .whole .nodes in
-    record { from = rw e (leb-false (nodes image) (fromOf image r) (u .0)); to = rw e (leb-false (nodes image) (toOf image r) (u .1)); kind = leb-false kinds (kindOf image r) (t .1) }
-
-module _ {image : List ℕ} {n k r x : ℕ} (s : Sound image n k) (h : r < k) where
-  pub sound-from : x ≡ fromOf image r → x < maxNodes
-  sound-from e = let g = good-at s r h in let f = g .from in let w = s .whole .few in omega arith
-
-  pub sound-to : x ≡ toOf image r → x < maxNodes
-  sound-to e = let g = good-at s r h in let f = g .to in let w = s .whole .few in omega arith
-
-  pub sound-kind : x ≡ kindOf image r → x < kinds
-  sound-kind e = let g = good-at s r h in let f = g .kind in omega arith
-
--- what relation r enters
-abbrev pub entersIn : List ℕ → List ℕ → ℕ → ℕ → ℕ → ℕ → Bool
-entersIn image members κ e f r = eqb (kindOf image r) κ && pairs (kindOf image r) (getD members (fromOf image r) 0) (getD members (toOf image r) 0) e f
-
-pub record Flat (image members : List ℕ) (k : ℕ) (tables : List ℕ) : Type 0 where
-  pub size : length tables ≡ cells
-  pub each : (κ e f : ℕ) → e < maxEvents → holds tables κ e f ≡ some k (entersIn image members κ e f)
+holds tables κ i f = has (cell tables κ i) f
 
 zeros-at : (n i : ℕ) → getD {A = ℕ} (replicate n 0) i 0 ≡ 0
 zeros-at zero i = refl
 zeros-at (suc n) zero = refl
 zeros-at (suc n) (suc i) = zeros-at n i
 
-pub flat-none : (image members : List ℕ) → Flat image members 0 (replicate cells 0)
-unfolding some
-flat-none image members = record { size = length-replicate {A = ℕ} cells 0; each = λ κ e f i. rw (zeros-at cells (κ * maxEvents + e)) (has-empty f) }
+-- ---- the events at or below each node
 
-pub flat-more : {image members tables next : List ℕ} {r kind from to : ℕ} → Flat image members r tables → kind ≡ kindOf image r
-    → from ≡ fromOf image r → to ≡ toOf image r → Added tables kind (getD members from 0) (getD members to 0) next → Flat image members (r + 1) next
-flat-more {image} {members} {tables} {next} {r} {kind} {from} {to} m p q s a =
+-- node i and the groups above it have taken in e
+pub record Entered (image : List ℕ) (e i : ℕ) (old new : List ℕ) : Type 0 where
+  pub size : length new ≡ maxNodes
+  pub each : (g f : ℕ) → has (getD new g 0) f ≡ (has (getD old g 0) f || (fromUp image i g && eqb e f))
+
+-- on the way: with what is still to come at c and above, it is the same
+pub record Entering (image : List ℕ) (e i c : ℕ) (old new : List ℕ) : Type 0 where
+  pub size : length new ≡ maxNodes
+  pub each : (g f : ℕ) → (has (getD new g 0) f || (fromUp image c g && eqb e f)) ≡ (has (getD old g 0) f || (fromUp image i g && eqb e f))
+
+pub enter-none : (image : List ℕ) (e i : ℕ) (old : List ℕ) → length old ≡ maxNodes → Entering image e i i old old
+enter-none image e i old h = record { size = h; each = λ g f. refl }
+
+pub enter-more : {image old new : List ℕ} {n k e i c p one set₁ : ℕ} → Whole image n k → Entering image e i c old new → c < n → one ≡ only e
+    → set₁ ≡ union (getD new c 0) one → p ≡ parentOf image c → Entering image e i p old (set new c set₁)
+enter-more {image} {old} {new} {n} {k} {e} {i} {c} {p} {one} {set₁} w m h o q s =
     record {
-      size = a .size;
-      each = λ κ e f i.
-          rw (some-step r (entersIn image members κ e f), ← m .each κ e f i, ← p, ← q, ← s) (a .each κ e f i);
+      size = length-set new c set₁ ∙ m .size;
+      each = λ g f. step g f ∙ m .each g f;
+    }
+  where
+    taken : (a u t : Bool) → ((a || t) || (u && t)) ≡ (a || t)
+    taken true u t = refl
+    taken false u true = refl
+    taken false u false = and-false u
+
+    step : (g f : ℕ) → (has (getD (set new c set₁) g 0) f || (fromUp image p g && eqb e f)) ≡ (has (getD new g 0) f || (fromUp image c g && eqb e f))
+    step g f =
+        let up : fromUp image c g ≡ (eqb c g || fromUp image p g) = from-step image c p g (let l = w .nodes in omega arith) s in
+        cases (eqb c g)
+        (λ t. rw (up, t, ← eqb-true c g t, getD-set-same new c set₁ 0 (let l = m .size in let f = w .few in omega arith), q, o, has-union (getD new c 0) (only e) f, has-only e f)
+        (taken (has (getD new c 0) f) (fromUp image p c) (eqb e f)))
+        (λ t. rw (getD-set-other new c g set₁ 0 (λ z. eqb-false c g t (sym z)), up, t))
+
+pub enter-end : {image old new : List ℕ} {n k e i c : ℕ} → Whole image n k → Entering image e i c old new → n ≤ c → Entered image e i old new
+enter-end {image} {old} {new} {n} {k} {e} {i} {c} w m h =
+    record {
+      size = m .size;
+      each = λ g f. sym (or-false (has (getD new g 0) f)) ∙ sym (rw (from-none image c g (let l = w .nodes in omega arith))) ∙ m .each g f;
     }
 
-pub flat-end : {image members tables : List ℕ} {k r : ℕ} → r ≤ k → k ≤ r → Flat image members r tables → Flat image members k tables
-flat-end {image} {members} {tables} = at-end (λ (r : ℕ). Flat image members r tables)
+pub record Members (image nodes : List ℕ) (events : ℕ) (all : List ℕ) : Type 0 where
+  pub size : length all ≡ maxNodes
+  pub each : (g f : ℕ) → has (getD all g 0) f ≡ (ltb f events && fromUp image (getD nodes f 0) g)
+
+pub members-none : (image nodes : List ℕ) → Members image nodes 0 (replicate maxNodes 0)
+members-none image nodes = record { size = length-replicate {A = ℕ} maxNodes 0; each = λ g f. rw (zeros-at maxNodes g, le-ltb f 0 (omega arith)) (has-empty f) }
+
+pub members-more : {image nodes all next : List ℕ} {e : ℕ} → Members image nodes e all → Entered image e (getD nodes e 0) all next → Members image nodes (e + 1) next
+members-more {image} {nodes} {all} {next} {e} m a =
+    record {
+      size = a .size;
+      each = λ g f.
+          a .each g f ∙ rw (m .each g f) (cases (eqb e f)
+          (λ t. rw (← eqb-true e f t, eq-eqb e e refl, le-ltb e e (omega arith), lt-ltb e (e + 1) (omega arith)) (and-true (fromUp image (getD nodes e 0) g)))
+          (λ t. rw (t, and-false (fromUp image (getD nodes e 0) g), ltb-more f e (λ z. eqb-false e f t (sym z))) (or-false (ltb f e && fromUp image (getD nodes f 0) g))));
+    }
+
+pub members-end : {image nodes all : List ℕ} {events e : ℕ} → e ≤ events → events ≤ e → Members image nodes e all → Members image nodes events all
+members-end {image} {nodes} {all} = at-end (λ (e : ℕ). Members image nodes e all)
+
+-- ---- every relation, at one of its nodes
+
+-- where it is gathered, and whose events are: a condition or a milestone at the node that it holds back
+abbrev pub near : ℕ → ℕ → ℕ → ℕ
+near kind from to = cond (holdsBack kind) to from
+
+abbrev pub far : ℕ → ℕ → ℕ → ℕ
+far kind from to = cond (holdsBack kind) from to
+
+unfoldable pub putIn : List ℕ → ℕ → ℕ → ℕ → List ℕ
+putIn tables κ g s = set tables (g * kinds + κ) (union (cell tables κ g) s)
+
+-- one relation more
+unfoldable pub addTo : List ℕ → List ℕ → ℕ → ℕ → ℕ → List ℕ
+addTo gathered members kind from to = putIn gathered kind (near kind from to) (getD members (far kind from to) 0)
+
+module _ (old members : List ℕ) (kind from to : ℕ) {new : List ℕ} where
+  pub added-back : new ≡ putIn old kind to (getD members from 0) → holdsBack kind ≡ true → new ≡ addTo old members kind from to
+  unfolding addTo
+  added-back e h = e ∙ rw h
+
+  pub added-on : new ≡ putIn old kind from (getD members to 0) → holdsBack kind ≡ false → new ≡ addTo old members kind from to
+  unfolding addTo
+  added-on e h = e ∙ rw h
+
+-- a relation whose record is right
+pub record Good (image : List ℕ) (n r : ℕ) : Type 0 where
+  pub from : fromOf image r < n
+  pub to : toOf image r < n
+  pub kind : kindOf image r < kinds
+
+pub good-of : {image : List ℕ} {n k r : ℕ} {bad : Bool} → Whole image n k → bad ≡ badRelationAt image r → bad ≡ false → Good image n r
+unfolding badRelationAt
+good-of {image} {n} {k} {r} w q b =
+    let t = neither (leb (nodes image) (fromOf image r) || leb (nodes image) (toOf image r)) (leb kinds (kindOf image r)) (sym q ∙ b) in
+    let u = neither (leb (nodes image) (fromOf image r)) (leb (nodes image) (toOf image r)) (t .0) in
+    let e = w .nodes in
+    record { from = rw e (leb-false (nodes image) (fromOf image r) (u .0)); to = rw e (leb-false (nodes image) (toOf image r) (u .1)); kind = leb-false kinds (kindOf image r) (t .1) }
+
+abbrev pub nearOf : List ℕ → ℕ → ℕ
+nearOf image r = near (kindOf image r) (fromOf image r) (toOf image r)
+
+abbrev pub farOf : List ℕ → ℕ → ℕ
+farOf image r = far (kindOf image r) (fromOf image r) (toOf image r)
+
+module _ {image : List ℕ} {n r : ℕ} (o : Good image n r) where
+  pub near-fits : nearOf image r < n
+  near-fits = cases (holdsBack (kindOf image r)) (λ t. rw t (o .to)) (λ t. rw t (o .from))
+
+  pub far-fits : farOf image r < n
+  far-fits = cases (holdsBack (kindOf image r)) (λ t. rw t (o .from)) (λ t. rw t (o .to))
+
+-- relation r gathers f at node g for the kind κ
+abbrev pub entersAt : List ℕ → List ℕ → ℕ → ℕ → ℕ → ℕ → Bool
+entersAt image members κ g f r = eqb (kindOf image r) κ && (eqb (nearOf image r) g && has (getD members (farOf image r) 0) f)
+
+-- what the first r relations gather
+pub record Gathered (image members : List ℕ) (r : ℕ) (gathered : List ℕ) : Type 0 where
+  pub size : length gathered ≡ maxNodes * kinds
+  pub each : (κ g f : ℕ) → κ < kinds → holds gathered κ g f ≡ some r (entersAt image members κ g f)
+
+pub gather-none : (image members : List ℕ) → Gathered image members 0 (replicate (maxNodes * kinds) 0)
+unfolding some
+gather-none image members = record { size = length-replicate {A = ℕ} (maxNodes * kinds) 0; each = λ κ g f l. rw (zeros-at (maxNodes * kinds) (g * kinds + κ)) (has-empty f) }
+
+pub gather-more : {image members old new : List ℕ} {n k r kind from to : ℕ} → Whole image n k → Good image n r → Gathered image members r old → kind ≡ kindOf image r
+    → from ≡ fromOf image r → to ≡ toOf image r → new ≡ addTo old members kind from to → Gathered image members (r + 1) new
+unfolding addTo putIn
+gather-more {image} {members} {old} {new} {n} {k} {r} w o m p q s e =
+    rw (e, p, q, s) (record {
+      size = length-set old (nearOf image r * kinds + kindOf image r) _ ∙ m .size;
+      each = λ κ g f l.
+          rw (some-step r (entersAt image members κ g f), ← m .each κ g f l) (cases (eqb (kindOf image r) κ && eqb (nearOf image r) g) (here κ g f) (there κ g f l));
+    })
+  where
+    new-set : ℕ
+    new-set = union (cell old (kindOf image r) (nearOf image r)) (getD members (farOf image r) 0)
+
+    here : (κ g f : ℕ) → (eqb (kindOf image r) κ && eqb (nearOf image r) g) ≡ true
+        → holds (set old (nearOf image r * kinds + kindOf image r) new-set) κ g f ≡ (holds old κ g f || entersAt image members κ g f r)
+    here κ g f t =
+        let u = both (eqb (kindOf image r) κ) (eqb (nearOf image r) g) t in
+        let a : kindOf image r ≡ κ = eqb-true (kindOf image r) κ (u .0) in
+        let b : nearOf image r ≡ g = eqb-true (nearOf image r) g (u .1) in
+        let fits = near-fits o in
+        let kind = o .kind in
+        let few = w .few in
+        let size = m .size in
+        rw (u .0, u .1, ← a, ← b, getD-set-same old (nearOf image r * kinds + kindOf image r) new-set 0 (omega arith))
+        (has-union (cell old (kindOf image r) (nearOf image r)) (getD members (farOf image r) 0) f)
+
+    there : (κ g f : ℕ) → κ < kinds → (eqb (kindOf image r) κ && eqb (nearOf image r) g) ≡ false
+        → holds (set old (nearOf image r * kinds + kindOf image r) new-set) κ g f ≡ (holds old κ g f || entersAt image members κ g f r)
+    there κ g f l t =
+        rw (getD-set-other old (nearOf image r * kinds + kindOf image r) (g * kinds + κ) new-set 0
+        (λ z. let u = apart kinds g κ (nearOf image r) (kindOf image r) l (o .kind) z in contra (rw (eq-eqb (kindOf image r) κ (sym (u .1)), eq-eqb (nearOf image r) g (sym (u .0)))) t))
+        (sym (cases (eqb (kindOf image r) κ) (λ a. let b : eqb (nearOf image r) g ≡ false = rw a at t in rw (a, b) (or-false (holds old κ g f))) (λ a. rw a (or-false (holds old κ g f)))))
+
+-- the scan for the first bad relation, and what those before it gather
+pub record Gathering (image members : List ℕ) (k r : ℕ) (gathered : List ℕ) : Type 0 where
+  pub good : Passed k (badRelationAt image) r
+  pub so-far : Gathered image members r gathered
+
+module _ {image members : List ℕ} {k : ℕ} where
+  pub gathering-none : {gathered : List ℕ} → gathered ≡ replicate (maxNodes * kinds) 0 → Gathering image members k 0 gathered
+  gathering-none e = rw e (record { good = passed-none; so-far = gather-none image members })
+
+  module _ {n r : ℕ} {gathered : List ℕ} {bad : Bool} (w : Whole image n k) (m : Gathering image members k r gathered) (h : r < k) (b : bad ≡ badRelationAt image r) where
+    pub gathering-found : bad ≡ true → (r ≡ first k (badRelationAt image)) × (k ≤ r → Gathered image members k gathered)
+    gathering-found t = (passed-found (m .good) h b t, λ l. absurd (omega arith))
+
+    module _ (f : bad ≡ false) {kind from to : ℕ} (p : kind ≡ kindOf image r) (q : from ≡ fromOf image r) (s : to ≡ toOf image r) where
+      pub add-fits : (kind < kinds) × (from < maxNodes) × (to < maxNodes)
+      add-fits = let o = good-of w b f in let l = w .few in let x = o .from in let y = o .to in let z = o .kind in (omega arith, omega arith, omega arith)
+
+      pub gathering-more : {next : List ℕ} → next ≡ addTo gathered members kind from to → Gathering image members k (r + 1) next
+      gathering-more e = record { good = passed-more (m .good) h b f; so-far = gather-more w (good-of w b f) (m .so-far) p q s e }
+
+  pub gathering-end : {r : ℕ} {gathered : List ℕ} → Gathering image members k r gathered → k ≤ r → (k ≡ first k (badRelationAt image)) × (k ≤ k → Gathered image members k gathered)
+  gathering-end {r} {gathered} m h = (passed-end (m .good) h, λ l. at-end (λ (x : ℕ). Gathered image members x gathered) (m .good .fits) h (m .so-far))
+
+-- ---- what an event takes from its node and the groups above it
+
+-- f is gathered at c or above it
+unfoldable pub aboveHas : List ℕ → List ℕ → ℕ → ℕ → ℕ → Bool
+aboveHas image gathered c κ f = some (nodes image) (λ g. fromUp image c g && holds gathered κ g f)
+
+above-none : (image gathered : List ℕ) (c κ f : ℕ) → nodes image ≤ c → aboveHas image gathered c κ f ≡ false
+unfolding aboveHas
+above-none image gathered c κ f h = some-none (nodes image) _ (λ g l. rw (from-none image c g h))
+
+above-step : (image gathered : List ℕ) (c p κ f : ℕ) → c < nodes image → p ≡ parentOf image c → aboveHas image gathered c κ f ≡ (holds gathered κ c f || aboveHas image gathered p κ f)
+unfolding aboveHas
+above-step image gathered c p κ f h q =
+    same-test _ _
+    (λ t.
+    let (g, l, x) = some-at (nodes image) (λ g. fromUp image c g && holds gathered κ g f) t in
+    let y = both (fromUp image c g) (holds gathered κ g f) x in
+    either (eqb c g) (fromUp image p g) (sym (from-step image c p g h q) ∙ y .0)
+    (λ z. or-left (holds gathered κ c f) _ (rw (eqb-true c g z) (y .1)))
+    (λ z. or-right (holds gathered κ c f) _ (some-of (nodes image) (λ g. fromUp image p g && holds gathered κ g f) g l (rw (z, y .1)))))
+    (λ t.
+    either (holds gathered κ c f) _ t
+    (λ x. some-of (nodes image) (λ g. fromUp image c g && holds gathered κ g f) c h (rw (from-step image c p c h q, eq-eqb c c refl, x)))
+    (λ x.
+    let (g, l, y) = some-at (nodes image) (λ g. fromUp image p g && holds gathered κ g f) x in
+    let z = both (fromUp image p g) (holds gathered κ g f) y in
+    some-of (nodes image) (λ g. fromUp image c g && holds gathered κ g f) g l (rw (from-step image c p g h q, or-right (eqb c g) (fromUp image p g) (z .0), z .1))))
+
+-- the row of e has taken in what is gathered at i and above it, and the other rows have stayed
+pub record Taken (image gathered : List ℕ) (e i : ℕ) (old new : List ℕ) : Type 0 where
+  pub size : length new ≡ maxEvents * kinds
+  pub own : (κ f : ℕ) → κ < kinds → holds new κ e f ≡ (holds old κ e f || aboveHas image gathered i κ f)
+  pub other : (κ x : ℕ) → κ < kinds → (x ≡ e → ⊥) → cell new κ x ≡ cell old κ x
+
+-- on the way: with what is still to come at c and above, it is the same
+pub record Taking (image gathered : List ℕ) (e i c : ℕ) (old new : List ℕ) : Type 0 where
+  pub size : length new ≡ maxEvents * kinds
+  pub own : (κ f : ℕ) → κ < kinds → (holds new κ e f || aboveHas image gathered c κ f) ≡ (holds old κ e f || aboveHas image gathered i κ f)
+  pub other : (κ x : ℕ) → κ < kinds → (x ≡ e → ⊥) → cell new κ x ≡ cell old κ x
+
+pub take-none : (image gathered : List ℕ) (e i : ℕ) (old : List ℕ) → length old ≡ maxEvents * kinds → Taking image gathered e i i old old
+take-none image gathered e i old h = record { size = h; own = λ κ f l. refl; other = λ κ x l n. refl }
+
+pub take-more : {image gathered old new next : List ℕ} {n k e i c p : ℕ} → Whole image n k → e < maxEvents → Taking image gathered e i c old new → c < n
+    → next ≡ takeRow kinds e c gathered new → p ≡ parentOf image c → Taking image gathered e i p old next
+unfolding takeRow
+take-more {image} {gathered} {old} {new} {next} {n} {k} {e} {i} {c} {p} w b m h q s =
+    rw q (record {
+      size = length-takeRow kinds e c gathered new ∙ m .size;
+      own = λ κ f l.
+          rw (take-word kinds e c gathered new kinds κ l (let z = m .size in omega arith), has-union (cell new κ e) (cell gathered κ c) f)
+          (or-assoc (holds new κ e f) (holds gathered κ c f) (aboveHas image gathered p κ f))
+          ∙ ap (λ (x : Bool). holds new κ e f || x) (sym (above-step image gathered c p κ f (let l = w .nodes in omega arith) s))
+          ∙ m .own κ f l;
+      other = λ κ x l z. take-kept kinds e c gathered new kinds (x * kinds + κ) (λ t i y. z (apart kinds x κ e t l i y .0)) ∙ m .other κ x l z;
+    })
+
+pub take-end : {image gathered old new : List ℕ} {n k e i c : ℕ} → Whole image n k → Taking image gathered e i c old new → n ≤ c → Taken image gathered e i old new
+take-end {image} {gathered} {old} {new} {n} {k} {e} {i} {c} w m h =
+    record {
+      size = m .size;
+      own = λ κ f l. sym (or-false (holds new κ e f)) ∙ ap (λ (x : Bool). holds new κ e f || x) (sym (above-none image gathered c κ f (let l = w .nodes in omega arith))) ∙ m .own κ f l;
+      other = m .other;
+    }
+
+-- the rows of the first events
+pub record Flat (image gathered nodes : List ℕ) (events : ℕ) (tables : List ℕ) : Type 0 where
+  pub size : length tables ≡ maxEvents * kinds
+  pub each : (κ e f : ℕ) → κ < kinds → holds tables κ e f ≡ (ltb e events && aboveHas image gathered (getD nodes e 0) κ f)
+
+pub flat-none : (image gathered nodes : List ℕ) → Flat image gathered nodes 0 (replicate (maxEvents * kinds) 0)
+flat-none image gathered nodes =
+    record { size = length-replicate {A = ℕ} (maxEvents * kinds) 0; each = λ κ e f l. rw (zeros-at (maxEvents * kinds) (e * kinds + κ), le-ltb e 0 (omega arith)) (has-empty f) }
+
+pub flat-more : {image gathered nodes tables next : List ℕ} {e : ℕ} → Flat image gathered nodes e tables → Taken image gathered e (getD nodes e 0) tables next
+    → Flat image gathered nodes (e + 1) next
+flat-more {image} {gathered} {nodes} {tables} {next} {e} m a =
+    record {
+      size = a .size;
+      each = λ κ x f l.
+          cases (eqb e x)
+          (λ t. rw (← eqb-true e x t) (a .own κ f l ∙ rw (m .each κ e f l, le-ltb e e (omega arith), lt-ltb e (e + 1) (omega arith))))
+          (λ t. ap (λ (s : ℕ). has s f) (a .other κ x l (λ z. eqb-false e x t (sym z))) ∙ m .each κ x f l ∙ rw (ltb-more x e (λ z. eqb-false e x t (sym z))));
+    }
+
+pub flat-end : {image gathered nodes tables : List ℕ} {events e : ℕ} → e ≤ events → events ≤ e → Flat image gathered nodes e tables → Flat image gathered nodes events tables
+flat-end {image} {gathered} {nodes} {tables} = at-end (λ (e : ℕ). Flat image gathered nodes e tables)
 
 -- ---- include and exclude
 

@@ -1,29 +1,29 @@
 -- What the reader's tables say of the image: each is what the definitions name. Assumes nothing.
 use Prim.Native.Nat.{ℕ, _+_, _^_, _≤_, _<_}
 use mathlib.Core.Path.{_≡_, refl, sym, ap, ap₂, _∙_, subst}
-use mathlib.Core.Bool.{Bool, true, false, cond, _&&_, and-false}
+use mathlib.Core.Bool.{Bool, true, false, cond, _&&_, and-false, and-comm}
 use mathlib.Core.List.{List}
 use native.Mathlib.Omega.{arith}
 use lib.ListN.{length, getD}
 use lib.Dec.{eqb, ltb}
-use borrow.Author.Tests.{lt-ltb, ltb-true, ne-eqb, eqb-true, eqb-false, not-true}
-use Rattle.paper.specs.Limits.{maxEvents}
+use borrow.Author.Tests.{lt-ltb, ltb-true, eq-eqb, ne-eqb, eqb-true, eqb-false, not-true}
+use Rattle.paper.specs.Limits.{maxEvents, kinds}
 use Rattle.sets.specs.Cases.{contra, cases, both, not-so, same-test}
 use Rattle.sets.specs.Set.{has, lowest, collect}
 use Rattle.sets.specs.Laws.{ext, has-collect, has-inter, has-empty, none-zero, below, lowest-lt, lowest-has, lowest-least}
 use Rattle.sets.specs.Below.{some, some-of, some-at, some-none, some-same, first, first-found, first-same, tally, tally-same}
 use Rattle.sets.specs.Tables.{tabulate, tabulate-same}
-use Rattle.reach.specs.Rows.{bit}
 use Rattle.graph.specs.Chart.{Kind, condition, response, milestone, include, exclude}
 use Rattle.graph.specs.declared.FlatChart.{FlatChart}
 use Rattle.graph.specs.declared.Marking.{Marking}
 use Rattle.chart.specs.Scan.{collect-same}
 use Rattle.chart.specs.Numbering.{tally-find, first-numbered}
-use Rattle.chart.specs.Image.{nodes, relations, fromOf, toOf, kindOf, flagsOf, nodeAt, Whole}
-use Rattle.chart.specs.Nesting.{parent, atOrAbove, onLoopAt, isGroup, isEvent, number, eventCount, eventNode, flaggedGroupAt}
-use Rattle.chart.specs.Tables.{rowWidth, Groups, isEventIn, flaggedIn, EventNodes, Nestings, atOrAboveIn}
+use Rattle.chart.specs.Image.{nodes as nodes-of, relations, fromOf, toOf, kindOf, flagsOf, nodeAt, Whole}
+use Rattle.chart.specs.Nesting.{parent, atOrAbove, isGroup, isEvent, number, eventCount, eventNode, flaggedGroupAt}
+use Rattle.chart.specs.Climbing.{Straight, fromUp}
+use Rattle.chart.specs.Tables.{Groups, isEventIn, flaggedIn, EventNodes}
 use Rattle.chart.specs.Flattening.{kindNumber, holdsBack, leads, related, entered, flatSet, flatTable, flatChart, flagged, startMarking, conflict, conflictAt}
-use Rattle.chart.specs.Cells.{cell, Placed, Members, Sound, good-at, entersIn, Flat, bothAt, conflictIn, flaggedBy, chartOf, markingBy}
+use Rattle.chart.specs.Cells.{cell, holds, Members, near, nearOf, farOf, near-fits, Good, entersAt, Gathered, aboveHas, Flat, bothAt, conflictIn, flaggedBy, chartOf, markingBy}
 
 -- ---- nodes
 
@@ -31,10 +31,6 @@ module _ {image : List ℕ} {n k : ℕ} (w : Whole image n k) where
   pub group-is : {groups : List Bool} → Groups image n groups → (i : ℕ) → i < n → getD groups i false ≡ isGroup image i
   unfolding isGroup
   group-is m i h = m .each i h ∙ ap (λ (x : ℕ). some x (λ a. parent image a i)) (w .nodes)
-
-  pub loops-are : {rows : List ℕ} {r : ℕ} → Nestings image n rows → r ≡ first n (λ a. bit rows rowWidth a a) → r ≡ first n (onLoopAt image)
-  unfolding onLoopAt
-  loops-are {rows} m e = e ∙ first-same n (λ a. bit rows rowWidth a a) (onLoopAt image) (λ a h. m .each a a h h)
 
   pub flags-are : {groups : List Bool} {r : ℕ} → Groups image n groups → r ≡ first n (flaggedIn image groups) → r ≡ first n (flaggedGroupAt image)
   unfolding flaggedGroupAt
@@ -55,9 +51,9 @@ module _ {image : List ℕ} {n k : ℕ} (w : Whole image n k) where
   pub node-of : (e : ℕ) → e < eventCount image → (i : ℕ) × NodeOf e i
   unfolding eventNode
   node-of e h =
-      let t = tally-find (isEvent image) (nodes image) e h in
+      let t = tally-find (isEvent image) (nodes-of image) e h in
       let l : t .0 < n = rw (w .nodes) (t .1) in
-      (t .0, record { fits = l; event = t .2; numbered = t .3; node = subst (λ (x : ℕ). first (nodes image) (λ j. isEvent image j && eqb (number image j) x) ≡ t .0) (t .3) (first-numbered (isEvent image) (nodes image) (t .0) (t .1) (t .2)) })
+      (t .0, record { fits = l; event = t .2; numbered = t .3; node = subst (λ (x : ℕ). first (nodes-of image) (λ j. isEvent image j && eqb (number image j) x) ≡ t .0) (t .3) (first-numbered (isEvent image) (nodes-of image) (t .0) (t .1) (t .2)) })
 
   pub nodes-are : {groups : List Bool} {events : List ℕ} → Groups image n groups → EventNodes groups n events → (e : ℕ) → e < eventCount image
       → (getD events e 0 ≡ eventNode image e) × (getD events e 0 < n)
@@ -70,21 +66,6 @@ module _ {image : List ℕ} {n k : ℕ} (w : Whole image n k) where
       (at ∙ sym (o .node), rw at (o .fits))
 
 -- ---- tests that go two ways
-
-shuffle : (p q a b : Bool) → ((p && a) && (q && b)) ≡ ((p && q) && (a && b))
-shuffle true true a b = refl
-shuffle true false a b = and-false a
-shuffle false q a b = refl
-
-swap : (p q a b : Bool) → ((q && a) && (p && b)) ≡ ((p && q) && (a && b))
-swap true true a b = refl
-swap true false a b = refl
-swap false true a b = and-false a
-swap false false a b = refl
-
-nothing : (h x : Bool) → (x && cond h false false) ≡ false
-nothing true x = and-false x
-nothing false x = and-false x
 
 guarded : (k : ℕ) (x : Bool) (f : ℕ → Bool) → some k (λ r. x && f r) ≡ (x && some k f)
 guarded k true f = refl
@@ -100,6 +81,13 @@ unfolding flatSet
 flat-has image κ e f =
     cases (ltb e (eventCount image)) (λ t. rw t (has-collect (eventCount image) (entered image κ e) f)) (λ t. rw t (has-empty f))
 
+kind-fits : (κ : Kind) → kindNumber κ < kinds
+kind-fits condition = omega arith
+kind-fits response = omega arith
+kind-fits milestone = omega arith
+kind-fits include = omega arith
+kind-fits exclude = omega arith
+
 -- a set that is not empty has a member
 member-of : (n s : ℕ) → ((f : ℕ) → has s f ≡ true → f < n) → (s ≡ 0 → ⊥) → (f : ℕ) × (f < n) × (has s f ≡ true)
 member-of n s h z =
@@ -108,14 +96,14 @@ member-of n s h z =
 
 -- ---- what the reader has when it comes to the relations
 
-pub record Ground (image : List ℕ) (n k : ℕ) (rows : List ℕ) (groups : List Bool) (events : ℕ) : Type 0 where
+pub record Ground (image : List ℕ) (n k : ℕ) (groups : List Bool) (events : ℕ) : Type 0 where
   pub whole : Whole image n k
-  pub nestings : Nestings image n rows
+  pub straight : Straight image
   pub marked : Groups image n groups
   pub count : events ≡ eventCount image
   pub few : events ≤ maxEvents
 
-module _ {image : List ℕ} {n k : ℕ} {rows : List ℕ} {groups : List Bool} {events : ℕ} (g : Ground image n k rows groups events) where
+module _ {image : List ℕ} {n k : ℕ} {groups : List Bool} {events : ℕ} (g : Ground image n k groups events) where
   -- so many events have room
   pub room-for : tally n (isEventIn groups) ≤ maxEvents
   room-for = let e = count-is (g .whole) (g .marked) refl in let c = g .count in let f = g .few in omega arith
@@ -123,9 +111,6 @@ module _ {image : List ℕ} {n k : ℕ} {rows : List ℕ} {groups : List Bool} {
   module _ {nodes : List ℕ} (v : EventNodes groups n nodes) where
     node-at : (e : ℕ) → e < events → (getD nodes e 0 ≡ eventNode image e) × (getD nodes e 0 < n)
     node-at e h = nodes-are (g .whole) (g .marked) v e (let c = g .count in omega arith)
-
-    pub placed : Placed rows nodes events
-    placed = record { size = g .nestings .size; few = g .few; places = λ e h. let l = node-at e h .1 in let f = g .whole .few in omega arith }
 
     pub flags-in : (e : ℕ) → e < events → nodeAt (getD nodes e 0) + 4 ≤ length image
     flags-in e h = let l = node-at e h .1 in let f = g .whole .whole in omega arith
@@ -140,58 +125,80 @@ module _ {image : List ℕ} {n k : ℕ} {rows : List ℕ} {groups : List Bool} {
     unfolding markingBy startMarking
     marking-is e = e ∙ rw (flagged-is 0 _ refl, flagged-is 1 _ refl, flagged-is 2 _ refl)
 
-    -- the set of a node is the set of the events at or below it
-    module _ {members : List ℕ} (m : Members rows nodes events n members) where
-      member-is : (i e : ℕ) → i < n → has (getD members i 0) e ≡ (ltb e events && atOrAbove image (eventNode image e) i)
-      unfolding atOrAbove
-      member-is i e h =
-          rw (m .each i h) (has-collect events (λ x. atOrAboveIn rows (getD nodes x 0) i) e
-          ∙ cases (ltb e events)
-          (λ t. let v = node-at e (ltb-true e events t) in rw (t, g .nestings .each (getD nodes e 0) i (v .1) h, v .0))
-          (λ t. rw t))
+    -- a node is at or above the node of e exactly if the climb from there comes to it
+    up-is : (e x : ℕ) → e < events → fromUp image (getD nodes e 0) x ≡ atOrAbove image (eventNode image e) x
+    unfolding fromUp
+    up-is e x h = let v = node-at e h in let l = v .1 in let w = g .whole .nodes in rw (lt-ltb (getD nodes e 0) (nodes-of image) (omega arith), v .0)
 
-      module _ (s : Sound image n k) where
-        -- relation r enters f in the set of e exactly if it leads from the one to the other
-        enters-is : (κ e f r : ℕ) → r < k
-            → entersIn image members κ e f r ≡ ((ltb e events && ltb f events) && cond (holdsBack κ) (leads image κ f e r) (leads image κ e f r))
-        unfolding leads
-        enters-is κ e f r h =
-            let o = good-at s r h in
-            cases (eqb (kindOf image r) κ)
-            (λ t. let z = eqb-true (kindOf image r) κ t in
-            rw (t, z, member-is (fromOf image r) e (o .from), member-is (fromOf image r) f (o .from), member-is (toOf image r) e (o .to), member-is (toOf image r) f (o .to))
-            (cases (holdsBack κ) (λ b. rw b (swap (ltb e events) (ltb f events) _ _)) (λ b. rw b (shuffle (ltb e events) (ltb f events) _ _))))
-            (λ t. rw t (sym (nothing (holdsBack κ) (ltb e events && ltb f events))))
+    module _ {members : List ℕ} (m : Members image nodes events members) (s : (r : ℕ) → r < k → Good image n r) where
+      -- relation r is gathered at or above the node of e, and gives it f
+      abbrev gives : ℕ → ℕ → ℕ → ℕ → Bool
+      gives κ e f r = eqb (kindOf image r) κ && (fromUp image (getD nodes e 0) (nearOf image r) && has (getD members (farOf image r) 0) f)
 
-        module _ {tables : List ℕ} (a : Flat image members k tables) where
-          pub cell-is : (κ e : ℕ) → e < maxEvents → cell tables κ e ≡ flatSet image κ e
+      -- so it leads to or from the event f
+      leads-is : (κ e f r : ℕ) → e < events → gives κ e f r ≡ (ltb f events && cond (holdsBack κ) (leads image κ f e r) (leads image κ e f r))
+      unfolding leads
+      leads-is κ e f r h =
+          rw (up-is e (nearOf image r) h, m .each (farOf image r) f) (cases (eqb (kindOf image r) κ)
+          (λ t. rw (t, eqb-true (kindOf image r) κ t) (cases (ltb f events)
+          (λ i. rw (i, up-is f _ (ltb-true f events i)) (cases (holdsBack κ) (λ b. rw b (and-comm (atOrAbove image (eventNode image e) (toOf image r)) (atOrAbove image (eventNode image f) (fromOf image r)))) (λ b. rw b)))
+          (λ i. rw i (and-false (atOrAbove image (eventNode image e) (near κ (fromOf image r) (toOf image r)))))))
+          (λ t. rw t (sym (nothing (holdsBack κ) (ltb f events)))))
+        where
+          nothing : (h x : Bool) → (x && cond h false false) ≡ false
+          nothing true x = and-false x
+          nothing false x = and-false x
+
+      module _ {gathered : List ℕ} (a : Gathered image members k gathered) where
+        -- what is gathered at or above the node of e is what the relations lead to
+        above-is : (κ e f : ℕ) → κ < kinds → e < events
+            → aboveHas image gathered (getD nodes e 0) κ f ≡ some k (gives κ e f)
+        unfolding aboveHas
+        above-is κ e f l h =
+            same-test _ _
+            (λ t.
+            let (x, i, y) = some-at (nodes-of image) (λ x. fromUp image (getD nodes e 0) x && holds gathered κ x f) t in
+            let z = both (fromUp image (getD nodes e 0) x) (holds gathered κ x f) y in
+            let (r, j, u) = some-at k (entersAt image members κ x f) (sym (a .each κ x f l) ∙ z .1) in
+            let v = both (eqb (kindOf image r) κ) (eqb (nearOf image r) x && has (getD members (farOf image r) 0) f) u in
+            let w = both (eqb (nearOf image r) x) (has (getD members (farOf image r) 0) f) (v .1) in
+            some-of k (gives κ e f) r j (rw (v .0, w .1, eqb-true (nearOf image r) x (w .0), z .0)))
+            (λ t.
+            let (r, j, u) = some-at k (gives κ e f) t in
+            let v = both (eqb (kindOf image r) κ) _ u in
+            let w = both (fromUp image (getD nodes e 0) (nearOf image r)) _ (v .1) in
+            some-of (nodes-of image) (λ x. fromUp image (getD nodes e 0) x && holds gathered κ x f) (nearOf image r) (let o = near-fits (s r j) in let q = g .whole .nodes in omega arith)
+            (rw (w .0, a .each κ (nearOf image r) f l) (some-of k (entersAt image members κ (nearOf image r) f) r j (rw (v .0, eq-eqb (nearOf image r) (nearOf image r) refl, w .1)))))
+
+        module _ {tables : List ℕ} (t : Flat image gathered nodes events tables) where
+          pub cell-is : (κ e : ℕ) → κ < kinds → cell tables κ e ≡ flatSet image κ e
           unfolding entered related
-          cell-is κ e h =
+          cell-is κ e l =
               ext (cell tables κ e) (flatSet image κ e)
               (λ f.
-              let guard : Bool = ltb e events && ltb f events in
               let lead : ℕ → Bool = λ r. cond (holdsBack κ) (leads image κ f e r) (leads image κ e f r) in
-              a .each κ e f h
-              ∙ some-same k (entersIn image members κ e f) (λ r. guard && lead r) (λ r l. enters-is κ e f r l)
-              ∙ guarded k guard lead
-              ∙ ap (λ (b : Bool). guard && b) (either-way k (holdsBack κ) (leads image κ f e) (leads image κ e f))
-              ∙ ap₂ (λ (x y : ℕ). (ltb e x && ltb f x) && cond (holdsBack κ) (some y (leads image κ f e)) (some y (leads image κ e f))) (g .count) (s .whole .relations)
+              t .each κ e f l
+              ∙ cases (ltb e events)
+              (λ i. rw i (above-is κ e f l (ltb-true e events i)
+              ∙ some-same k (gives κ e f) (λ r. ltb f events && lead r) (λ r j. leads-is κ e f r (ltb-true e events i))
+              ∙ guarded k (ltb f events) lead
+              ∙ ap (λ (b : Bool). ltb f events && b) (either-way k (holdsBack κ) (leads image κ f e) (leads image κ e f))))
+              (λ i. rw i)
+              ∙ ap₂ (λ (x y : ℕ). (ltb e x && ltb f x) && cond (holdsBack κ) (some y (leads image κ f e)) (some y (leads image κ e f))) (g .count) (g .whole .relations)
               ∙ sym (flat-has image κ e f))
 
           pub table-is : (κ : Kind) (out : List ℕ) → out ≡ tabulate maxEvents (cell tables (kindNumber κ)) → out ≡ flatTable image κ
           unfolding flatTable
-          table-is κ out e = e ∙ tabulate-same maxEvents (cell tables (kindNumber κ)) (flatSet image (kindNumber κ)) (cell-is (kindNumber κ))
+          table-is κ out e = e ∙ tabulate-same maxEvents (cell tables (kindNumber κ)) (flatSet image (kindNumber κ)) (λ x h. cell-is (kindNumber κ) x (kind-fits κ))
 
           -- the events with which e is in conflict
           both-has : (e f : ℕ) → e < events → has (bothAt tables e) f ≡ (ltb f events && conflict image e f)
           unfolding conflict entered
           both-has e f h =
-              let c = g .few in
-              let l : e < maxEvents = omega arith in
               let n = g .count in
               let in-count : ltb e (eventCount image) ≡ true = lt-ltb e (eventCount image) (omega arith) in
               has-inter (cell tables 3 e) (cell tables 4 e) f
-              ∙ ap₂ _&&_ (ap (λ (x : ℕ). has x f) (cell-is 3 e l) ∙ flat-has image 3 e f) (ap (λ (x : ℕ). has x f) (cell-is 4 e l) ∙ flat-has image 4 e f)
+              ∙ ap₂ _&&_ (ap (λ (x : ℕ). has x f) (cell-is 3 e (omega arith)) ∙ flat-has image 3 e f) (ap (λ (x : ℕ). has x f) (cell-is 4 e (omega arith)) ∙ flat-has image 4 e f)
               ∙ rw (in-count, n) (twice (ltb f (eventCount image)) (related image 3 e f) (related image 4 e f))
             where
               twice : (x a b : Bool) → ((x && a) && (x && b)) ≡ (x && (a && b))

@@ -1,6 +1,6 @@
 -- The law for each return of the reader: the answer at hand is what the definition of reading gives. Assumes nothing.
 use Prim.Native.Nat.{ℕ, _≤_, _<_}
-use mathlib.Core.Path.{_≡_, sym, ap, _∙_}
+use mathlib.Core.Path.{_≡_, refl, sym, ap, _∙_}
 use mathlib.Core.Bool.{Bool, true, false, _||_}
 use mathlib.Core.List.{List}
 use native.Mathlib.Omega.{arith}
@@ -13,16 +13,16 @@ use Rattle.paper.specs.declared.Answer.{Answer}
 use Rattle.sets.specs.Cases.{neither, all3}
 use Rattle.sets.specs.Set.{lowest}
 use Rattle.sets.specs.Below.{some, some-of, some-none, first, first-is, tally}
-use Rattle.reach.specs.Rows.{bit}
 use Rattle.graph.specs.declared.FlatChart.{FlatChart}
 use Rattle.graph.specs.declared.Marking.{Marking}
 use Rattle.chart.specs.declared.Reading.{Reading}
 use Rattle.chart.specs.Image.{nodes, relations, nodesOffset, relationsOffset, nodeAt, relationAt, outOfRange, misplaced, badNodeAt, badRelationAt, Whole}
 use Rattle.chart.specs.Nesting.{isEvent, onLoopAt, flaggedGroupAt, eventCount}
 use Rattle.chart.specs.Flattening.{conflict, conflictAt}
-use Rattle.chart.specs.Tables.{rowWidth, Groups, isEventIn, flaggedIn, EventNodes, Nestings}
-use Rattle.chart.specs.Cells.{Members, Sound, Flat, bothAt, conflictIn, chartOf, markingBy}
-use Rattle.chart.specs.Meaning.{Ground, loops-are, flags-are, count-is, from-is, to-is, chart-is, marking-is}
+use Rattle.chart.specs.Tables.{Groups, isEventIn, flaggedIn, EventNodes}
+use Rattle.chart.specs.Climbing.{straight-is}
+use Rattle.chart.specs.Cells.{Members, Good, good-of, Gathered, Flat, bothAt, conflictIn, chartOf, markingBy}
+use Rattle.chart.specs.Meaning.{Ground, flags-are, count-is, from-is, to-is, chart-is, marking-is}
 use Rattle.chart.specs.Reading.{refused, refuseIf, refuseFirst, conflictFrom, conflictTo, readingRelations, readingNodes, reading}
 
 -- ---- a scan that stops before n has found one, and one that comes to n has not
@@ -102,18 +102,18 @@ module _ {image : List ℕ} {n k bad : ℕ} (w : Whole image n k) (b : bad ≡ f
   unfolding readingNodes
   nodes-bad e h = e ∙ rw (← w .nodes) (refused-first badNode n (badNodeAt image) _ b h)
 
-  module _ (good : n ≤ bad) {rows : List ℕ} {looped : ℕ} (m : Nestings image n rows) (l : looped ≡ first n (λ a. bit rows rowWidth a a)) where
+  module _ (good : n ≤ bad) {looped : ℕ} (l : looped ≡ first n (onLoopAt image)) where
     pub nodes-loop : {r : Reading} → r ≡ refused (answer parentsLoop looped 0) → looped < n → r ≡ readingNodes image
     unfolding readingNodes
     nodes-loop e h =
-        e ∙ rw (← w .nodes) (refused-first parentsLoop n (onLoopAt image) _ (loops-are w m l) h ∙ passed-first badNode n (badNodeAt image) _ b good)
+        e ∙ rw (← w .nodes) (refused-first parentsLoop n (onLoopAt image) _ l h ∙ passed-first badNode n (badNodeAt image) _ b good)
 
     module _ (straight : n ≤ looped) {groups : List Bool} {flags : ℕ} (g : Groups image n groups) (f : flags ≡ first n (flaggedIn image groups)) where
       pub nodes-flags : {r : Reading} → r ≡ refused (answer groupFlags flags 0) → flags < n → r ≡ readingNodes image
       unfolding readingNodes
       nodes-flags e h =
           e ∙ rw (← w .nodes) (refused-first groupFlags n (flaggedGroupAt image) _ (flags-are w g f) h
-          ∙ passed-first parentsLoop n (onLoopAt image) _ (loops-are w m l) straight ∙ passed-first badNode n (badNodeAt image) _ b good)
+          ∙ passed-first parentsLoop n (onLoopAt image) _ l straight ∙ passed-first badNode n (badNodeAt image) _ b good)
 
       module _ (plain : n ≤ flags) {events : ℕ} (e : events ≡ tally n (isEventIn groups)) where
         count : events ≡ tally n (isEvent image)
@@ -124,33 +124,33 @@ module _ {image : List ℕ} {n k bad : ℕ} (w : Whole image n k) (b : bad ≡ f
         nodes-many p h =
             p ∙ rw (← w .nodes) (refused-over manyEvents _ count h
             ∙ passed-first groupFlags n (flaggedGroupAt image) _ (flags-are w g f) plain
-            ∙ passed-first parentsLoop n (onLoopAt image) _ (loops-are w m l) straight ∙ passed-first badNode n (badNodeAt image) _ b good)
+            ∙ passed-first parentsLoop n (onLoopAt image) _ l straight ∙ passed-first badNode n (badNodeAt image) _ b good)
 
         pub nodes-on : {r : Reading} → events ≤ maxEvents → r ≡ readingRelations image → r ≡ readingNodes image
         unfolding readingNodes
         nodes-on h p =
             p ∙ rw (← w .nodes) (passed-under manyEvents _ count h
             ∙ passed-first groupFlags n (flaggedGroupAt image) _ (flags-are w g f) plain
-            ∙ passed-first parentsLoop n (onLoopAt image) _ (loops-are w m l) straight ∙ passed-first badNode n (badNodeAt image) _ b good)
+            ∙ passed-first parentsLoop n (onLoopAt image) _ l straight ∙ passed-first badNode n (badNodeAt image) _ b good)
 
-        pub ground-is : events ≤ maxEvents → Ground image n k rows groups events
-        ground-is h = record { whole = w; nestings = m; marked = g; count = count-is w g e; few = h }
+        pub ground-is : events ≤ maxEvents → Ground image n k groups events
+        ground-is h = record { whole = w; straight = straight-is image (w .nodes) l straight; marked = g; count = count-is w g e; few = h }
 
 -- ---- 8 and 9
 
-module _ {image : List ℕ} {n k bad : ℕ} {rows : List ℕ} {groups : List Bool} {events : ℕ} (g : Ground image n k rows groups events) (b : bad ≡ first k (badRelationAt image)) where
+module _ {image : List ℕ} {n k bad : ℕ} {groups : List Bool} {events : ℕ} (g : Ground image n k groups events) (b : bad ≡ first k (badRelationAt image)) where
   pub relations-bad : {r : Reading} → r ≡ refused (answer badRelation bad 0) → bad < k → r ≡ readingRelations image
   unfolding readingRelations
   relations-bad e h = e ∙ rw (← g .whole .relations) (refused-first badRelation k (badRelationAt image) _ b h)
 
   module _ (good : k ≤ bad) where
-    pub sound-is : Sound image n k
-    sound-is = record { whole = g .whole; good = λ r h. first-is k (badRelationAt image) .lowest r (omega arith) }
+    goods : (r : ℕ) → r < k → Good image n r
+    goods r h = good-of (g .whole) refl (first-is k (badRelationAt image) .lowest r (omega arith))
 
-    module _ {nodes members tables : List ℕ} {from : ℕ} (v : EventNodes groups n nodes) (m : Members rows nodes events n members) (a : Flat image members k tables)
-        (f : from ≡ first events (conflictIn tables)) where
+    module _ {nodes members gathered tables : List ℕ} {from : ℕ} (v : EventNodes groups n nodes) (m : Members image nodes events members) (a : Gathered image members k gathered)
+        (t : Flat image gathered nodes events tables) (f : from ≡ first events (conflictIn tables)) where
       at-from : from ≡ first (eventCount image) (conflictAt image)
-      at-from = from-is g v m sound-is a f
+      at-from = from-is g v m goods a t f
 
       no-bad : (rest : Reading) → rest ≡ refuseFirst badRelation (relations image) (badRelationAt image) rest
       no-bad rest =
@@ -164,8 +164,8 @@ module _ {image : List ℕ} {n k bad : ℕ} {rows : List ℕ} {groups : List Boo
           let c = g .count in
           let o = at-from in
           let there : conflictIn tables from ≡ true = rw f (first-is events (conflictIn tables) .passes (rw (← f) h)) in
-          let t : to ≡ first (eventCount image) (conflict image from) = to-is g v m sound-is a from both to h there p q in
-          e ∙ rw (← o, ← t, first-some (eventCount image) (conflictAt image) (omega arith)) (no-bad _)
+          let i : to ≡ first (eventCount image) (conflict image from) = to-is g v m goods a t from both to h there p q in
+          e ∙ rw (← o, ← i, first-some (eventCount image) (conflictAt image) (omega arith)) (no-bad _)
 
       pub relations-on : {y : Answer} {c : FlatChart} {s : Marking} → events ≤ from → y ≡ granted → c ≡ chartOf events tables → s ≡ markingBy image nodes events
           → record { answer = y; chart = c; marking = s } ≡ readingRelations image
@@ -173,4 +173,4 @@ module _ {image : List ℕ} {n k bad : ℕ} {rows : List ℕ} {groups : List Boo
       relations-on h p q i =
           let c = g .count in
           let o = at-from in
-          rw (p, chart-is g v m sound-is a q, marking-is g v i, first-not (eventCount image) (conflictAt image) (omega arith)) (no-bad _)
+          rw (p, chart-is g v m goods a t q, marking-is g v i, first-not (eventCount image) (conflictAt image) (omega arith)) (no-bad _)

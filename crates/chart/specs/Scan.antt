@@ -3,7 +3,10 @@ use Prim.Native.Nat.{ℕ, zero, suc, _+_, _≤_, _<_}
 use mathlib.Core.Path.{_≡_, refl, sym, subst, _∙_}
 use mathlib.Core.Bool.{Bool, true, false}
 use native.Mathlib.Omega.{arith}
+use lib.Dec.{ltb}
+use borrow.Author.Tests.{lt-ltb, ltb-true}
 use borrow.Author.Count.{below-more}
+use Rattle.sets.specs.Cases.{same-test}
 use Rattle.sets.specs.Set.{putIf, collect}
 use Rattle.sets.specs.Laws.{collect-step}
 use Rattle.sets.specs.Below.{first, first-found, first-none}
@@ -30,6 +33,10 @@ module _ {n : ℕ} {f : ℕ → Bool} where
 -- a loop that counts up has come to its end
 pub at-end : (P : ℕ → Type 0) {i n : ℕ} → i ≤ n → n ≤ i → P i → P n
 at-end P {i} {n} h l p = let e : i ≡ n = omega arith in subst P e p
+
+-- one more changes the test of no other
+pub ltb-more : (x a : ℕ) → (x ≡ a → ⊥) → ltb x (a + 1) ≡ ltb x a
+ltb-more x a n = same-test (ltb x (a + 1)) (ltb x a) (λ t. let h = ltb-true x (a + 1) t in lt-ltb x a (omega arith)) (λ t. let h = ltb-true x a t in lt-ltb x (a + 1) (omega arith))
 
 -- a set that a loop collects: nothing yet, one more, all
 pub collect-none : (p : ℕ → Bool) → 0 ≡ collect 0 p

@@ -10,12 +10,12 @@ use lib.Seq.{getD-set-same, getD-set-other}
 use lib.Dec.{eqb, ltb}
 use borrow.Author.Tests.{lt-ltb, le-ltb, ltb-true, ltb-false, eq-eqb, ne-eqb, eqb-true, eqb-false, not-true, not-false}
 use Rattle.paper.specs.Limits.{maxNodes, maxEvents}
-use Rattle.sets.specs.Cases.{contra, cases, same-test, lt-suc}
+use Rattle.sets.specs.Cases.{contra, cases, lt-suc}
 use Rattle.sets.specs.Below.{some, some-step, tally}
 use Rattle.reach.specs.Closure.{within, within-same}
 use Rattle.reach.specs.Rows.{bit, putBit, closed}
 use Rattle.reach.specs.Bits.{put-bit, bit-zeros, length-putBit, length-closed, closed-bit}
-use Rattle.chart.specs.Scan.{at-end}
+use Rattle.chart.specs.Scan.{at-end, ltb-more}
 use Rattle.chart.specs.Numbering.{tally-lt}
 use Rattle.chart.specs.Image.{nodes, parentOf, flagsOf, Whole}
 use Rattle.chart.specs.Nesting.{parent, nested}
@@ -140,9 +140,6 @@ pub parents-none : (image : List ℕ) (n : ℕ) → Parents image n 0 (replicate
 parents-none image n =
     record { size = length-replicate {A = ℕ} (maxNodes * rowWidth) 0; each = λ x y h l. bit-zeros (maxNodes * rowWidth) rowWidth x y ∙ rw (le-ltb x 0 (omega arith)) }
 
-ltb-more : (x a : ℕ) → (x ≡ a → ⊥) → ltb x (a + 1) ≡ ltb x a
-ltb-more x a n = same-test (ltb x (a + 1)) (ltb x a) (λ t. let h = ltb-true x (a + 1) t in lt-ltb x a (omega arith)) (λ t. let h = ltb-true x a t in lt-ltb x (a + 1) (omega arith))
-
 pub parents-more : {image rows next : List ℕ} {n k a p : ℕ} → Whole image n k → Parents image n a rows → a < n
     → p ≡ parentOf image a → next ≡ linkAt rows n a p → Parents image n (a + 1) next
 unfolding linkAt
@@ -182,7 +179,3 @@ nestings-closed {image} {rows} {next} {n} {k} w m e =
           ∙ within-same (bit rows rowWidth) (parent image) n (λ x y i j. m .each x y i j ∙ rw (lt-ltb x n i)) n a b (omega arith) h l
           ∙ ap (λ (m : ℕ). within (parent image) m a b) (w .nodes);
     })
-
--- whether node g is node a or lies above it, by the rows
-abbrev pub atOrAboveIn : List ℕ → ℕ → ℕ → Bool
-atOrAboveIn rows a g = eqb a g || bit rows rowWidth a g

@@ -1,18 +1,15 @@
-// Flattening: the events at or below each node, and the five tables of sets that the relations make of them.
+// Flattening: the events at or below each node, what the relations gather at each node, and the five sets that each event takes from its
+// node and the groups above it.
 ghost use mathlib.Core.Path.{_≡_};
 ghost use Prim.Native.Nat.{ℕ, _+_, _*_, _≤_, _<_};
-ghost use lib.ListN.{length, getD, set};
+ghost use lib.ListN.{length, getD, set, replicate};
 ghost use Rattle.paper.specs.Limits.{maxNodes, maxEvents, kinds, nodeSize};
 ghost use Rattle.sets.specs.Below.{first};
-ghost use Rattle.sets.specs.Set.{union};
 ghost use Rattle.sets.specs.Tables.{tabulate};
-ghost use Rattle.chart.specs.Image.{nodeAt};
-ghost use Rattle.chart.specs.Tables.{rowWidth, atOrAboveIn};
-ghost use Rattle.chart.specs.Cells.{cells, cell, Spread, Added, Members, Placed, Sound, Flat, bothAt, conflictIn, membersIn, flaggedBy};
+ghost use Rattle.chart.specs.Image.{nodeAt, badRelationAt, Whole};
+ghost use Rattle.chart.specs.Climbing.{Straight};
+ghost use Rattle.chart.specs.Cells.{cell, putIn, addTo, Entered, Members, Gathered, Taken, Flat, bothAt, conflictIn, flaggedBy};
 use crate::image;
-use crate::nesting;
-use nesting::ROWS;
-use nesting::WIDTH;
 use paper::KINDS;
 use paper::MAX_EVENTS;
 use paper::MAX_NODES;
@@ -27,90 +24,130 @@ pub const INCLUDE: usize = 3;
 
 pub const EXCLUDE: usize = 4;
 
-// The five tables in one run: the set of event e for a kind stands at kind * 64 + e.
-pub const CELLS: usize = KINDS as usize * MAX_EVENTS;
+// A set for each kind, side by side.
+pub const SETS: usize = KINDS as usize;
 
-fn at_or_above(rows: &[u64; ROWS], a: usize, g: usize) -> bool
-    requires { ⌜ (a < maxNodes) × (g < maxNodes) × (length (now rows) ≡ maxNodes * rowWidth) ⌝ }
-    ensures { λ r. ⌜ r ≡ atOrAboveIn (now (rows .entry)) a g ⌝ }
-{
-    (a == g) | reach::has_bit(rows, WIDTH, a, g)
-}
+// What the relations gather at each node: the set of node g for a kind stands at g * 5 + kind.
+pub const GATHERED: usize = MAX_NODES * SETS;
 
-// The events at or below node g.
-fn members_of(rows: &[u64; ROWS], nodes: &[usize; MAX_EVENTS], events: usize, g: usize) -> u64
-    requires { ⌜ Placed (now rows) (now nodes) events × (g < maxNodes) ⌝ }
-    ensures { λ r. ⌜ r ≡ membersIn (now (rows .entry)) (now (nodes .entry)) events g ⌝ }
+// The five tables in one run: the set of event e for a kind stands at e * 5 + kind.
+pub const CELLS: usize = MAX_EVENTS * SETS;
+
+// Node i and each group above it take in event e.
+fn enter(image: &[u8], n: usize, k: usize, all: &mut [u64; MAX_NODES], e: usize, i: usize)
+    requires { ⌜ (Whole (now image) n k) × (Straight (now image)) × (e < maxEvents) × (length (now all) ≡ maxNodes) ⌝ }
+    ensures { λ _. ⌜ Entered (now (image .entry)) e i (now (all .entry)) (now (all .exit)) ⌝ }
 {
-    let mut set: u64 = 0;
-    for e in 0..events {
-        set = sets::put_if(set, e, at_or_above(rows, nodes[e], g));
+    let mut c = i;
+    while c < n {
+        all[c] = sets::join(all[c], sets::one(e));
+        c = image::parent_of(image, c) as usize;
     }
-    set
 }
 
 // The events at or below each node.
 pub fn members(
-    rows: &[u64; ROWS],
+    image: &[u8],
+    n: usize,
+    k: usize,
     nodes: &[usize; MAX_EVENTS],
     events: usize,
-    n: usize,
 ) -> [u64; MAX_NODES]
-    requires { ⌜ Placed (now rows) (now nodes) events × (n ≤ maxNodes) ⌝ }
-    ensures { λ r. ⌜ Members (now (rows .entry)) (now (nodes .entry)) events n r ⌝ }
+    requires { ⌜ (Whole (now image) n k) × (Straight (now image)) × (events ≤ maxEvents) ⌝ }
+    ensures { λ r. ⌜ Members (now (image .entry)) (now (nodes .entry)) events r ⌝ }
 {
     let mut all = [0u64; MAX_NODES];
-    for g in 0..n {
-        all[g] = members_of(rows, nodes, events, g);
+    for e in 0..events {
+        enter(image, n, k, &mut all, e, nodes[e]);
     }
     all
 }
 
-// The set of event e takes in to.
-fn take_in(tables: &mut [u64; CELLS], kind: usize, e: usize, to: u64)
-    requires { ⌜ (kind < kinds) × (e < maxEvents) ⌝ }
-    ensures { λ _. ⌜ now (tables .exit) ≡ set (now (tables .entry)) (kind * maxEvents + e) (union (cell (now (tables .entry)) kind e) to) ⌝ }
+fn put_in(gathered: &mut [u64; GATHERED], kind: usize, g: usize, to: u64)
+    requires { ⌜ (kind < kinds) × (g < maxNodes) ⌝ }
+    ensures { λ _. ⌜ now (gathered .exit) ≡ putIn (now (gathered .entry)) kind g to ⌝ }
 {
-    let at = kind * MAX_EVENTS + e;
-    tables[at] = sets::join(tables[at], to);
+    let at = g * SETS + kind;
+    gathered[at] = sets::join(gathered[at], to);
 }
 
-// The set of each event of from takes in to.
-fn spread(tables: &mut [u64; CELLS], kind: usize, from: u64, to: u64)
-    requires { ⌜ (kind < kinds) × (length (now tables) ≡ cells) ⌝ }
-    ensures { λ _. ⌜ Spread (now (tables .entry)) kind from to (now (tables .exit)) ⌝ }
-{
-    let mut left = from;
-    while left != 0 {
-        let e = sets::least(left) as usize;
-        take_in(tables, kind, e, to);
-        left = sets::less(left, sets::one(e));
-    }
-}
-
-// One relation. A condition or a milestone is entered with the event that it holds back.
-fn add(tables: &mut [u64; CELLS], kind: usize, from: u64, to: u64)
-    requires { ⌜ (kind < kinds) × (length (now tables) ≡ cells) ⌝ }
-    ensures { λ _. ⌜ Added (now (tables .entry)) kind from to (now (tables .exit)) ⌝ }
+// One relation. A condition or a milestone is gathered at the node that it holds back.
+fn add(
+    gathered: &mut [u64; GATHERED],
+    members: &[u64; MAX_NODES],
+    kind: usize,
+    from: usize,
+    to: usize,
+)
+    requires { ⌜ (kind < kinds) × (from < maxNodes) × (to < maxNodes) ⌝ }
+    ensures { λ _. ⌜ now (gathered .exit) ≡ addTo (now (gathered .entry)) (now (members .entry)) kind from to ⌝ }
 {
     if (kind == CONDITION) | (kind == MILESTONE) {
-        spread(tables, kind, to, from);
+        put_in(gathered, kind, to, members[from]);
     } else {
-        spread(tables, kind, from, to);
+        put_in(gathered, kind, from, members[to]);
     }
 }
 
-// Every relation, between the events at or below its two ends.
-pub fn flatten(image: &[u8], n: usize, k: usize, members: &[u64; MAX_NODES]) -> [u64; CELLS]
-    requires { ⌜ Sound (now image) n k ⌝ }
-    ensures { λ r. ⌜ Flat (now (image .entry)) (now (members .entry)) k r ⌝ }
+// Every relation up to the lowest whose record is bad, or k: one pass.
+pub fn gather(
+    image: &[u8],
+    n: usize,
+    k: usize,
+    members: &[u64; MAX_NODES],
+    gathered: &mut [u64; GATHERED],
+) -> usize
+    requires { ⌜ (Whole (now image) n k) × (now gathered ≡ replicate (maxNodes * kinds) 0) ⌝ }
+    ensures { λ r. ⌜ r ≡ first k (badRelationAt (now (image .entry))) ⌝ }
+    ensures { λ r. ⌜ (k ≤ r → Gathered (now (image .entry)) (now (members .entry)) k (now (gathered .exit))) ⌝ }
 {
-    let mut tables = [0u64; CELLS];
     for r in 0..k {
+        if image::bad_relation_at(image, n, r) {
+            return r;
+        }
         let from = image::from_of(image, n, r) as usize;
         let to = image::to_of(image, n, r) as usize;
         let kind = image::kind_of(image, n, r) as usize;
-        add(&mut tables, kind, members[from], members[to]);
+        add(gathered, members, kind, from, to);
+    }
+    k
+}
+
+// Event e takes in what is gathered at node i and at each group above it.
+fn take_above(
+    image: &[u8],
+    n: usize,
+    k: usize,
+    gathered: &[u64; GATHERED],
+    tables: &mut [u64; CELLS],
+    e: usize,
+    i: usize,
+)
+    requires { ⌜ (Whole (now image) n k) × (Straight (now image)) × (e < maxEvents) × (length (now tables) ≡ maxEvents * kinds) × (length (now gathered) ≡ maxNodes * kinds) ⌝ }
+    ensures { λ _. ⌜ Taken (now (image .entry)) (now (gathered .entry)) e i (now (tables .entry)) (now (tables .exit)) ⌝ }
+{
+    let mut c = i;
+    while c < n {
+        reach::take_row(tables, SETS, e, gathered, c);
+        c = image::parent_of(image, c) as usize;
+    }
+}
+
+// The five tables.
+pub fn flatten(
+    image: &[u8],
+    n: usize,
+    k: usize,
+    gathered: &[u64; GATHERED],
+    nodes: &[usize; MAX_EVENTS],
+    events: usize,
+) -> [u64; CELLS]
+    requires { ⌜ (Whole (now image) n k) × (Straight (now image)) × (events ≤ maxEvents) × (length (now gathered) ≡ maxNodes * kinds) ⌝ }
+    ensures { λ r. ⌜ Flat (now (image .entry)) (now (gathered .entry)) (now (nodes .entry)) events r ⌝ }
+{
+    let mut tables = [0u64; CELLS];
+    for e in 0..events {
+        take_above(image, n, k, gathered, &mut tables, e, nodes[e]);
     }
     tables
 }
@@ -120,7 +157,7 @@ pub fn both_at(tables: &[u64; CELLS], e: usize) -> u64
     requires { ⌜ e < maxEvents ⌝ }
     ensures { λ r. ⌜ r ≡ bothAt (now (tables .entry)) e ⌝ }
 {
-    tables[INCLUDE * MAX_EVENTS + e] & tables[EXCLUDE * MAX_EVENTS + e]
+    tables[e * SETS + INCLUDE] & tables[e * SETS + EXCLUDE]
 }
 
 // The lowest event that both includes and excludes an event, or the count of events.
@@ -144,7 +181,7 @@ pub fn table(tables: &[u64; CELLS], kind: usize) -> [u64; MAX_EVENTS]
 {
     let mut out = [0u64; MAX_EVENTS];
     for e in 0..MAX_EVENTS {
-        out[e] = tables[kind * MAX_EVENTS + e];
+        out[e] = tables[e * SETS + kind];
     }
     out
 }

@@ -113,24 +113,11 @@ pub fn first_bad_node(image: &[u8], n: usize, k: usize) -> usize
     n
 }
 
-fn bad_relation_at(image: &[u8], n: usize, k: usize) -> bool
+pub fn bad_relation_at(image: &[u8], n: usize, k: usize) -> bool
     requires { ⌜ (n ≡ nodes (now image)) × (relationAt n k + relationSize ≤ length (now image)) × (n ≤ maxNodes) × (k ≤ maxRelations) ⌝ }
     ensures { λ r. ⌜ r ≡ badRelationAt (now (image .entry)) k ⌝ }
 {
     (n <= from_of(image, n, k) as usize)
         | (n <= to_of(image, n, k) as usize)
         | (KINDS <= kind_of(image, n, k))
-}
-
-// The lowest relation whose record is bad, or k.
-pub fn first_bad_relation(image: &[u8], n: usize, k: usize) -> usize
-    requires { ⌜ Whole (now image) n k ⌝ }
-    ensures { λ r. ⌜ r ≡ first k (badRelationAt (now (image .entry))) ⌝ }
-{
-    for r in 0..k {
-        if bad_relation_at(image, n, r) {
-            return r;
-        }
-    }
-    k
 }

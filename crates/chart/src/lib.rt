@@ -15,13 +15,12 @@ ghost use Rattle.chart.specs.Reading.{refused, readingRelations, reading
 use flatten::CELLS;
 use flatten::CONDITION;
 use flatten::EXCLUDE;
+use flatten::GATHERED;
 use flatten::INCLUDE;
 use flatten::MILESTONE;
 use flatten::RESPONSE;
 use graph::FlatChart;
 use graph::Marking;
-use nesting::ROWS;
-use nesting::WIDTH;
 use paper::Answer;
 use paper::BAD_NODE;
 use paper::BAD_RELATION;
@@ -84,19 +83,19 @@ fn read_relations(
     n: usize,
     k: usize,
     events: usize,
-    rows: &[u64; ROWS],
     groups: &[bool; MAX_NODES],
 ) -> Reading
-    requires { ⌜ Ground (now image) n k (now rows) (now groups) events ⌝ }
+    requires { ⌜ Ground (now image) n k (now groups) events ⌝ }
     ensures { λ r. ⌜ r ≡ readingRelations (now (image .entry)) ⌝ }
 {
-    let bad = image::first_bad_relation(image, n, k);
+    let nodes = nesting::event_nodes(groups, n);
+    let members = flatten::members(image, n, k, &nodes, events);
+    let mut gathered = [0u64; GATHERED];
+    let bad = flatten::gather(image, n, k, &members, &mut gathered);
     if bad < k {
         return refuse(BAD_RELATION, bad as u32, 0);
     }
-    let nodes = nesting::event_nodes(groups, n);
-    let members = flatten::members(rows, &nodes, events, n);
-    let tables = flatten::flatten(image, n, k, &members);
+    let tables = flatten::flatten(image, n, k, &gathered, &nodes, events);
     let from = flatten::first_conflict(&tables, events);
     if from < events {
         let to = sets::least(flatten::both_at(&tables, from));
@@ -118,8 +117,7 @@ fn read_nodes(image: &[u8], n: usize, k: usize) -> Reading
     if bad < n {
         return refuse(BAD_NODE, bad as u32, 0);
     }
-    let rows = nesting::nesting_of(image, n, k);
-    let looped = reach::lowest_on_diagonal(&rows, n, WIDTH);
+    let looped = nesting::lowest_on_loop(image, n, k);
     if looped < n {
         return refuse(PARENTS_LOOP, looped as u32, 0);
     }
@@ -132,7 +130,7 @@ fn read_nodes(image: &[u8], n: usize, k: usize) -> Reading
     if MAX_EVENTS < events {
         return refuse(MANY_EVENTS, events as u32, 0);
     }
-    read_relations(image, n, k, events, &rows, &groups)
+    read_relations(image, n, k, events, &groups)
 }
 
 // The flat chart and the start marking of an image, or the refusal that comes first.

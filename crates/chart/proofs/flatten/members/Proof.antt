@@ -6,10 +6,10 @@ use Rattle.chart.proofs.flatten.members.Statement.{statement}
 use Rattle.chart.proofs.flatten.members.Tie as tie
 
 abbrev Inv-loop : tie.InvT-loop
-Inv-loop rows nodes events n all₀ g₀ all g = (g ≤ n) × Members rows nodes events g all
+Inv-loop image n k nodes events all₀ e₀ all e = (e ≤ events) × Members image nodes e all
 
 abbrev μ-loop : tie.MeasureT-loop
-μ-loop rows nodes events n all₀ g₀ all g = n - g
+μ-loop image n k nodes events all₀ e₀ all e = events - e
 
 pub members-spec : {M : Type 1} → statement M
 members-spec =
@@ -18,10 +18,10 @@ members-spec =
     Inv-loop
     μ-loop
     (λ c. (search needs, search members-none))
+    (λ c. search needs)
+    (λ c. search needs)
     (λ c κs. search needs)
     (λ c. search needs)
     (λ c. search needs)
-    (λ c. search needs)
-    (λ c. search needs)
-    (λ c. (search needs, members-more (c .before .before .loop .inv .1) (c .before .before .before .pre .1) (search needs) (c .members-of .ensures)))
+    (λ c. (search needs, search members-more))
     (λ c. search members-end))

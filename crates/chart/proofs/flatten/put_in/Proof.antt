@@ -1,0 +1,19 @@
+-- `chart::flatten::put_in` meets its contract. Assumes nothing.
+use Rattle.chart.specs.Cells.{putIn}
+use borrow.Author.Needs.{needs}
+use Rattle.chart.proofs.flatten.put_in.Statement.{statement}
+use Rattle.chart.proofs.flatten.put_in.Tie as tie
+
+pub put-in-spec : {M : Type 1} → statement M
+unfolding putIn
+put-in-spec =
+    tie.close
+    (tie.spec
+    (λ c. search needs)
+    (λ c. search needs)
+    (λ c. search needs)
+    (λ c. search needs)
+    (λ c κs. search needs)
+    (λ c. search needs)
+    (λ c. search needs)
+    (λ c. cc))
