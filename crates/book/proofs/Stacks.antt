@@ -7,9 +7,10 @@ use mathlib.Core.Bool.{Bool, true, false}
 use mathlib.Core.List.{List, [], _∷_}
 use lib.ListN.{length, getD, set, length-set, replicate}
 use lib.Seq.{getD-set-same, getD-set-other}
-use borrow.Author.Tests.{eqb-true}
-use Rattle.paper.specs.Limits.{maxMarks, maxStack, wordSize}
-use Rattle.sets.specs.Cases.{both}
+use lib.Dec.{eqb}
+use borrow.Author.Tests.{eqb-true, ne-eqb}
+use Rattle.paper.specs.Limits.{maxMarks, maxStack, wordSize, andWord, orWord, notWord}
+use Rattle.sets.specs.Cases.{cases, both}
 use Rattle.wire.specs.Wire.{u16At}
 use Rattle.book.specs.Text.{Snap, top1, top2, push, eval, top, holds}
 use Rattle.book.specs.Good.{follows, after, goodFrom, good, Legal, legal, follows-after}
@@ -69,6 +70,21 @@ module _ (l : List Bool) (d : ℕ) (full : length l ≡ maxStack) (most : d ≤ 
 -- the same of an equal array and depth
 pub became-at : {st : List Bool} {e : ℕ} {l l′ : List Bool} {k k′ : ℕ} → l ≡ l′ → k ≡ k′ → Became st e l′ k′ → Became st e l k
 became-at p q b = rw (p, q) b
+
+-- ---- the word of a good text, by the arm that takes it
+
+pub no-operator : (w : ℕ) → w < maxMarks → (eqb w andWord ≡ false) × (eqb w orWord ≡ false) × (eqb w notWord ≡ false)
+no-operator w h = (ne-eqb w andWord (λ e. omega arith), ne-eqb w orWord (λ e. omega arith), ne-eqb w notWord (λ e. omega arith))
+
+module _ {w d : ℕ} (l : Legal maxMarks w d) where
+  -- a mark has room
+  pub room-of : w < maxMarks → d < maxStack
+  room-of h = let (a, b, c) = no-operator w h in l .marks a b c .1
+
+  -- a word that is no mark, neither `and` nor `or`, is `not`
+  pub not-of : maxMarks ≤ w → (w ≡ andWord → ⊥) → (w ≡ orWord → ⊥) → w ≡ notWord
+  not-of h a b =
+      cases (eqb w notWord) (eqb-true w notWord) (λ c. absurd (omega (arith, l .marks (ne-eqb w andWord a) (ne-eqb w orWord b) c .0)))
 
 -- ---- the loop
 

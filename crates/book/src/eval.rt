@@ -28,18 +28,20 @@ pub fn text_holds(image: &[u8], at: usize, count: usize, marks: &[bool; MAX_MARK
                 values[depth] = marks[w as usize];
                 depth += 1;
             }
-            paper::AND => {
-                values[depth - 2] = values[depth - 2] & values[depth - 1];
-                depth -= 1;
-            }
-            paper::OR => {
-                values[depth - 2] = values[depth - 2] | values[depth - 1];
-                depth -= 1;
-            }
-            paper::NOT => {
-                values[depth - 1] = !values[depth - 1];
-            }
-            _ => {}
+            // A good text has no other word than these.
+            _ => match w {
+                paper::AND => {
+                    values[depth - 2] = values[depth - 2] & values[depth - 1];
+                    depth -= 1;
+                }
+                paper::OR => {
+                    values[depth - 2] = values[depth - 2] | values[depth - 1];
+                    depth -= 1;
+                }
+                _ => {
+                    values[depth - 1] = !values[depth - 1];
+                }
+            },
         }
         i += 1;
     }

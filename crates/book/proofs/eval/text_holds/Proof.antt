@@ -1,14 +1,14 @@
 -- `book::eval::text_holds` meets its contract. The loop's invariant is `Going`: the rest of the text says of this stack what the whole says of none. Assumes nothing.
 use Prim.Native.Nat.{_-_}
+use mathlib.Core.Path.{_≡_}
 use mathlib.Core.Bool.{not, _&&_, _||_}
 use mathlib.Core.Logic.{⊎-elim}
 use native.Mathlib.Omega.{arith}
 use borrow.Author.Needs.{needs}
-use borrow.Author.Tests.{ne-eqb}
-use Rattle.paper.specs.Limits.{maxMarks}
+use Rattle.paper.specs.Limits.{maxMarks, notWord}
 use Rattle.book.specs.Text.{snapOf, push}
 use Rattle.book.specs.Good.{Legal, after}
-use Rattle.book.proofs.Stacks.{stackOf, Became, two-became, one-became, put-became, became-at, Going, starts, legal-of, goes-on, ends}
+use Rattle.book.proofs.Stacks.{stackOf, Became, two-became, one-became, put-became, became-at, no-operator, room-of, not-of, Going, starts, legal-of, goes-on, ends}
 use Rattle.book.proofs.eval.text_holds.Statement.{statement}
 use Rattle.book.proofs.eval.text_holds.Tie as tie
 
@@ -22,20 +22,22 @@ abbrev μ-loop : tie.MeasureT-loop
 here : (c : tie.After-u16-at Inv-loop μ-loop) → Legal maxMarks (c .u16-at .result) (c .before .before .loop .depth)
 here c = legal-of _ _ _ _ _ _ _ (c .before .before .loop .inv) (c .before .loop-test .taken) _ (c .u16-at .ensures)
 
+-- the last arm has the word `not`
+last : (c : tie.At-match-rest Inv-loop μ-loop) → c .before .before .u16-at .result ≡ notWord
+last c = not-of (here (c .before .before)) (c .before .if1 .left) (c .match .rest .0 .1) (c .match .rest .1)
+
 -- what a turn makes of the stack, by the arm that it took
-turn : (c : tie.At-match-came Inv-loop μ-loop)
+turn : (c : tie.Joined1 Inv-loop μ-loop)
     → Became (push (snapOf (c .before .before .before .before .before .args .marks .now) (c .before .u16-at .result)) (c .before .u16-at .result) (stackOf (c .before .before .before .loop .values) (c .before .before .before .loop .depth)))
-    (after (c .before .u16-at .result) (c .before .before .before .loop .depth)) (c .match .values) (c .match .depth)
+    (after (c .before .u16-at .result) (c .before .before .before .loop .depth)) (c .if1 .values) (c .if1 .depth)
 unfolding push after
 turn c =
     let g = c .before .before .before .loop .inv in
     let l = here (c .before) in
-    ⊎-elim (λ w. became-at (w .1) (w .2) (rw (w .0 .keys1) (two-became _ _ (g .full) (g .most) _&&_ (l .ands (w .0 .keys1)))))
-    (⊎-elim (λ w. became-at (w .1) (w .2) (rw (w .0 .keys2) (two-became _ _ (g .full) (g .most) _||_ (l .ors (w .0 .keys2)))))
-    (⊎-elim (λ w. became-at (w .1) (w .2) (rw (w .0 .keys3) (one-became _ _ (g .full) (g .most) not (l .nots (w .0 .keys3)))))
-    (⊎-elim (λ w. let r = w .0 .rest in became-at (w .3) (w .4) (simp (ne-eqb _ _ (r .0 .0 .1), ne-eqb _ _ (r .0 .1), ne-eqb _ _ (r .1))
-    (put-became _ _ (g .full) (g .most) _ (l .marks (ne-eqb _ _ (r .0 .0 .1)) (ne-eqb _ _ (r .0 .1)) (ne-eqb _ _ (r .1)) .1))))
-    (λ w. let r = w .0 .rest in absurd (omega (arith, w .1 .left, l .marks (ne-eqb _ _ (r .0 .0 .1)) (ne-eqb _ _ (r .0 .1)) (ne-eqb _ _ (r .1)) .0)))))) (c .match .came)
+    ⊎-elim (λ w. let m = no-operator _ (w .0 .taken) in became-at (w .2) (w .3) (simp (m .0, m .1, m .2) (put-became _ _ (g .full) (g .most) _ (room-of l (w .0 .taken)))))
+    (⊎-elim (λ w. became-at (w .2) (w .3) (rw (w .1 .keys1) (two-became _ _ (g .full) (g .most) _&&_ (l .ands (w .1 .keys1)))))
+    (⊎-elim (λ w. became-at (w .2) (w .3) (rw (w .1 .keys2) (two-became _ _ (g .full) (g .most) _||_ (l .ors (w .1 .keys2)))))
+    (λ w. let n = not-of l (w .0 .left) (w .1 .rest .0 .1) (w .1 .rest .1) in became-at (w .2) (w .3) (rw n (one-became _ _ (g .full) (g .most) not (l .nots n)))))) (c .if1 .came)
 
 pub text-holds-spec : {M : Type 1} → statement M
 text-holds-spec =
@@ -47,30 +49,30 @@ text-holds-spec =
     (λ c. omega arith)
     (λ c. omega arith)
     (λ c κs. omega arith)
-    (λ c. omega (arith, here (c .before) .ands (c .match .keys1)))
-    (λ c. omega (arith, here (c .before) .ands (c .match .keys1)))
-    (λ c. omega (arith, here (c .before) .ands (c .match .keys1)))
-    (λ c. omega (arith, here (c .before) .ands (c .match .keys1)))
-    (λ c. omega (arith, here (c .before) .ands (c .match .keys1)))
-    (λ c. omega (arith, here (c .before) .ands (c .match .keys1)))
-    (λ c. omega (arith, here (c .before) .ands (c .match .keys1)))
-    (λ c. omega (arith, here (c .before) .ors (c .match .keys2)))
-    (λ c. omega (arith, here (c .before) .ors (c .match .keys2)))
-    (λ c. omega (arith, here (c .before) .ors (c .match .keys2)))
-    (λ c. omega (arith, here (c .before) .ors (c .match .keys2)))
-    (λ c. omega (arith, here (c .before) .ors (c .match .keys2)))
-    (λ c. omega (arith, here (c .before) .ors (c .match .keys2)))
-    (λ c. omega (arith, here (c .before) .ors (c .match .keys2)))
-    (λ c. omega (arith, here (c .before) .nots (c .match .keys3)))
-    (λ c. omega (arith, here (c .before) .nots (c .match .keys3)))
-    (λ c. omega (arith, here (c .before) .nots (c .match .keys3)))
-    (λ c. omega (arith, here (c .before) .nots (c .match .keys3)))
     (λ c. omega arith)
     (λ c. search needs)
-    (λ c. let r = c .before .before .match .rest in omega (arith, here (c .before .before .before) .marks (ne-eqb _ _ (r .0 .0 .1)) (ne-eqb _ _ (r .0 .1)) (ne-eqb _ _ (r .1)) .1))
-    (λ c. let r = c .before .before .match .rest in omega (arith, here (c .before .before .before) .marks (ne-eqb _ _ (r .0 .0 .1)) (ne-eqb _ _ (r .0 .1)) (ne-eqb _ _ (r .1)) .1))
+    (λ c. omega (arith, room-of (here (c .before .before)) (c .before .if1 .taken)))
+    (λ c. omega (arith, room-of (here (c .before .before)) (c .before .if1 .taken)))
+    (λ c. omega (arith, here (c .before .before) .ands (c .match .keys1)))
+    (λ c. omega (arith, here (c .before .before) .ands (c .match .keys1)))
+    (λ c. omega (arith, here (c .before .before) .ands (c .match .keys1)))
+    (λ c. omega (arith, here (c .before .before) .ands (c .match .keys1)))
+    (λ c. omega (arith, here (c .before .before) .ands (c .match .keys1)))
+    (λ c. omega (arith, here (c .before .before) .ands (c .match .keys1)))
+    (λ c. omega (arith, here (c .before .before) .ands (c .match .keys1)))
+    (λ c. omega (arith, here (c .before .before) .ors (c .match .keys2)))
+    (λ c. omega (arith, here (c .before .before) .ors (c .match .keys2)))
+    (λ c. omega (arith, here (c .before .before) .ors (c .match .keys2)))
+    (λ c. omega (arith, here (c .before .before) .ors (c .match .keys2)))
+    (λ c. omega (arith, here (c .before .before) .ors (c .match .keys2)))
+    (λ c. omega (arith, here (c .before .before) .ors (c .match .keys2)))
+    (λ c. omega (arith, here (c .before .before) .ors (c .match .keys2)))
+    (λ c. omega (arith, here (c .before .before) .nots (last c)))
+    (λ c. omega (arith, here (c .before .before) .nots (last c)))
+    (λ c. omega (arith, here (c .before .before) .nots (last c)))
+    (λ c. omega (arith, here (c .before .before) .nots (last c)))
     (λ c. omega arith)
     (λ c. omega arith)
-    (λ c. goes-on _ _ _ _ _ _ _ (c .before .before .before .loop .inv) (c .before .before .loop-test .taken) _ (c .before .u16-at .ensures) (c .match .values) (c .match .depth) (turn c))
+    (λ c. goes-on _ _ _ _ _ _ _ (c .before .before .before .loop .inv) (c .before .before .loop-test .taken) _ (c .before .u16-at .ensures) (c .if1 .values) (c .if1 .depth) (turn c))
     (λ c. search needs)
     (λ c. ends _ _ _ _ _ _ _ (c .before .loop .inv) (c .loop-test .left)))
