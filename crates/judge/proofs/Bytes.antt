@@ -14,6 +14,7 @@ use Rattle.wire.specs.Wire.{u16At}
 use Rattle.book.specs.Book.{ruleOf}
 use Rattle.book.specs.Image.{rulesIn, rulePlace, triggerFrom, senseFrom, ruleFrom, bookOf}
 use Rattle.book.specs.Read.{rule-read}
+use Rattle.book.specs.declared.Rule.{Rule}
 use Rattle.book.specs.WellFormed.{WellFormed}
 use Rattle.book.specs.Using.{rule-inside}
 use Rattle.judge.specs.Clash.{completesOther, otherStages, isWritten, isNegated, oppositeSenses, apart}
@@ -55,13 +56,30 @@ senses-bytes x y c d =
     or-no true = refl
     or-no false = refl
 
-pub apart-bytes : (s : List ℕ) (a b m n c d : ℕ) → m ≡ u16At s (a + 4) → n ≡ u16At s (b + 4) → c ≡ u16At s (a + 6) → d ≡ u16At s (b + 6)
-    → (((eqb (getD s a 0) 1 && eqb (getD s b 0) 1) && not (eqb m n))
-    || (((eqb (getD s (a + 1) 0) 1 && ltb 1 (getD s (b + 1) 0)) || (ltb 1 (getD s (a + 1) 0) && eqb (getD s (b + 1) 0) 1)) && eqb c d))
-    ≡ apart (ruleFrom s a) (ruleFrom s b)
-unfolding apart ruleFrom
-apart-bytes s a b m n c d e f g h =
-    rw (stages-bytes (getD s a 0) (getD s b 0) m n, senses-bytes (getD s (a + 1) 0) (getD s (b + 1) 0) c d, e, f, g, h)
+module _ (s : List ℕ) (a b : ℕ) where
+  pub stages-both : (m n : ℕ) → m ≡ u16At s (a + 4) → n ≡ u16At s (b + 4) → (eqb (getD s a 0) 1 && eqb (getD s b 0) 1) ≡ true
+      → not (eqb m n) ≡ otherStages (ruleFrom s a .trigger) (ruleFrom s b .trigger)
+  unfolding ruleFrom
+  stages-both m n e f t = rw (e, f) (rw t at (stages-bytes (getD s a 0) (getD s b 0) (u16At s (a + 4)) (u16At s (b + 4))))
+
+  pub stages-none : (eqb (getD s a 0) 1 && eqb (getD s b 0) 1) ≡ false → false ≡ otherStages (ruleFrom s a .trigger) (ruleFrom s b .trigger)
+  unfolding ruleFrom
+  stages-none t = rw t at (stages-bytes (getD s a 0) (getD s b 0) (u16At s (a + 4)) (u16At s (b + 4)))
+
+  pub senses-read : (c d : ℕ) → c ≡ u16At s (a + 6) → d ≡ u16At s (b + 6)
+      → (((eqb (getD s (a + 1) 0) 1 && ltb 1 (getD s (b + 1) 0)) || (ltb 1 (getD s (a + 1) 0) && eqb (getD s (b + 1) 0) 1)) && eqb c d)
+      ≡ oppositeSenses (ruleFrom s a .sense) (ruleFrom s b .sense)
+  unfolding ruleFrom
+  senses-read c d e f = rw (e, f) (senses-bytes (getD s (a + 1) 0) (getD s (b + 1) 0) (u16At s (a + 6)) (u16At s (b + 6)))
+
+module _ (p q : Rule) (r : Bool) (e : r ≡ otherStages (p .trigger) (q .trigger)) where
+  pub apart-stages : r ≡ true → true ≡ apart p q
+  unfolding apart
+  apart-stages t = rw (← e, t)
+
+  pub apart-senses : r ≡ false → (t : Bool) → t ≡ oppositeSenses (p .sense) (q .sense) → t ≡ apart p q
+  unfolding apart
+  apart-senses n t f = rw (← e, n) f
 
 -- ---- the rules of an image
 

@@ -6,7 +6,7 @@ ghost use Rattle.paper.specs.Limits.{maxMarks, ruleSize};
 ghost use Rattle.book.specs.Book.{ruleOf};
 ghost use Rattle.book.specs.Image.{rulesIn, rulePlace, ruleFrom, bookOf};
 ghost use Rattle.book.specs.WellFormed.{WellFormed};
-ghost use Rattle.judge.specs.Clash.{apart};
+ghost use Rattle.judge.specs.Clash.{otherStages, oppositeSenses, apart};
 ghost use Rattle.judge.specs.Pairs.{clashFirst, clashSecond};
 ghost use Rattle.judge.specs.Chains.{side, Chained};
 use paper::BOOK_HEADER;
@@ -52,19 +52,38 @@ fn chain(image: &[u8], rules: usize, same: &mut [u16], opposite: &mut [u16])
     }
 }
 
-// Completions of different stages, or one condition record in opposite senses.
+// Completions of different stages. The records of the two rules begin at the bytes `a` and `b`.
+fn stages_differ(image: &[u8], a: usize, b: usize) -> bool
+    requires { ⌜ (a + ruleSize ≤ length (now image)) × (b + ruleSize ≤ length (now image)) ⌝ }
+    ensures { λ r. ⌜ r ≡ otherStages (ruleFrom (now (image .entry)) a .trigger) (ruleFrom (now (image .entry)) b .trigger) ⌝ }
+{
+    if (image[a] == 1) & (image[b] == 1) {
+        return wire::u16_at(image, a + 4) != wire::u16_at(image, b + 4);
+    }
+    false
+}
+
+// One condition record in opposite senses.
+fn senses_oppose(image: &[u8], a: usize, b: usize) -> bool
+    requires { ⌜ (a + ruleSize ≤ length (now image)) × (b + ruleSize ≤ length (now image)) ⌝ }
+    ensures { λ r. ⌜ r ≡ oppositeSenses (ruleFrom (now (image .entry)) a .sense) (ruleFrom (now (image .entry)) b .sense) ⌝ }
+{
+    let x = image[a + 1];
+    let y = image[b + 1];
+    let opposite = ((x == 1) & (1 < y)) | ((1 < x) & (y == 1));
+    opposite & (wire::u16_at(image, a + 6) == wire::u16_at(image, b + 6))
+}
+
 fn are_apart(image: &[u8], p: usize, q: usize) -> bool
     requires { ⌜ (rulePlace p + ruleSize ≤ length (now image)) × (rulePlace q + ruleSize ≤ length (now image)) ⌝ }
     ensures { λ r. ⌜ r ≡ apart (ruleFrom (now (image .entry)) (rulePlace p)) (ruleFrom (now (image .entry)) (rulePlace q)) ⌝ }
 {
     let a = BOOK_HEADER + RULE_SIZE * p;
     let b = BOOK_HEADER + RULE_SIZE * q;
-    let completed = (image[a] == 1) & (image[b] == 1);
-    let stages = completed & (wire::u16_at(image, a + 4) != wire::u16_at(image, b + 4));
-    let x = image[a + 1];
-    let y = image[b + 1];
-    let opposite = ((x == 1) & (1 < y)) | ((1 < x) & (y == 1));
-    stages | (opposite & (wire::u16_at(image, a + 6) == wire::u16_at(image, b + 6)))
+    if stages_differ(image, a, b) {
+        return true;
+    }
+    senses_oppose(image, a, b)
 }
 
 // Every pair of rules that set and clear one mark, until one is not apart. A pair costs a few compares of bytes. A derived book has at

@@ -1,5 +1,5 @@
 -- `judge::clashes::are_apart` meets its contract. Assumes nothing.
-use Rattle.judge.proofs.Bytes.{apart-bytes}
+use Rattle.judge.proofs.Bytes.{apart-stages, apart-senses}
 use borrow.Author.Needs.{needs}
 use Rattle.judge.proofs.clashes.are_apart.Statement.{statement}
 use Rattle.judge.proofs.clashes.are_apart.Tie as tie
@@ -12,18 +12,7 @@ are-apart-spec =
     (λ c. search needs)
     (λ c. search needs)
     (λ c. search needs)
-    (λ c. search needs)
-    (λ c. search needs)
-    (λ c. search needs)
     (λ c κs. search needs)
-    (λ c. search needs)
+    (λ c. search apart-stages)
     (λ c κs. search needs)
-    (λ c. search needs)
-    (λ c. search needs)
-    (λ c. search needs)
-    (λ c. search needs)
-    (λ c. search needs)
-    (λ c κs. search needs)
-    (λ c. search needs)
-    (λ c κs. search needs)
-    (λ c. search apart-bytes))
+    (λ c. search apart-senses))
