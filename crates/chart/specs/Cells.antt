@@ -147,12 +147,8 @@ nearOf image r = near (kindOf image r) (fromOf image r) (toOf image r)
 abbrev pub farOf : List ℕ → ℕ → ℕ
 farOf image r = far (kindOf image r) (fromOf image r) (toOf image r)
 
-module _ {image : List ℕ} {n r : ℕ} (o : Good image n r) where
-  pub near-fits : nearOf image r < n
-  near-fits = cases (holdsBack (kindOf image r)) (λ t. rw t (o .to)) (λ t. rw t (o .from))
-
-  pub far-fits : farOf image r < n
-  far-fits = cases (holdsBack (kindOf image r)) (λ t. rw t (o .from)) (λ t. rw t (o .to))
+pub near-fits : {image : List ℕ} {n r : ℕ} → Good image n r → nearOf image r < n
+near-fits {image} {n} {r} o = cases (holdsBack (kindOf image r)) (λ t. rw t (o .to)) (λ t. rw t (o .from))
 
 -- relation r gathers f at node g for the kind κ
 abbrev pub entersAt : List ℕ → List ℕ → ℕ → ℕ → ℕ → ℕ → Bool

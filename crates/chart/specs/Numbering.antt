@@ -45,16 +45,6 @@ module _ (f : ℕ → Bool) where
       let l = t .1 in
       (t .0, omega arith, t .2, t .3))
 
-  -- and of no other
-  pub tally-once : (i j : ℕ) → f i ≡ true → f j ≡ true → tally i f ≡ tally j f → i ≡ j
-  tally-once i j p q e =
-      cases (eqb i j) (eqb-true i j)
-      (λ t. absurd (let n : i ≡ j → ⊥ = λ z. contra (eq-eqb i j z) t in
-      contra-lt i j n (λ l. let g = tally-lt i j l p in omega arith) (λ l. let g = tally-lt j i l q in omega arith)))
-    where
-      contra-lt : (i j : ℕ) → (i ≡ j → ⊥) → (i < j → ⊥) → (j < i → ⊥) → ⊥
-      contra-lt i j n a b = a (let h : j ≤ i → ⊥ = λ l. b (omega arith) in omega arith)
-
   -- the first that passes and has the number e is the one that has it
   pub first-numbered : (n i : ℕ) → i < n → f i ≡ true → first n (λ j. f j && eqb (tally j f) (tally i f)) ≡ i
   first-numbered n i h e =
