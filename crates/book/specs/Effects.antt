@@ -1,14 +1,15 @@
 -- "A firing rule sets or clears its target." Assumes nothing.
-use mathlib.Core.Path.{_≡_}
-use mathlib.Core.Bool.{Bool, false, cond}
+use mathlib.Core.Path.{_≡_, refl, sym, ap, _∙_}
+use mathlib.Core.Logic.{_↔_}
+use mathlib.Core.Bool.{Bool, true, false, not, cond, Bool·beq}
 use mathlib.Core.List.{List}
 use Prim.Native.Nat.{ℕ, _<_}
-use lib.ListN.{length, set, length-set, replicate}
-use lib.Seq.{getD-set-same, getD-set-other}
+use lib.ListN.{length, getD, set, length-set, replicate}
+use lib.Seq.{getD-set-same, getD-set-other, set-getD}
 use lib.Dec.{eqb}
 use borrow.Author.Tests.{eqb-true, eqb-false}
 use Rattle.paper.specs.Limits.{maxMarks}
-use Rattle.sets.specs.Cases.{cases}
+use Rattle.sets.specs.Cases.{contra, cases}
 use Rattle.book.specs.Text.{snapOf}
 use Rattle.book.specs.declared.Rule.{Rule}
 use Rattle.book.specs.declared.Snapshot.{Snapshot}
@@ -29,3 +30,25 @@ pub effect-at : (marks : List Bool) (r : Rule) (m : ℕ) → r .target < length 
 effect-at marks r m h =
     cases (eqb m (r .target)) (λ e. rw (e, eqb-true m (r .target) e) (getD-set-same marks (r .target) (r .effect) false h))
     (λ e. rw e (getD-set-other marks (r .target) m (r .effect) false (eqb-false m (r .target) e)))
+
+-- it leaves them as they are exactly if the target has its value
+pub effect-alters : (marks : List Bool) (r : Rule) → r .target < length marks → (not (Bool·beq (getD marks (r .target) false) (r .effect)) ≡ false) ↔ (effectOn marks r ≡ marks)
+effect-alters marks r h =
+    cases (Bool·beq (getD marks (r .target) false) (r .effect))
+    (λ t. rw t (λ e. ap (set marks (r .target)) (sym (same _ _ t)) ∙ set-getD marks (r .target) false, λ z. refl))
+    (λ t. rw t (
+      λ e. contra refl e,
+      λ z.
+          let v : r .effect ≡ getD marks (r .target) false = sym (getD-set-same marks (r .target) (r .effect) false h) ∙ ap (λ (m : List Bool). getD m (r .target) false) z in
+          contra (rw v (itself (getD marks (r .target) false))) t,
+    ))
+  where
+    same : (a b : Bool) → Bool·beq a b ≡ true → a ≡ b
+    same true true e = refl
+    same true false e = contra e refl
+    same false true e = contra e refl
+    same false false e = refl
+
+    itself : (a : Bool) → Bool·beq a a ≡ true
+    itself true = refl
+    itself false = refl

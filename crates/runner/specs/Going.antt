@@ -1,11 +1,13 @@
 -- The turns of a completion, one by one, as the code takes them. Assumes nothing.
 use mathlib.Core.Path.{_≡_, sym, ap, _∙_}
-use mathlib.Core.Bool.{Bool, true, false}
+use mathlib.Core.Logic.{_↔_}
+use mathlib.Core.Bool.{Bool, true, false, _&&_}
 use mathlib.Core.List.{List}
 use Prim.Native.Nat.{ℕ, _+_, _≤_, _<_}
 use native.Mathlib.Omega.{arith}
 use lib.ListN.{length, getD, drop}
 use Rattle.paper.specs.Limits.{maxMarks}
+use Rattle.sets.specs.Cases.{cases, both}
 use Rattle.orders.specs.Snapshots.{stepL, runL-on, runL-end}
 use Rattle.book.specs.Text.{snapOf}
 use Rattle.book.specs.Book.{ruleOf, textOf}
@@ -14,7 +16,7 @@ use Rattle.book.specs.Read.{rule-read}
 use Rattle.book.specs.WellFormed.{WellFormed}
 use Rattle.book.specs.Using.{Known, rule-known}
 use Rattle.book.specs.Firing.{fires, firing, firing-fires}
-use Rattle.book.specs.Effects.{effectOn}
+use Rattle.book.specs.Effects.{effectOn, length-effect}
 use Rattle.book.specs.declared.Rule.{Rule}
 use Rattle.ordering.specs.Rules.{netOf, actsOf}
 use Rattle.ordering.specs.Nets.{rulesOf}
@@ -31,32 +33,38 @@ pub turn-kept : (s : List ℕ) (start : List Bool) (stage : ℕ) (marks : List B
 unfolding stepL netOf actsOf
 turn-kept s start stage marks r e = rw e
 
--- j rules had their turn: what the rest gives from these marks is what the whole gives from the start
+-- j rules had their turn: there are as many marks, and what the rest gives from them is what the whole gives from the start
 abbrev pub Going : List ℕ → List ℕ → List Bool → ℕ → List Bool → ℕ → Type 0
-Going s order start stage marks j = through s start stage marks (drop j order) ≡ through s start stage start order
+Going s order start stage marks j = (length marks ≡ maxMarks) × (through s start stage marks (drop j order) ≡ through s start stage start order)
 
 module _ (s order : List ℕ) (start : List Bool) (stage : ℕ) where
   pub going-last : (marks : List Bool) (j : ℕ) → Going s order start stage marks j → length order ≤ j → marks ≡ through s start stage start order
   unfolding through
-  going-last marks j g h = sym (runL-end (rulesOf s) (actsOf (bookOf s) (snapOf start) stage) order marks j h) ∙ g
+  going-last marks j g h = sym (runL-end (rulesOf s) (actsOf (bookOf s) (snapOf start) stage) order marks j h) ∙ g .1
 
-  module _ (marks : List Bool) (j r : ℕ) (rule : Rule) (b : Bool) (g : Going s order start stage marks j) (h : j < length order) (q : r ≡ getD order j 0) (i : r < rulesIn s) (e : rule ≡ ruleFrom s (rulePlace r))
-      (f : b ≡ firing (textOf (bookOf s)) (snapOf start) stage (snapOf marks) rule) where
+  module _ (marks : List Bool) (j r : ℕ) (rule : Rule) (b a : Bool) (g : Going s order start stage marks j) (h : j < length order) (q : r ≡ getD order j 0) (i : r < rulesIn s) (e : rule ≡ ruleFrom s (rulePlace r))
+      (f : b ≡ firing (textOf (bookOf s)) (snapOf start) stage (snapOf marks) rule) (x : (a ≡ false) ↔ (effectOn marks rule ≡ marks)) where
     read : rule ≡ ruleOf (bookOf s) r
     read = e ∙ sym (rule-read s r i)
 
     fires-so : b ≡ fires (bookOf s) (snapOf start) stage (snapOf marks) r
     fires-so = f ∙ firing-fires (bookOf s) (snapOf start) stage (snapOf marks) r rule read
 
-    going-on : (marks′ : List Bool) → stepL (rulesOf s) (actsOf (bookOf s) (snapOf start) stage) marks r ≡ marks′ → Going s order start stage marks′ (j + 1)
+    going-on : (marks′ : List Bool) → length marks′ ≡ maxMarks → stepL (rulesOf s) (actsOf (bookOf s) (snapOf start) stage) marks r ≡ marks′ → Going s order start stage marks′ (j + 1)
     unfolding through
-    going-on marks′ z = sym (runL-on (rulesOf s) (actsOf (bookOf s) (snapOf start) stage) order marks j h ∙ rw (← q, z)) ∙ g
+    going-on marks′ l z = (l, sym (runL-on (rulesOf s) (actsOf (bookOf s) (snapOf start) stage) order marks j h ∙ rw (← q, z)) ∙ g .1)
 
-    pub going-fired : (marks′ : List Bool) → b ≡ true → marks′ ≡ effectOn marks rule → Going s order start stage marks′ (j + 1)
-    going-fired marks′ t z = going-on marks′ (turn-fired s start stage marks r (sym fires-so ∙ t) ∙ sym (z ∙ ap (effectOn marks) read))
+    fired : (marks′ : List Bool) → b ≡ true → marks′ ≡ effectOn marks rule → Going s order start stage marks′ (j + 1)
+    fired marks′ t z = going-on marks′ (rw z (length-effect marks rule ∙ g .0)) (turn-fired s start stage marks r (sym fires-so ∙ t) ∙ sym (z ∙ ap (effectOn marks) read))
 
-    pub going-kept : (marks′ : List Bool) → b ≡ false → marks′ ≡ marks → Going s order start stage marks′ (j + 1)
-    going-kept marks′ t z = going-on marks′ (turn-kept s start stage marks r (sym fires-so ∙ t) ∙ sym z)
+    pub going-altered : (marks′ : List Bool) → (b && a) ≡ true → marks′ ≡ effectOn marks rule → Going s order start stage marks′ (j + 1)
+    going-altered marks′ t z = fired marks′ (both b a t .0) z
+
+    -- the rule does not fire, or it fires and leaves its target as it is
+    pub going-kept : (marks′ : List Bool) → (b && a) ≡ false → marks′ ≡ marks → Going s order start stage marks′ (j + 1)
+    going-kept marks′ t z =
+        cases b (λ u. fired marks′ u (z ∙ sym (x .0 (rw u at t))))
+        (λ u. going-on marks′ (rw z (g .0)) (turn-kept s start stage marks r (sym fires-so ∙ u) ∙ sym z))
 
 pub entry-below : (s order : List ℕ) (j r : ℕ) → ((j : ℕ) → j < length order → getD order j 0 < rulesIn s) → j < length order → r ≡ getD order j 0 → r < rulesIn s
 entry-below s order j r f h e = rw e (f j h)

@@ -6,13 +6,14 @@ ghost use Rattle.book.specs.Image.{rulesIn};
 ghost use Rattle.book.specs.Using.{Placed};
 ghost use Rattle.runner.specs.Completing.{through};
 use book::Snapshot;
+use book::applying::alters;
 use book::applying::applied;
 use book::firing::rule_fires;
 use book::rules::rule_at;
 use ordering::fit::entry_of;
 
-// The snapshot after the turns. Conditions begin at the byte `begin`, words at the byte `from`. A rule that does not fire copies
-// nothing; one that fires goes through `applied`, whose one store is in place and which copies the 256 marks.
+// The snapshot after the turns. Conditions begin at the byte `begin`, words at the byte `from`. A rule that alters
+// nothing copies nothing; one that alters its target goes through `applied`, whose one store is in place and which copies the 256 marks.
 pub fn go_through(
     book: &[u8],
     begin: usize,
@@ -29,7 +30,8 @@ pub fn go_through(
     let mut j = 0;
     while j < order.len() {
         let rule = rule_at(book, entry_of(order, j));
-        if rule_fires(book, begin, from, rule, stage, &start, &held.marks) {
+        let fires = rule_fires(book, begin, from, rule, stage, &start, &held.marks);
+        if fires & alters(&held.marks, rule) {
             let next = applied(held, rule);
             held = next;
         }

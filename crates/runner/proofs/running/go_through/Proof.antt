@@ -1,13 +1,12 @@
 -- `runner::running::go_through` meets its contract. Assumes nothing.
 use Rattle.book.specs.declared.Snapshot.{Snapshot}
-use mathlib.Core.Path.{ap, _∙_}
+use mathlib.Core.Path.{refl, ap, _∙_}
 use Rattle.book.specs.Using.{rule-inside}
 use mathlib.Core.Logic.{⊎-elim}
 use Prim.Native.Nat.{_-_}
-use Rattle.runner.specs.Going.{Going, entry-below, known-so, target-so, going-last, going-fired, going-kept}
+use Rattle.runner.specs.Going.{Going, entry-below, known-so, target-so, going-last, going-altered, going-kept}
 use borrow.Author.Needs.{needs}
 use lib.ListN.{length}
-use mathlib.Core.Path.{refl}
 use Rattle.runner.proofs.running.go_through.Statement.{statement}
 use Rattle.runner.proofs.running.go_through.Tie as tie
 
@@ -23,12 +22,13 @@ go-through-spec =
     (tie.spec
     Inv-loop
     μ-loop
-    (λ c. refl)
+    (λ c. (search needs, refl))
     (λ c κs. search needs)
     (λ c κs. rule-inside _ (c .before .before .before .before .before .before .pre .0 .formed) _ (entry-below _ (c .before .before .before .before .before .before .args .order .now) _ _ (c .before .before .before .before .before .before .pre .1) (c .before .loop-test .taken) (c .entry-of .ensures)))
     (λ c κs. ((c .before .before .before .before .before .before .before .before .before .before .pre .0), known-so _ _ _ (c .before .before .before .before .before .before .before .before .before .before .pre .0 .formed) (entry-below _ (c .before .before .before .before .before .before .before .before .before .before .args .order .now) _ _ (c .before .before .before .before .before .before .before .before .before .before .pre .1) (c .before .before .before .before .before .loop-test .taken) (c .before .before .before .before .entry-of .ensures)) (c .before .before .before .rule-at .ensures)))
-    (λ c κs. target-so _ _ _ (c .before .before .before .before .before .before .before .before .before .before .before .before .pre .0 .formed) (entry-below _ (c .before .before .before .before .before .before .before .before .before .before .before .before .args .order .now) _ _ (c .before .before .before .before .before .before .before .before .before .before .before .before .pre .1) (c .before .before .before .before .before .before .before .loop-test .taken) (c .before .before .before .before .before .before .entry-of .ensures)) (c .before .before .before .before .before .rule-at .ensures))
+    (λ c κs. (target-so _ _ _ (c .before .before .before .before .before .before .before .before .before .before .before .before .before .pre .0 .formed) (entry-below _ (c .before .before .before .before .before .before .before .before .before .before .before .before .before .args .order .now) _ _ (c .before .before .before .before .before .before .before .before .before .before .before .before .before .pre .1) (c .before .before .before .before .before .before .before .before .loop-test .taken) (c .before .before .before .before .before .before .before .entry-of .ensures)) (c .before .before .before .before .before .before .rule-at .ensures), c .before .before .before .before .before .before .before .before .before .loop .inv .0))
+    (λ c κs. target-so _ _ _ (c .before .before .before .before .before .before .before .before .before .before .before .before .before .before .before .pre .0 .formed) (entry-below _ (c .before .before .before .before .before .before .before .before .before .before .before .before .before .before .before .args .order .now) _ _ (c .before .before .before .before .before .before .before .before .before .before .before .before .before .before .before .pre .1) (c .before .before .before .before .before .before .before .before .before .before .loop-test .taken) (c .before .before .before .before .before .before .before .before .before .entry-of .ensures)) (c .before .before .before .before .before .before .before .before .rule-at .ensures))
     (λ c. search needs)
     (λ c. search needs)
-    (λ c. ⊎-elim (λ w. going-fired _ _ _ _ _ _ _ _ _ (c .before .before .before .before .before .before .before .before .loop .inv) (c .before .before .before .before .before .before .before .loop-test .taken) (c .before .before .before .before .before .before .entry-of .ensures) (entry-below _ (c .before .before .before .before .before .before .before .before .before .before .before .before .args .order .now) _ _ (c .before .before .before .before .before .before .before .before .before .before .before .before .pre .1) (c .before .before .before .before .before .before .before .loop-test .taken) (c .before .before .before .before .before .before .entry-of .ensures)) (c .before .before .before .before .before .rule-at .ensures) (c .before .rule-fires .ensures) _ (w .0 .taken) (ap (λ (h : Snapshot). h .marks) (w .2) ∙ w .1 .ensures)) (λ w. going-kept _ _ _ _ _ _ _ _ _ (c .before .before .before .before .before .before .before .before .loop .inv) (c .before .before .before .before .before .before .before .loop-test .taken) (c .before .before .before .before .before .before .entry-of .ensures) (entry-below _ (c .before .before .before .before .before .before .before .before .before .before .before .before .args .order .now) _ _ (c .before .before .before .before .before .before .before .before .before .before .before .before .pre .1) (c .before .before .before .before .before .before .before .loop-test .taken) (c .before .before .before .before .before .before .entry-of .ensures)) (c .before .before .before .before .before .rule-at .ensures) (c .before .rule-fires .ensures) _ (w .0 .left) (ap (λ (h : Snapshot). h .marks) (w .1))) (c .if1 .came))
+    (λ c. ⊎-elim (λ w. going-altered _ _ _ _ _ _ _ _ _ _ (c .before .before .before .before .before .before .before .before .before .before .before .loop .inv) (c .before .before .before .before .before .before .before .before .before .before .loop-test .taken) (c .before .before .before .before .before .before .before .before .before .entry-of .ensures) (entry-below _ (c .before .before .before .before .before .before .before .before .before .before .before .before .before .before .before .args .order .now) _ _ (c .before .before .before .before .before .before .before .before .before .before .before .before .before .before .before .pre .1) (c .before .before .before .before .before .before .before .before .before .before .loop-test .taken) (c .before .before .before .before .before .before .before .before .before .entry-of .ensures)) (c .before .before .before .before .before .before .before .before .rule-at .ensures) (c .before .before .before .before .rule-fires .ensures) (c .before .alters .ensures) _ (w .0 .taken) (ap (λ (h : Snapshot). h .marks) (w .2) ∙ w .1 .ensures)) (λ w. going-kept _ _ _ _ _ _ _ _ _ _ (c .before .before .before .before .before .before .before .before .before .before .before .loop .inv) (c .before .before .before .before .before .before .before .before .before .before .loop-test .taken) (c .before .before .before .before .before .before .before .before .before .entry-of .ensures) (entry-below _ (c .before .before .before .before .before .before .before .before .before .before .before .before .before .before .before .args .order .now) _ _ (c .before .before .before .before .before .before .before .before .before .before .before .before .before .before .before .pre .1) (c .before .before .before .before .before .before .before .before .before .before .loop-test .taken) (c .before .before .before .before .before .before .before .before .before .entry-of .ensures)) (c .before .before .before .before .before .before .before .before .rule-at .ensures) (c .before .before .before .before .rule-fires .ensures) (c .before .alters .ensures) _ (w .0 .left) (ap (λ (h : Snapshot). h .marks) (w .1))) (c .if1 .came))
     (λ c. going-last _ _ _ _ _ _ (c .before .loop .inv) (c .loop-test .left)))
