@@ -1,13 +1,13 @@
 -- The turns of a completion, one by one, as the code takes them. Assumes nothing.
-use mathlib.Core.Path.{_≡_, sym, ap, _∙_}
+use mathlib.Core.Path.{_≡_, refl, sym, ap, _∙_}
 use mathlib.Core.Logic.{_↔_}
-use mathlib.Core.Bool.{Bool, true, false, _&&_}
+use mathlib.Core.Bool.{Bool, true, false}
 use mathlib.Core.List.{List}
 use Prim.Native.Nat.{ℕ, _+_, _≤_, _<_}
 use native.Mathlib.Omega.{arith}
 use lib.ListN.{length, getD, drop}
 use Rattle.paper.specs.Limits.{maxMarks}
-use Rattle.sets.specs.Cases.{cases, both}
+use Rattle.sets.specs.Cases.{cases}
 use Rattle.orders.specs.Snapshots.{stepL, runL-on, runL-end}
 use Rattle.book.specs.Text.{snapOf}
 use Rattle.book.specs.Book.{ruleOf, textOf}
@@ -42,29 +42,27 @@ module _ (s order : List ℕ) (start : List Bool) (stage : ℕ) where
   unfolding through
   going-last marks j g h = sym (runL-end (rulesOf s) (actsOf (bookOf s) (snapOf start) stage) order marks j h) ∙ g .1
 
-  module _ (marks : List Bool) (j r : ℕ) (rule : Rule) (b a : Bool) (g : Going s order start stage marks j) (h : j < length order) (q : r ≡ getD order j 0) (i : r < rulesIn s) (e : rule ≡ ruleFrom s (rulePlace r))
-      (f : b ≡ firing (textOf (bookOf s)) (snapOf start) stage (snapOf marks) rule) (x : (a ≡ false) ↔ (effectOn marks rule ≡ marks)) where
+  module _ (marks : List Bool) (j r : ℕ) (rule : Rule) (g : Going s order start stage marks j) (h : j < length order) (q : r ≡ getD order j 0) (i : r < rulesIn s) (e : rule ≡ ruleFrom s (rulePlace r)) where
     read : rule ≡ ruleOf (bookOf s) r
     read = e ∙ sym (rule-read s r i)
 
-    fires-so : b ≡ fires (bookOf s) (snapOf start) stage (snapOf marks) r
-    fires-so = f ∙ firing-fires (bookOf s) (snapOf start) stage (snapOf marks) r rule read
+    fires-so : {b : Bool} → b ≡ firing (textOf (bookOf s)) (snapOf start) stage (snapOf marks) rule → b ≡ fires (bookOf s) (snapOf start) stage (snapOf marks) r
+    fires-so f = f ∙ firing-fires (bookOf s) (snapOf start) stage (snapOf marks) r rule read
 
     going-on : (marks′ : List Bool) → length marks′ ≡ maxMarks → stepL (rulesOf s) (actsOf (bookOf s) (snapOf start) stage) marks r ≡ marks′ → Going s order start stage marks′ (j + 1)
     unfolding through
     going-on marks′ l z = (l, sym (runL-on (rulesOf s) (actsOf (bookOf s) (snapOf start) stage) order marks j h ∙ rw (← q, z)) ∙ g .1)
 
-    fired : (marks′ : List Bool) → b ≡ true → marks′ ≡ effectOn marks rule → Going s order start stage marks′ (j + 1)
-    fired marks′ t z = going-on marks′ (rw z (length-effect marks rule ∙ g .0)) (turn-fired s start stage marks r (sym fires-so ∙ t) ∙ sym (z ∙ ap (effectOn marks) read))
+    pub going-fired : (marks′ : List Bool) {b : Bool} → b ≡ firing (textOf (bookOf s)) (snapOf start) stage (snapOf marks) rule → b ≡ true → marks′ ≡ effectOn marks rule → Going s order start stage marks′ (j + 1)
+    going-fired marks′ f t z = going-on marks′ (rw z (length-effect marks rule ∙ g .0)) (turn-fired s start stage marks r (sym (fires-so f) ∙ t) ∙ sym (z ∙ ap (effectOn marks) read))
 
-    pub going-altered : (marks′ : List Bool) → (b && a) ≡ true → marks′ ≡ effectOn marks rule → Going s order start stage marks′ (j + 1)
-    going-altered marks′ t z = fired marks′ (both b a t .0) z
+    pub going-kept : (marks′ : List Bool) {b : Bool} → b ≡ firing (textOf (bookOf s)) (snapOf start) stage (snapOf marks) rule → b ≡ false → marks′ ≡ marks → Going s order start stage marks′ (j + 1)
+    going-kept marks′ f t z = going-on marks′ (rw z (g .0)) (turn-kept s start stage marks r (sym (fires-so f) ∙ t) ∙ sym z)
 
-    -- the rule does not fire, or it fires and leaves its target as it is
-    pub going-kept : (marks′ : List Bool) → (b && a) ≡ false → marks′ ≡ marks → Going s order start stage marks′ (j + 1)
-    going-kept marks′ t z =
-        cases b (λ u. fired marks′ u (z ∙ sym (x .0 (rw u at t))))
-        (λ u. going-on marks′ (rw z (g .0)) (turn-kept s start stage marks r (sym fires-so ∙ u) ∙ sym z))
+    -- whether it fires or not, it leaves the marks as they are
+    pub going-idle : (marks′ : List Bool) {a : Bool} → (a ≡ false) ↔ (effectOn marks rule ≡ marks) → a ≡ false → marks′ ≡ marks → Going s order start stage marks′ (j + 1)
+    going-idle marks′ x t z =
+        cases (firing (textOf (bookOf s)) (snapOf start) stage (snapOf marks) rule) (λ u. going-fired marks′ refl u (z ∙ sym (x .0 t))) (λ u. going-kept marks′ refl u z)
 
 pub entry-below : (s order : List ℕ) (j r : ℕ) → ((j : ℕ) → j < length order → getD order j 0 < rulesIn s) → j < length order → r ≡ getD order j 0 → r < rulesIn s
 entry-below s order j r f h e = rw e (f j h)

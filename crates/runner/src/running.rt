@@ -12,8 +12,9 @@ use book::firing::rule_fires;
 use book::rules::rule_at;
 use ordering::fit::entry_of;
 
-// The snapshot after the turns. Conditions begin at the byte `begin`, words at the byte `from`. A rule that alters
-// nothing copies nothing; one that alters its target goes through `applied`, whose one store is in place and which copies the 256 marks.
+// The snapshot after the turns. Conditions begin at the byte `begin`, words at the byte `from`. A rule whose target has its value already
+// cannot alter it, so its condition is not evaluated; one that fires goes through `applied`, whose one store is in place and which copies
+// the 256 marks.
 pub fn go_through(
     book: &[u8],
     begin: usize,
@@ -30,10 +31,11 @@ pub fn go_through(
     let mut j = 0;
     while j < order.len() {
         let rule = rule_at(book, entry_of(order, j));
-        let fires = rule_fires(book, begin, from, rule, stage, &start, &held.marks);
-        if fires & alters(&held.marks, rule) {
-            let next = applied(held, rule);
-            held = next;
+        if alters(&held.marks, rule) {
+            if rule_fires(book, begin, from, rule, stage, &start, &held.marks) {
+                let next = applied(held, rule);
+                held = next;
+            }
         }
         j += 1;
     }

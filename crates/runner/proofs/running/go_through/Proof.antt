@@ -4,7 +4,7 @@ use mathlib.Core.Path.{refl, ap, _∙_}
 use Rattle.book.specs.Using.{rule-inside}
 use mathlib.Core.Logic.{⊎-elim}
 use Prim.Native.Nat.{_-_}
-use Rattle.runner.specs.Going.{Going, entry-below, known-so, target-so, going-last, going-altered, going-kept}
+use Rattle.runner.specs.Going.{Going, entry-below, known-so, target-so, going-last, going-fired, going-kept, going-idle}
 use borrow.Author.Needs.{needs}
 use lib.ListN.{length}
 use Rattle.runner.proofs.running.go_through.Statement.{statement}
@@ -25,10 +25,12 @@ go-through-spec =
     (λ c. (search needs, refl))
     (λ c κs. search needs)
     (λ c κs. rule-inside _ (c .before .before .before .before .before .before .pre .0 .formed) _ (entry-below _ (c .before .before .before .before .before .before .args .order .now) _ _ (c .before .before .before .before .before .before .pre .1) (c .before .loop-test .taken) (c .entry-of .ensures)))
-    (λ c κs. ((c .before .before .before .before .before .before .before .before .before .before .pre .0), known-so _ _ _ (c .before .before .before .before .before .before .before .before .before .before .pre .0 .formed) (entry-below _ (c .before .before .before .before .before .before .before .before .before .before .args .order .now) _ _ (c .before .before .before .before .before .before .before .before .before .before .pre .1) (c .before .before .before .before .before .loop-test .taken) (c .before .before .before .before .entry-of .ensures)) (c .before .before .before .rule-at .ensures)))
-    (λ c κs. (target-so _ _ _ (c .before .before .before .before .before .before .before .before .before .before .before .before .before .pre .0 .formed) (entry-below _ (c .before .before .before .before .before .before .before .before .before .before .before .before .before .args .order .now) _ _ (c .before .before .before .before .before .before .before .before .before .before .before .before .before .pre .1) (c .before .before .before .before .before .before .before .before .loop-test .taken) (c .before .before .before .before .before .before .before .entry-of .ensures)) (c .before .before .before .before .before .before .rule-at .ensures), c .before .before .before .before .before .before .before .before .before .loop .inv .0))
-    (λ c κs. target-so _ _ _ (c .before .before .before .before .before .before .before .before .before .before .before .before .before .before .before .pre .0 .formed) (entry-below _ (c .before .before .before .before .before .before .before .before .before .before .before .before .before .before .before .args .order .now) _ _ (c .before .before .before .before .before .before .before .before .before .before .before .before .before .before .before .pre .1) (c .before .before .before .before .before .before .before .before .before .before .loop-test .taken) (c .before .before .before .before .before .before .before .before .before .entry-of .ensures)) (c .before .before .before .before .before .before .before .before .rule-at .ensures))
+    (λ c κs. (target-so _ _ _ (c .before .before .before .before .before .before .before .before .before .pre .0 .formed) (entry-below _ (c .before .before .before .before .before .before .before .before .before .args .order .now) _ _ (c .before .before .before .before .before .before .before .before .before .pre .1) (c .before .before .before .before .loop-test .taken) (c .before .before .before .entry-of .ensures)) (c .before .before .rule-at .ensures), c .before .before .before .before .before .loop .inv .0))
+    (λ c κs. ((c .before .before .before .before .before .before .before .before .before .before .before .before .before .before .pre .0), known-so _ _ _ (c .before .before .before .before .before .before .before .before .before .before .before .before .before .before .pre .0 .formed) (entry-below _ (c .before .before .before .before .before .before .before .before .before .before .before .before .before .before .args .order .now) _ _ (c .before .before .before .before .before .before .before .before .before .before .before .before .before .before .pre .1) (c .before .before .before .before .before .before .before .before .before .loop-test .taken) (c .before .before .before .before .before .before .before .before .entry-of .ensures)) (c .before .before .before .before .before .before .before .rule-at .ensures)))
+    (λ c κs. target-so _ _ _ (c .before .before .before .before .before .before .before .before .before .before .before .before .before .before .before .before .pre .0 .formed) (entry-below _ (c .before .before .before .before .before .before .before .before .before .before .before .before .before .before .before .before .args .order .now) _ _ (c .before .before .before .before .before .before .before .before .before .before .before .before .before .before .before .before .pre .1) (c .before .before .before .before .before .before .before .before .before .before .before .loop-test .taken) (c .before .before .before .before .before .before .before .before .before .before .entry-of .ensures)) (c .before .before .before .before .before .before .before .before .before .rule-at .ensures))
     (λ c. search needs)
     (λ c. search needs)
-    (λ c. ⊎-elim (λ w. going-altered _ _ _ _ _ _ _ _ _ _ (c .before .before .before .before .before .before .before .before .before .before .before .loop .inv) (c .before .before .before .before .before .before .before .before .before .before .loop-test .taken) (c .before .before .before .before .before .before .before .before .before .entry-of .ensures) (entry-below _ (c .before .before .before .before .before .before .before .before .before .before .before .before .before .before .before .args .order .now) _ _ (c .before .before .before .before .before .before .before .before .before .before .before .before .before .before .before .pre .1) (c .before .before .before .before .before .before .before .before .before .before .loop-test .taken) (c .before .before .before .before .before .before .before .before .before .entry-of .ensures)) (c .before .before .before .before .before .before .before .before .rule-at .ensures) (c .before .before .before .before .rule-fires .ensures) (c .before .alters .ensures) _ (w .0 .taken) (ap (λ (h : Snapshot). h .marks) (w .2) ∙ w .1 .ensures)) (λ w. going-kept _ _ _ _ _ _ _ _ _ _ (c .before .before .before .before .before .before .before .before .before .before .before .loop .inv) (c .before .before .before .before .before .before .before .before .before .before .loop-test .taken) (c .before .before .before .before .before .before .before .before .before .entry-of .ensures) (entry-below _ (c .before .before .before .before .before .before .before .before .before .before .before .before .before .before .before .args .order .now) _ _ (c .before .before .before .before .before .before .before .before .before .before .before .before .before .before .before .pre .1) (c .before .before .before .before .before .before .before .before .before .before .loop-test .taken) (c .before .before .before .before .before .before .before .before .before .entry-of .ensures)) (c .before .before .before .before .before .before .before .before .rule-at .ensures) (c .before .before .before .before .rule-fires .ensures) (c .before .alters .ensures) _ (w .0 .left) (ap (λ (h : Snapshot). h .marks) (w .1))) (c .if1 .came))
+    (λ c. ⊎-elim (λ w. going-fired _ _ _ _ _ _ _ _ (c .before .before .before .before .before .before .before .loop .inv) (c .before .before .before .before .before .before .loop-test .taken) (c .before .before .before .before .before .entry-of .ensures) (entry-below _ (c .before .before .before .before .before .before .before .before .before .before .before .args .order .now) _ _ (c .before .before .before .before .before .before .before .before .before .before .before .pre .1) (c .before .before .before .before .before .before .loop-test .taken) (c .before .before .before .before .before .entry-of .ensures)) (c .before .before .before .before .rule-at .ensures) _ (w .4 .ensures) (w .5 .taken) (ap (λ (h : Snapshot). h .marks) (w .7) ∙ w .6 .ensures))
+    (⊎-elim (λ w. going-kept _ _ _ _ _ _ _ _ (c .before .before .before .before .before .before .before .loop .inv) (c .before .before .before .before .before .before .loop-test .taken) (c .before .before .before .before .before .entry-of .ensures) (entry-below _ (c .before .before .before .before .before .before .before .before .before .before .before .args .order .now) _ _ (c .before .before .before .before .before .before .before .before .before .before .before .pre .1) (c .before .before .before .before .before .before .loop-test .taken) (c .before .before .before .before .before .entry-of .ensures)) (c .before .before .before .before .rule-at .ensures) _ (w .4 .ensures) (w .5 .left) (ap (λ (h : Snapshot). h .marks) (w .6)))
+    (λ w. going-idle _ _ _ _ _ _ _ _ (c .before .before .before .before .before .before .before .loop .inv) (c .before .before .before .before .before .before .loop-test .taken) (c .before .before .before .before .before .entry-of .ensures) (entry-below _ (c .before .before .before .before .before .before .before .before .before .before .before .args .order .now) _ _ (c .before .before .before .before .before .before .before .before .before .before .before .pre .1) (c .before .before .before .before .before .before .loop-test .taken) (c .before .before .before .before .before .entry-of .ensures)) (c .before .before .before .before .rule-at .ensures) _ (c .before .alters .ensures) (w .0 .left) (ap (λ (h : Snapshot). h .marks) (w .1)))) (c .if1 .came))
     (λ c. going-last _ _ _ _ _ _ (c .before .loop .inv) (c .loop-test .left)))
