@@ -1,14 +1,15 @@
 -- What the bytes of two rule records say of the rules. Assumes nothing.
 use mathlib.Core.Path.{_≡_, refl, sym, ap, subst, _∙_}
-use mathlib.Core.Bool.{Bool, true, false, not, _&&_, _||_}
+use mathlib.Core.Bool.{Bool, true, false, not, cond, _&&_, _||_}
 use mathlib.Core.List.{List}
 use Prim.Native.Nat.{ℕ, suc, _+_, _-_, _*_, _≤_, _<_}
 use native.Mathlib.Omega.{arith}
 use lib.Dec.{eqb, ltb}
 use lib.ListN.{length, getD, set, replicate}
-use borrow.Author.Tests.{eqb-true, eqb-false, lt-ltb}
-use Rattle.paper.specs.Limits.{maxMarks, ruleSize}
+use borrow.Author.Tests.{eqb-true, eqb-false, ne-eqb, lt-ltb, ltb-true}
+use Rattle.paper.specs.Limits.{maxMarks, maxEvents, ruleSize}
 use Rattle.sets.specs.Cases.{cases}
+use Rattle.sets.specs.Set.{union, inter, only, allBelow}
 use Rattle.sets.specs.Tables.{length-tabulate}
 use Rattle.wire.specs.Wire.{u16At}
 use Rattle.book.specs.Book.{ruleOf}
@@ -16,9 +17,9 @@ use Rattle.book.specs.Image.{rulesIn, rulePlace, triggerFrom, senseFrom, ruleFr
 use Rattle.book.specs.Read.{rule-read}
 use Rattle.book.specs.declared.Rule.{Rule}
 use Rattle.book.specs.WellFormed.{WellFormed}
-use Rattle.book.specs.Using.{rule-inside}
+use Rattle.book.specs.Using.{triggerExists, known-wider, rule-known, rule-inside}
 use Rattle.judge.specs.Clash.{completesOther, otherStages, isWritten, isNegated, oppositeSenses, apart}
-use Rattle.judge.specs.Chains.{side, does, undoes, Chained}
+use Rattle.judge.specs.Chains.{side, does, undoes, stagesOf, Chained}
 use Rattle.judge.proofs.Links.{Linked, linked-start, linked-more, linked-end}
 
 -- ---- apart, by bytes
@@ -101,49 +102,70 @@ module _ (s : List ℕ) where
 
 -- ---- the pass that makes the chains
 
-pub record Linking (s : List ℕ) (rules : ℕ) (same opposite next : List ℕ) (r : ℕ) : Type 0 where
+pub record Linking (s : List ℕ) (rules : ℕ) (same opposite next stages : List ℕ) (low r : ℕ) : Type 0 where
   pub formed : WellFormed s
-  pub linked : Linked (bookOf s) rules same opposite next r
+  pub linked : Linked (bookOf s) rules same opposite next stages low r
 
 module _ (s : List ℕ) (rules : ℕ) (same opposite : List ℕ) where
-  pub linking-start : (next : List ℕ) → WellFormed s → rules ≡ rulesIn s → rules ≤ length same → rules ≤ length opposite → next ≡ replicate (2 * maxMarks) rules
-      → Linking s rules same opposite next rules
-  linking-start next w e i j f =
-      record { formed = w; linked = rw f (linked-start (bookOf s) rules same opposite (e ∙ sym (rules-count s)) (rw e (w .headed .counted .rules)) i j) }
+  pub linking-start : (next stages : List ℕ) → WellFormed s → rules ≡ rulesIn s → rules ≤ length same → rules ≤ length opposite → next ≡ replicate (2 * maxMarks) rules
+      → stages ≡ replicate (2 * maxMarks) 0 → Linking s rules same opposite next stages rules rules
+  linking-start next stages w e i j f k =
+      record {
+        formed = w;
+        linked = rw (f, k) (linked-start (bookOf s) rules same opposite (e ∙ sym (rules-count s)) (rw e (w .headed .counted .rules))
+            (λ y h. let l : y < rulesIn s = omega arith in
+            rw (rule-read s y l) (known-wider _ _ _ _ (ruleFrom s (rulePlace y) .trigger) (w .headed .counted .stages) (w .headed .counted .marks) (rule-known s w y l .trigger)))
+            i j);
+      }
 
-  module _ (next : List ℕ) (r : ℕ) (g : Linking s rules same opposite next r) where
+  module _ (next stages : List ℕ) (low r : ℕ) (g : Linking s rules same opposite next stages low r) where
     pub linking-known : rules ≡ rulesIn s
     linking-known = g .linked .count ∙ rules-count s
 
     module _ (h : 0 < r) where
+      inside : r - 1 < rulesIn s
+      inside = let e = linking-known in let f = g .linked .fits in omega arith
+
       pub linking-inside : rulePlace (r - 1) + ruleSize ≤ length s
-      linking-inside =
-          let e = linking-known in
-          let f = g .linked .fits in
-          rule-inside s (g .formed) (r - 1) (omega arith)
+      linking-inside = rule-inside s (g .formed) (r - 1) inside
 
       pub linking-mark : (t : ℕ) → t ≡ u16At s (rulePlace (r - 1) + 8) → t < maxMarks
       linking-mark t e =
-          let d = linking-known in
-          let f = g .linked .fits in
-          let k = g .formed .rules (r - 1) (omega arith) .target in
+          let k = g .formed .rules (r - 1) inside .target in
           let m = g .formed .headed .counted .marks in
           omega arith
 
-      pub linking-on : (t here there : ℕ) → t ≡ u16At s (rulePlace (r - 1) + 8) → here ≡ side t (eqb (getD s (rulePlace (r - 1) + 2) 0) 1)
-          → there ≡ side t (not (eqb (getD s (rulePlace (r - 1) + 2) 0) 1))
-          → Linking s rules (set same (r - 1) (getD next here 0)) (set opposite (r - 1) (getD next there 0)) (set next here (r - 1)) (r - 1)
-      linking-on t here there e f k =
-          let d = linking-known in
-          let l = g .linked .fits in
-          let i : r - 1 < rulesIn s = omega arith in
-          let z : r ≡ suc (r - 1) = omega arith in
-          record {
-            formed = g .formed;
-            linked = linked-more (bookOf s) rules same opposite next (r - 1) here there (subst (λ x. Linked (bookOf s) rules same opposite next x) z (g .linked))
-                (rw (rule-read s (r - 1) i) (unfold ruleFrom in linking-mark (u16At s (rulePlace (r - 1) + 8)) refl))
-                (does-bytes s (r - 1) t here _ i e refl f) (undoes-bytes s (r - 1) t there _ i e refl k);
-          }
+      pub linking-stage : triggerExists maxEvents maxMarks (ruleFrom s (rulePlace (r - 1)) .trigger) ≡ true
+      linking-stage = rw (rule-read s (r - 1) inside) at (g .linked .known (r - 1) (let e = linking-known in let i = inside in omega arith))
 
-    pub linking-end : r ≤ 0 → Chained (bookOf s) same opposite
-    linking-end h = linked-end (bookOf s) rules same opposite next r (g .linked) (omega arith)
+      pub linking-on : (t here there own v low′ met : ℕ) → t ≡ u16At s (rulePlace (r - 1) + 8) → here ≡ side t (eqb (getD s (rulePlace (r - 1) + 2) 0) 1)
+          → there ≡ side t (not (eqb (getD s (rulePlace (r - 1) + 2) 0) 1)) → own ≡ stagesOf (ruleFrom s (rulePlace (r - 1)) .trigger)
+          → v ≡ cond (eqb (inter own (getD stages there 0)) 0) rules (getD next there 0) → low′ ≡ cond (ltb v rules) (r - 1) low → met ≡ union (getD stages here 0) own
+          → Linking s rules (set same (r - 1) (getD next here 0)) (set opposite (r - 1) v) (set next here (r - 1)) (set stages here met) low′ (r - 1)
+      linking-on t here there own v low′ met e f k o q x y =
+          let z : r ≡ suc (r - 1) = omega arith in
+          rw (x, y) (record {
+            formed = g .formed;
+            linked = linked-more (bookOf s) rules same opposite next stages low (r - 1) here there own (subst (λ x. Linked (bookOf s) rules same opposite next stages low x) z (g .linked))
+                (rw (rule-read s (r - 1) inside) (unfold ruleFrom in linking-mark (u16At s (rulePlace (r - 1) + 8)) refl))
+                (does-bytes s (r - 1) t here _ inside e refl f) (undoes-bytes s (r - 1) t there _ inside e refl k) (rw (rule-read s (r - 1) inside) o) v q;
+          })
+
+    pub linking-end : r ≤ 0 → Chained (bookOf s) same opposite low
+    linking-end h = linked-end (bookOf s) rules same opposite next stages low r (g .linked) (omega arith)
+
+-- ---- the stages of a rule
+
+module _ (s : List ℕ) (at : ℕ) where
+  pub stage-fits : (n : ℕ) → triggerExists maxEvents maxMarks (ruleFrom s at .trigger) ≡ true → getD s at 0 ≡ 1 → n ≡ u16At s (at + 4) → n < maxEvents
+  unfolding ruleFrom triggerFrom triggerExists
+  stage-fits n h e f = rw f (ltb-true (u16At s (at + 4)) maxEvents (rw e at h))
+
+  pub stages-one : (n r : ℕ) → getD s at 0 ≡ 1 → n ≡ u16At s (at + 4) → r ≡ only n → r ≡ stagesOf (ruleFrom s at .trigger)
+  unfolding ruleFrom triggerFrom stagesOf
+  stages-one n r e f g = rw (g, f, e)
+
+  pub stages-all : (r : ℕ) → (getD s at 0 ≡ 1 → ⊥) → r ≡ allBelow maxEvents → r ≡ stagesOf (ruleFrom s at .trigger)
+  unfolding ruleFrom triggerFrom stagesOf
+  stages-all r n g =
+      g ∙ rw (ne-eqb (getD s at 0) 1 n) (cases (eqb (getD s at 0) 0) (λ e. rw e) (λ e. cases (eqb (getD s at 0) 2) (λ f. rw (e, f)) (λ f. rw (e, f))))
