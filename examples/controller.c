@@ -2,19 +2,30 @@
 //
 //   controller CHART < STAGES
 //
-// After the start and after each completion it prints the open stages, and `finished` where no included event is pending.
+// At the start it prints the open stages, and `finished` where no included event is pending. Each stage number gets one line: the
+// same after a completion, or the refusal, which leaves everything as it was and does not count as a failure. A word that is no stage
+// number is said on standard error and passed over. Exit status: 0; 1 if the chart did not load, a word was passed over, or input or output
+// failed; 2 usage.
 #include "ozhimka.h"
 
+#include <ctype.h>
+#include <errno.h>
 #include <inttypes.h>
 #include <stdio.h>
+#include <string.h>
 
-static uint8_t image[OZHIMKA_MAX_CHART + 1], book[OZHIMKA_MAX_DERIVED];
+static uint8_t image[OZHIMKA_MAX_CHART + 1], book[OZHIMKA_MAX_DERIVED]; // one byte more, so that a longer file is refused
 static uint16_t order[OZHIMKA_MAX_RULES];
+static size_t image_length, book_length;
+static uint32_t stages, rules;
+static struct ozhimka_snapshot now;
 
-static int refused(const char *call, struct ozhimka_answer answer)
+static bool granted(FILE *file, const char *call, struct ozhimka_answer answer)
 {
-    printf("%s refused: code %" PRIu32 ", place %" PRIu32 ", other %" PRIu32 "\n", call, answer.code, answer.place, answer.other);
-    return 1;
+    if (answer.code == OZHIMKA_GRANTED)
+        return true;
+    fprintf(file, "%s refused: code %" PRIu32 ", place %" PRIu32 ", other %" PRIu32 "\n", call, answer.code, answer.place, answer.other);
+    return false;
 }
 
 static uint32_t number_at(const uint8_t *at)
@@ -22,50 +33,109 @@ static uint32_t number_at(const uint8_t *at)
     return at[0] | (uint32_t)at[1] << 8 | (uint32_t)at[2] << 16 | (uint32_t)at[3] << 24;
 }
 
-// Marks e, n + e, 2n + e and 3n + e of a derived book: e is open, executed, included, answered.
-static void print_open(const struct ozhimka_snapshot *now, uint32_t n)
+static bool read_file(const char *name)
 {
-    int finished = 1;
+    FILE *file = fopen(name, "rb");
+    if (file != NULL)
+        image_length = fread(image, 1, sizeof image, file);
+    bool good = file != NULL && !ferror(file);
+    if (!good)
+        fprintf(stderr, "%s: %s\n", name, strerror(errno));
+    if (file != NULL)
+        fclose(file);
+    return good;
+}
+
+static bool load(const char *name)
+{
+    if (!read_file(name))
+        return false;
+    struct ozhimka_reading reading = ozhimka_read_chart(image, image_length);
+    if (!granted(stderr, "read", reading.answer) || !granted(stderr, "derive", ozhimka_derive(reading.chart, book, sizeof book)))
+        return false;
+    stages = number_at(book);
+    rules = number_at(book + 8);
+    book_length = 32 + 10 * (size_t)rules + 8 * (size_t)number_at(book + 12) + 2 * (size_t)number_at(book + 16);
+    if (!granted(stderr, "check", ozhimka_check(book, book_length, order, OZHIMKA_MAX_RULES)))
+        return false;
+    struct ozhimka_settled start = ozhimka_matching(reading.chart, reading.marking);
+    now = start.snapshot;
+    return granted(stderr, "matching", start.answer);
+}
+
+// Marks e, n + e, 2n + e and 3n + e of a derived book of n stages: e is open, executed, included, answered.
+static void print_open(void)
+{
+    bool none = true, finished = true;
     printf("open:");
-    for (uint32_t e = 0; e < n; e++) {
-        if (now->marks[e])
+    for (uint32_t e = 0; e < stages; e++) {
+        if (now.marks[e]) {
             printf(" %" PRIu32, e);
-        if (now->marks[2 * n + e] && !now->marks[3 * n + e])
-            finished = 0;
+            none = false;
+        }
+        if (now.marks[2 * stages + e] && !now.marks[3 * stages + e])
+            finished = false;
     }
-    printf(finished ? ", finished\n" : "\n");
+    printf("%s%s\n", none ? " none" : "", finished ? ", finished" : "");
+}
+
+enum word { END, STAGE, BAD };
+
+// The next word of standard input: decimal digits, at most 2^32 - 1.
+static enum word next_word(uint32_t *stage)
+{
+    char text[32]; // its beginning, for the message
+    size_t length = 0;
+    uint64_t value = 0;
+    bool digits = true;
+    int c = getchar();
+    while (c != EOF && isspace(c))
+        c = getchar();
+    if (c == EOF)
+        return END;
+    for (; c != EOF && !isspace(c); c = getchar()) {
+        digits = digits && c >= '0' && c <= '9';
+        if (digits && value <= UINT32_MAX)
+            value = 10 * value + (uint64_t)(c - '0');
+        if (length < sizeof text)
+            text[length++] = (char)c;
+    }
+    if (ferror(stdin)) // the word may be cut
+        return END;
+    *stage = (uint32_t)value;
+    if (digits && value <= UINT32_MAX)
+        return STAGE;
+    fprintf(stderr, "no stage number: %.*s (%s)\n", (int)length, text, digits ? "above 4294967295" : "decimal digits only");
+    return BAD;
 }
 
 int main(int argc, char **argv)
 {
-    FILE *file = argc == 2 ? fopen(argv[1], "rb") : NULL;
-    if (file == NULL) {
+    if (argc != 2) {
         fprintf(stderr, "usage: controller CHART < STAGES\n");
         return 2;
     }
-    size_t length = fread(image, 1, sizeof image, file);
-    fclose(file);
-
-    struct ozhimka_reading reading = ozhimka_read_chart(image, length);
-    if (reading.answer.code != OZHIMKA_GRANTED)
-        return refused("read", reading.answer);
-    struct ozhimka_answer answer = ozhimka_derive(reading.chart, book, sizeof book);
-    if (answer.code != OZHIMKA_GRANTED)
-        return refused("derive", answer);
-    uint32_t n = number_at(book), rules = number_at(book + 8), conditions = number_at(book + 12), words = number_at(book + 16);
-    size_t book_length = 32 + 10 * (size_t)rules + 8 * (size_t)conditions + 2 * (size_t)words;
-    answer = ozhimka_check(book, book_length, order, OZHIMKA_MAX_RULES);
-    if (answer.code != OZHIMKA_GRANTED)
-        return refused("check", answer);
-
-    struct ozhimka_settled now = ozhimka_matching(reading.chart, reading.marking);
-    print_open(&now.snapshot, n);
+    if (!load(argv[1]))
+        return 1;
+    print_open();
+    int status = 0;
     uint32_t stage;
-    while (scanf("%" SCNu32, &stage) == 1) {
-        now = ozhimka_complete(book, book_length, order, rules, now.snapshot, stage);
-        if (now.answer.code != OZHIMKA_GRANTED)
-            refused("complete", now.answer);
-        print_open(&now.snapshot, n);
+    while (fflush(stdout) == 0) { // a program at the other end of a pipe gets each line at once
+        enum word word = next_word(&stage);
+        if (word == END)
+            break;
+        if (word == BAD) {
+            status = 1;
+            continue;
+        }
+        struct ozhimka_settled next = ozhimka_complete(book, book_length, order, rules, now, stage);
+        now = next.snapshot; // as it was where the call is refused
+        if (granted(stdout, "complete", next.answer))
+            print_open();
     }
-    return 0;
+    if (ferror(stdin) || ferror(stdout)) {
+        fprintf(stderr, "standard %s: %s\n", ferror(stdin) ? "input" : "output", strerror(errno));
+        status = 1;
+    }
+    return status;
 }
