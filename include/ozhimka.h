@@ -1,6 +1,6 @@
 // The controller's interface to Ozhimka: reading a chart, stepping it, deriving its rule book, checking a book, completing a stage.
 //
-// Link target/staticlib/libozhimka.a (x86-64, the System V calling convention); of the C library it uses memcpy, memmove and memset.
+// Link target/staticlib/libozhimka.a (x86-64, the System V calling convention); of the C library it uses memcpy, memmove and memset at most.
 // Every call ends, keeps no memory between calls, allocates nothing, and may be made from several threads at once.
 //
 // The caller's duties. A slice goes in as a pointer and a count of elements. No pointer is null, and a pointer to uint16_t is even, also

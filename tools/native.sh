@@ -1,4 +1,4 @@
-# How a program for x86-64 is compiled and run on this processor. Sourced by list, model/run and bench/run.
+# How a program for x86-64 is compiled and run on this processor. Sourced by list, model/run, examples/run and bench/run.
 
 # native_command PROGRAM: puts the words that run PROGRAM into the array `native`. With the toolchain at hand they are
 # those that rt uses: the toolchain's emulator, where it has one for this processor, and its loader and C library.
