@@ -1,11 +1,12 @@
 #!/usr/bin/env python3
-# The paper's calls in plain Python, written from docs/01-scope.md alone and slow on purpose: hold it beside the paper.
+# The paper's calls in plain Python, written from the paper alone and slow on purpose: hold it beside the paper.
 #
 # Every call hands back its answer (code, place, other) first and its value after it. Sets are Python sets of numbers.
 # `model/ozhimka.py` alone runs the paper's settled examples; `model/ozhimka.py CHART` lists a chart's book.
 
 import functools
 import heapq
+import random
 import sys
 from collections import namedtuple
 
@@ -639,10 +640,26 @@ def settled_examples():
         assert check_book(book_image(deep), [])[0] == code
 
 
+def orders_agree():
+    """Small random books without a loop get one running order from both functions that make it."""
+    rng = random.Random(1)
+    for _ in range(500):
+        rank = rng.sample(range(12), 12)
+        rules = []
+        for _ in range(rng.randrange(60)):
+            one, two, target = sorted(rng.sample(range(12), 3), key=lambda mark: rank[mark])
+            rules.append(rng.choice((on_completion(0, SET, target), without_trigger(AS_WRITTEN, one, SET, target),
+                                     Rule(BECOME_YES, NO_CONDITION, SET, 0, one, 0, target),
+                                     Rule(BECOME_NO, NEGATED, SET, 0, one, two, target))))
+        book = Book(1, 12, rules, [(mark, 1) for mark in range(12)], list(range(12)))
+        assert running_order_of_long_book(book) == running_order_as_said(book)
+
+
 if __name__ == '__main__':
     if len(sys.argv) > 1:
         with open(sys.argv[1], 'rb') as chart_file:
             sys.stdout.write(listing(chart_file.read()))
     else:
         settled_examples()
+        orders_agree()
         print('the settled examples hold')
