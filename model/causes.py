@@ -1,15 +1,15 @@
 # Every refusal by each of its causes, what is just inside a limit, and the largest sizes: requests with the answer meant.
 #
-# Each generator yields (answer, body). The answer is what the cause aims at, (code, place, other), or None where only
-# the model knows; a request whose expected line says otherwise is a mistake here and stops the program.
+# Each generator yields (answer, body). The answer is what the cause aims at, (code, place, other) or BAD, or None where
+# only the model knows; a request whose expected line says otherwise is a mistake here and stops the program.
 
 import ozhimka as model
 from chances import (random_chart_image, random_flat, random_nodes, random_order, random_relations, random_snapshot,
                      sound_book)
 from ozhimka import (AND, BECOME_NO, BECOME_YES, CLEAR, COMPLETED, CONDITION, EXCLUDE, GRANTED, INCLUDE, NONE, NOT, OR, SET,
                      Book, FlatChart, Marking, Rule, book_image, chart_image, on_completion, without_trigger)
-from protocol import (bytes16, bytes32, check_request, complete_request, count_request, derive_request, execute_request,
-                      finished_request, matching_request, read_request)
+from protocol import (BAD, MAX_BODY, MAX_ROOM_BYTES, MAX_ROOM_NUMBERS, bytes16, bytes32, check_request, complete_request,
+                      count_request, derive_request, execute_request, finished_request, matching_request, read_request)
 
 FREE = (NONE, 4)
 HUGE = 0xFFFFFFFF
@@ -595,20 +595,43 @@ def firing_causes(rng):
 def bad_requests(rng):
     """Unknown operations and bodies too short for their fields; the program goes on."""
     chart, start = model.empty_chart(1), model.empty_marking()
-    yield None, b'\x00'
-    yield None, b'\xff' + rng.randbytes(20)
+    for operation in (b'\x00', b'\x09', b'\xff'):
+        yield BAD, operation
+        yield BAD, operation + rng.randbytes(20)
     whole = (execute_request(chart, start, 0), count_request(chart, start), finished_request(chart, start),
              matching_request(chart, start), derive_request(100, chart))
     for body in whole:
-        yield None, body[:-1]
-        yield None, body[:1]
-        yield None, body[:rng.randrange(2, len(body))]
-    yield None, check_request(0, b'')[:-1]
-    yield None, b'\x07'
-    yield None, b'\x08'
+        yield BAD, body[:-1]
+        yield BAD, body[:1]
+        yield BAD, body[:rng.randrange(2, len(body))]
+    yield BAD, check_request(0, b'')[:-1]
+    yield BAD, b'\x07'
+    yield BAD, b'\x08'
     body = complete_request(0, [False] * 256, [1, 2, 3], b'')
-    yield None, body[:-1]
-    yield None, body[:40]
+    yield BAD, body[:-1]
+    yield BAD, body[:40]
+
+
+def request_limits(rng):
+    """The longest rooms, order and body, what is just past the first two, and bytes behind the fields, which are not read."""
+    chart, start, image = model.empty_chart(1), Marking(set(), set(), {0}), book_image(sound_small())
+    yield GRANTED, derive_request(MAX_ROOM_BYTES, chart)
+    yield GRANTED, check_request(MAX_ROOM_NUMBERS, image)
+    for past in (1, 65536, HUGE - MAX_ROOM_BYTES):
+        yield BAD, derive_request(MAX_ROOM_BYTES + past, chart)
+        yield BAD, check_request(MAX_ROOM_NUMBERS + past, image)
+    order = [0] * MAX_ROOM_NUMBERS
+    whole = complete_request(0, [True] + [False] * 255, order, image)
+    yield plain(27), whole
+    yield BAD, whole[:41 + 2 * len(order) - 1]
+    yield BAD, complete_request(0, [True] + [False] * 255, order + [0], image)
+    yield BAD, with_number32(whole, 37, HUGE)
+    bodies = [make(chart, start) for make in (count_request, finished_request, matching_request)] \
+        + [execute_request(chart, start, 0), derive_request(200, chart)]
+    for body in bodies:
+        for behind in (1, 4, 100):
+            yield GRANTED, body + rng.randbytes(behind)
+    yield GRANTED, bodies[0] + bytes(MAX_BODY - len(bodies[0]))
 
 
 # ---- the largest sizes
@@ -684,5 +707,5 @@ def wide_conditions(rng):
 
 CAUSES = (header_causes, node_causes, group_causes, conflict_causes, accepted_charts, unfit_causes, step_causes,
           marking_causes, derive_causes, book_header_causes, rule_causes, condition_causes, loop_causes, clash_causes,
-          order_causes, running_order_causes, firing_causes, bad_requests)
+          order_causes, running_order_causes, firing_causes, bad_requests, request_limits)
 LARGEST = (largest_charts, largest_derivings, largest_derived_book, largest_hand_made, wide_conditions)

@@ -10,6 +10,7 @@ MARKING_BYTES = 3 * 8
 MAX_BODY = 262144
 MAX_ROOM_BYTES = 200000
 MAX_ROOM_NUMBERS = 10000
+BAD = 'bad request'
 
 
 # ---- writing requests
@@ -117,14 +118,14 @@ def line_for(body):
         return read_line(body)
     if operation in (2, 3, 4, 5):
         needed = 1 + FLAT_BYTES + MARKING_BYTES + (4 if operation == 2 else 0)
-        return chart_line(operation, body) if len(body) >= needed else 'bad request'
+        return chart_line(operation, body) if len(body) >= needed else BAD
     if operation == 6:
-        return derive_line(body) if len(body) >= 5 + FLAT_BYTES else 'bad request'
+        return derive_line(body) if len(body) >= 5 + FLAT_BYTES else BAD
     if operation == 7:
-        return check_line(body) if len(body) >= 5 else 'bad request'
+        return check_line(body) if len(body) >= 5 else BAD
     if operation == 8:
-        return complete_line(body) if len(body) >= 41 else 'bad request'
-    return 'bad request'
+        return complete_line(body) if len(body) >= 41 else BAD
+    return BAD
 
 
 def read_line(body):
@@ -154,7 +155,7 @@ def chart_line(operation, body):
 def derive_line(body):
     length = model.number32(body, 1)
     if length > MAX_ROOM_BYTES:
-        return 'bad request'
+        return BAD
     answer, room = model.derive(flat_at(body, 5), bytes([FILL]) * length)
     return line('derive', answer, [zlib.adler32(room)])
 
@@ -162,7 +163,7 @@ def derive_line(body):
 def check_line(body):
     count = model.number32(body, 1)
     if count > MAX_ROOM_NUMBERS:
-        return 'bad request'
+        return BAD
     answer, room = model.check_book(body[5:], [FILL * 257] * count)
     return line('check', answer, [zlib.adler32(b''.join(bytes16(p) for p in room))])
 
@@ -170,7 +171,7 @@ def check_line(body):
 def complete_line(body):
     stage, number, count = model.number32(body, 1), int.from_bytes(body[5:37], 'little'), model.number32(body, 37)
     if count > MAX_ROOM_NUMBERS or len(body) < 41 + 2 * count:
-        return 'bad request'
+        return BAD
     snapshot = [number >> mark & 1 == 1 for mark in range(256)]
     order = [model.number16(body, at) for at in range(41, 41 + 2 * count, 2)]
     answer, after = model.complete(body[41 + 2 * count:], order, snapshot, stage)
@@ -178,5 +179,5 @@ def complete_line(body):
 
 
 def answer_of(text):
-    """Code, place and other of a line; None of a bad request."""
-    return None if text == 'bad request' else tuple(int(number) for number in text.split()[1:4])
+    """Code, place and other of a line; BAD of a bad request."""
+    return BAD if text == BAD else tuple(int(number) for number in text.split()[1:4])

@@ -15,7 +15,8 @@ from collections import Counter
 
 import causes
 import chances
-from protocol import answer_of, bytes32, framed, line_for
+from ozhimka import PAPER_CHART
+from protocol import BAD, MAX_BODY, answer_of, bytes32, framed, line_for, read_request
 
 BATCH = 5000  # requests that one run of the program gets
 
@@ -36,20 +37,17 @@ def unmeant(bodies):
 
 
 def stream(seed):
-    """Requests without end: rounds of every cause and of many random families, in a new order each round."""
+    """Requests without end: rounds of every cause and then of many random families, in a new order each round."""
     rng = random.Random(seed)
     for number in itertools.count():
-        jobs = [lambda make=make: make(rng) for make in causes.CAUSES]
-        if number % 4 == 0:
-            jobs += [lambda make=make: make(rng) for make in causes.LARGEST]
-            jobs += [lambda: unmeant(chances.long_runs(rng))]
-        for make in chances.SMALL:
-            jobs += [lambda make=make: unmeant(make(rng))] * 80
-        for make in chances.WIDE:
-            jobs += [lambda make=make: unmeant(make(rng))] * 40
-        rng.shuffle(jobs)
-        for job in jobs:
-            yield from expected(job())
+        first = list(causes.CAUSES + (causes.LARGEST if number % 4 == 0 else ()))
+        rng.shuffle(first)
+        for make in first:
+            yield from expected(make(rng))
+        families = list(chances.SMALL * 80 + chances.WIDE * 40 + ((chances.long_runs,) if number % 4 == 0 else ()))
+        rng.shuffle(families)
+        for make in families:
+            yield from expected(unmeant(make(rng)))
 
 
 def selection():
@@ -64,11 +62,12 @@ def selection():
             yield from expected(unmeant(make(rng)))
 
 
-def ending(rng):
-    """What stands behind the last request, and the line it gets: nothing, a bad length, or a body that is cut short."""
-    more = framed(b'\x00')  # never reached
-    return rng.choice(((b'', []), (bytes32(0) + more, ['bad request']), (bytes32(262145) + more, ['bad request']),
-                       (bytes32(0xFFFFFFFF) + more, ['bad request']), (bytes32(10) + bytes(9), ['bad request'])))
+MORE = framed(b'\x00')  # a request that is never reached
+NO_LENGTH = (bytes32(0) + MORE, [BAD])  # stands at the end of the stored requests
+# what ends a run of the program, and the lines it gets: no length at all, a bad one, a body or a length that is cut short
+ENDINGS = ((b'', []), NO_LENGTH, (framed(b'\x01' * (MAX_BODY + 1)) + MORE, [BAD]), (bytes32(0xFFFFFFFF) + MORE, [BAD]),
+           (bytes32(1), [BAD]), (bytes32(10) + bytes(9), [BAD]), (bytes32(MAX_BODY) + bytes(MAX_BODY - 1), [BAD]),
+           (b'\x01', []), (b'\x01\0', []), (b'\x01\0\0', []))
 
 
 def written(program, data):
@@ -81,46 +80,46 @@ def written(program, data):
     return lines[:-1] if lines[-1] == '' else lines, ran.returncode
 
 
-def first_difference(batch, wanted, got):
-    for i in range(max(len(wanted), len(got))):
-        want = wanted[i] if i < len(wanted) else '(nothing)'
-        has = got[i] if i < len(got) else '(nothing)'
-        if want != has:
-            return i, want, has, batch[i][0] if i < len(batch) else b''
-    return None
-
-
-def report(agreed, want, has, body, status):
+def report(agreed, want, has, request, status):
     os.makedirs('target', exist_ok=True)
     with open('target/difference', 'wb') as kept:
-        kept.write(framed(body) if body else b'')
+        kept.write(request)
     print('request %d differs; %d agreed before it' % (agreed, agreed))
     print('expected: %s' % want)
     print('printed:  %s' % has)
-    print('request (%d bytes, whole in target/difference): %s%s'
-          % (len(body), body[:4096].hex(), ' ..' if len(body) > 4096 else ''))
+    print('request (%d bytes with its length, whole in target/difference): %s%s'
+          % (len(request), request[:4096].hex(), ' ..' if len(request) > 4096 else ''))
     if status != 0:
         print('the program ended with status %d' % status)
 
 
+def agrees(program, batch, end, end_lines, before=0):
+    """Whether the program prints the lines of a batch and of the ending behind it; the first difference is reported."""
+    requests = [framed(body) for body, line in batch] + [end]
+    got, status = written(program, b''.join(requests))
+    wanted = [line for body, line in batch] + end_lines
+    for i, (want, has) in enumerate(itertools.zip_longest(wanted, got, fillvalue='(nothing)')):
+        if want != has:
+            report(before + i, want, has, requests[min(i, len(batch))], status)
+            return False
+    if status != 0 and not end_lines:
+        print('the lines agree, but the program ended with status %d' % status)
+        return False
+    return True
+
+
 def compare(count, seed, program):
-    rng = random.Random('ending %d' % seed)
+    first = expected(unmeant([read_request(PAPER_CHART)]))
+    if not all(agrees(program, first, *ending) for ending in ENDINGS):
+        return 1
     requests = stream(seed)
     agreed, codes = 0, Counter()
     while agreed < count:
         batch = list(itertools.islice(requests, min(BATCH, count - agreed)))
-        end, end_lines = ending(rng)
-        got, status = written(program, b''.join(framed(body) for body, line in batch) + end)
-        difference = first_difference(batch, [line for body, line in batch] + end_lines, got)
-        if difference:
-            i, want, has, body = difference
-            report(agreed + i, want, has, body, status)
-            return 1
-        if status != 0 and not end_lines:
-            print('the lines agree, but the program ended with status %d' % status)
+        if not agrees(program, batch, *ENDINGS[0], agreed):
             return 1
         agreed += len(batch)
-        codes.update(line if line == 'bad request' else line.split()[1] for body, line in batch)
+        codes.update(line if line == BAD else line.split()[1] for body, line in batch)
     print('%d requests of seed %d agree' % (agreed, seed))
     print('answers by code: ' + ', '.join('%s: %d' % (code, codes[code])
                                          for code in sorted(codes, key=lambda code: (len(code), code))))
@@ -131,9 +130,9 @@ def write(folder):
     os.makedirs(folder, exist_ok=True)
     pairs = list(selection())
     with open(os.path.join(folder, 'stdin'), 'wb') as requests:
-        requests.write(b''.join(framed(body) for body, line in pairs))
+        requests.write(b''.join(framed(body) for body, line in pairs) + NO_LENGTH[0])
     with open(os.path.join(folder, 'stdout'), 'w') as lines:
-        lines.write(''.join(line + '\n' for body, line in pairs))
+        lines.write(''.join(line + '\n' for line in [line for body, line in pairs] + NO_LENGTH[1]))
     sizes = [os.path.getsize(os.path.join(folder, name)) for name in ('stdin', 'stdout')]
     print('%d requests, %d bytes; their lines, %d bytes' % (len(pairs), *sizes))
 
