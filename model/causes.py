@@ -210,24 +210,26 @@ def unfit_flats(rng):
     yield both
 
 
+MARKING_CALLS = (count_request, finished_request, matching_request)
+
+
 def unfit_causes(rng):
-    """Code 14 in each call that gives it; it comes before 10 to 13 and 15."""
+    """Code 14 by each cause in each call that gives it; it comes before 10 to 13 and 15."""
     start = Marking({0}, {1}, {0, 1, 2, 3})
-    makers = (lambda c, m: execute_request(c, m, rng.choice((0, 3, 4, 64, HUGE))), count_request, finished_request,
-              matching_request)
+    makers = (lambda c, m: execute_request(c, m, rng.choice((0, 3, 4, 64, HUGE))),) + MARKING_CALLS
     for chart in unfit_flats(rng):
-        marking = rng.choice((start, model.empty_marking(), Marking({63}, {62}, {61, 1})))
-        yield plain(14), rng.choice(makers)(chart, marking)
+        fit = Marking({0}, {0}, {0}) if chart.count else model.empty_marking()  # so that the chart alone is unfit
+        for maker in makers:
+            yield plain(14), maker(chart, fit)
+        yield plain(14), makers[0](chart, Marking({63}, {62}, {61, 1}))
         yield plain(14), derive_request(rng.choice((0, 31, 200000)), chart)
     for part in range(3):
         for count, bit in ((4, 4), (4, 63), (1, 1), (63, 63), (32, 40)):
             chart = small_flat() if count == 4 else model.empty_chart(count)
             marking = Marking(*[set(entry) for entry in (start if count == 4 else model.empty_marking())])
             marking[part].add(bit)
-            yield plain(14), rng.choice(makers)(chart, marking)
-    for maker in makers:
-        yield plain(14), maker(small_flat(), Marking(set(), set(), {4}))
-        yield plain(14), maker(model.empty_chart(0), model.empty_marking())
+            for maker in makers:
+                yield plain(14), maker(chart, marking)
 
 
 def step_causes(rng):
@@ -272,17 +274,24 @@ def step_causes(rng):
 
 def marking_causes(rng):
     """Counting, the finished test and the matching snapshot where they are granted."""
+    def all_calls(chart, markings):
+        return [(GRANTED, maker(chart, marking)) for marking in markings for maker in MARKING_CALLS]
+
     for count in (1, 2, 63, 64):
-        chart = model.empty_chart(count)
-        everyone = set(range(count))
-        for marking in (model.empty_marking(), Marking(set(), set(), everyone), Marking(everyone, everyone, everyone),
-                        Marking(everyone, everyone, set()), Marking(set(), {count - 1}, {count - 1})):
-            yield GRANTED, rng.choice((count_request, finished_request, matching_request))(chart, marking)
-    chart = small_flat()
-    for marking in (model.empty_marking(), Marking({0, 2}, set(), {3}), Marking({0, 2}, set(), {1, 3}),
-                    Marking(set(), {0}, {1}), Marking(set(), {0}, {0, 1}), Marking({0, 1, 2}, {2}, {0, 1, 2, 3})):
-        for maker in (count_request, finished_request, matching_request):
-            yield GRANTED, maker(chart, marking)
+        last, everyone, even = {count - 1}, set(range(count)), set(range(0, count, 2))
+        yield from all_calls(model.empty_chart(count), (
+            model.empty_marking(), Marking(set(), set(), everyone), Marking(everyone, everyone, everyone),
+            Marking(everyone, everyone, set()), Marking(set(), last, last), Marking(everyone, set(), last),
+            Marking(even, even, everyone), Marking(everyone - even, even, everyone - even)))
+        # the last event holds all others back, as condition until it ran, as milestone while it is pending
+        held = model.empty_chart(count)
+        for e in everyone - last:
+            held.conditions[e] |= last
+            held.milestones[e] |= last
+        yield from all_calls(held, [Marking(executed, pending, everyone) for executed in (set(), last) for pending in (set(), last)])
+    yield from all_calls(small_flat(), (
+        model.empty_marking(), Marking({0, 2}, set(), {3}), Marking({0, 2}, set(), {1, 3}), Marking(set(), {0}, {1}),
+        Marking(set(), {0}, {0, 1}), Marking({0, 1, 2}, {2}, {0, 1, 2, 3})))
 
 
 def derive_causes(rng):
@@ -310,19 +319,22 @@ def passing(book):
     return GRANTED, check_request(len(book.rules), book_image(book))
 
 
-def of_text(answer, words, marks):
-    """The check of one condition's text."""
-    return answer, check_request(0, book_image(Book(0, marks, [], [(0, len(words))], words)))
-
-
 def both_calls(rng, answer, image, rules):
     """The check and a completion give codes 20 to 26 alike."""
+    yield answer, check_request(rng.choice((0, rules, rules + 3)), image)
     snapshot = random_snapshot(rng, rng.choice((8, 256)))
-    if rng.random() < 0.5:
-        yield answer, check_request(rng.choice((0, rules, rules + 3)), image)
+    order = [rng.randrange(rules + 2) for _ in range(rng.choice((0, rules, rules + 1)))]
+    yield answer, complete_request(rng.choice((0, 1, 64, HUGE)), snapshot, order, image)
+
+
+def of_text(rng, answer, words, marks):
+    """One condition's text through both calls; a good one is also evaluated."""
+    image = book_image(Book(1, marks + 1, [without_trigger(1, 0, SET, marks)], [(0, len(words))], words))
+    if answer != GRANTED:
+        yield from both_calls(rng, answer, image, 1)
     else:
-        order = [rng.randrange(rules + 2) for _ in range(rng.choice((0, rules, rules + 1)))]
-        yield answer, complete_request(rng.choice((0, 1, 64, HUGE)), snapshot, order, image)
+        yield answer, check_request(1, image)
+        yield answer, complete_request(0, [True] + random_snapshot(rng, marks)[1:], [0], image)
 
 
 def book_header_causes(rng):
@@ -335,6 +347,9 @@ def book_header_causes(rng):
         for number in numbers:
             yield from both_calls(rng, plain(21), with_number32(image, 4 * field, number), 4)
             yield from both_calls(rng, plain(21), with_number32(image[:32], 4 * field, number), 4)
+    for stages, marks in ((65, 65), (65, 256), (256, 256)):  # too many stages, and nothing else wrong
+        changed = with_number32(with_number32(image, 0, stages), 4, marks)
+        yield from both_calls(rng, plain(21), changed, 4)
     for field, right in ((5, 32), (6, 72), (7, 88)):
         for number in (0, right - 1, right + 1, right + 65536, HUGE, right + (1 << 31)):
             yield from both_calls(rng, plain(22), with_number32(image, 4 * field, number), 4)
@@ -367,10 +382,11 @@ def rule_causes(rng):
         yield passing(small._replace(rules=[edge]))
     none = Book(0, 0, [], [], [])
     for rule in (Rule(0, 0, 1, 0, 0, 0, 0), Rule(1, 0, 1, 0, 0, 0, 0), Rule(2, 0, 1, 0, 0, 0, 0), Rule(0, 1, 1, 0, 0, 0, 0)):
-        yield plain(23, 0), check_request(1, book_image(none._replace(rules=[rule])))
-        yield plain(23, 0), check_request(1, book_image(none._replace(rules=[rule], conditions=[(0, 1)], words=[0])))
-    yield plain(23, 0), check_request(1, book_image(Book(0, 1, [on_completion(0, SET, 0)], [], [])))
-    yield plain(23, 0), check_request(1, book_image(Book(0, 1, [without_trigger(1, 0, SET, 0)], [], [])))
+        yield from both_calls(rng, plain(23, 0), book_image(none._replace(rules=[rule])), 1)
+        with_text = none._replace(rules=[rule], conditions=[(0, 1)], words=[0])
+        yield from both_calls(rng, plain(23, 0), book_image(with_text), 1)
+    for rule in (on_completion(0, SET, 0), without_trigger(1, 0, SET, 0)):
+        yield from both_calls(rng, plain(23, 0), book_image(Book(0, 1, [rule], [], [])), 1)
 
 
 def condition_causes(rng):
@@ -399,17 +415,18 @@ def condition_causes(rng):
             words = [rng.randrange(marks) for _ in range(held)]
             for _ in range(held - 1):
                 words += rng.choice(joins)
-            yield of_text(answer, words, marks)
+            yield from of_text(rng, answer, words, marks)
     sixteen = [0] * 16
-    yield of_text(GRANTED, sixteen + [AND, 0] * 9 + [AND] * 15, marks)  # sixteen again and again
-    yield of_text(plain(24, 0), sixteen + [NOT, 0, AND] + [AND] * 15, marks)
+    yield from of_text(rng, GRANTED, sixteen + [AND, 0] * 9 + [AND] * 15, marks)  # sixteen again and again
+    yield from of_text(rng, plain(24, 0), sixteen + [NOT, 0, AND] + [AND] * 15, marks)
     # words that lie in no condition
     yield passing(Book(0, 1, [], [(1, 1)], [AND, 0, 60000, 65532]))
     yield passing(Book(0, 0, [], [], [AND, 0, 60000, 65532]))
-    yield plain(24, 0), check_request(0, book_image(Book(0, 0, [], [(0, 1)], [0])))
+    yield from both_calls(rng, plain(24, 0), book_image(Book(0, 0, [], [(0, 1)], [0])), 0)
     # overlapping, nested, equal
     yield passing(Book(0, 5, [], [(0, 5), (0, 1), (1, 1), (1, 2), (0, 4), (0, 5)], [3, 4, NOT, OR, NOT]))
-    yield plain(24, 3), check_request(0, book_image(Book(0, 5, [], [(0, 4), (0, 1), (1, 2), (2, 2)], [3, 4, NOT, OR])))
+    parts = Book(0, 5, [], [(0, 4), (0, 1), (1, 2), (2, 2)], [3, 4, NOT, OR])
+    yield from both_calls(rng, plain(24, 3), book_image(parts), 0)
 
 
 def loop_causes(rng):
@@ -446,14 +463,29 @@ def loop_causes(rng):
     # code 25 comes before 26
     fighting = [on_completion(0, SET, 0), on_completion(0, CLEAR, 0)]
     yield from case(plain(25, 1), 1, 2, fighting + [Rule(2, 0, 1, 0, 1, 0, 1)])
-    for length in (2, 3, 10, 64, 65, 128, 255, 256):
-        ring = list(range(256 - length, 256))
-        rng.shuffle(ring)
-        rules = [Rule(rng.choice((2, 3)), 0, rng.randrange(2), 0, ring[i - 1], 0, m) for i, m in enumerate(ring)]
-        rng.shuffle(rules)
-        yield from case(plain(25, 256 - length), 0, 256, rules)
-        opened = [rule for rule in rules if rule.target != 255]
-        yield None, check_request(length, book_image(Book(0, 256, opened, [], [])))
+    # rings of the highest marks, one rule after the other through triggers, through conditions, and through both by turns
+    marks = range(256)
+    texts = [(mark, 1) for mark in marks]  # condition m is mark m
+
+    def through_trigger(mark, target):
+        return Rule(rng.choice((BECOME_YES, BECOME_NO)), 0, SET, 0, mark, 0, target)
+
+    def through_condition(mark, target):
+        return Rule(rng.choice((0, COMPLETED)), rng.choice((1, 2)), SET, 0, 0, mark, target)
+
+    for length in (2, 3, 4, 5, 10, 64, 65, 128, 255, 256):
+        for ways in ((through_trigger,), (through_condition,), (through_trigger, through_condition)):
+            ring = rng.sample(marks[-length:], length)
+            rules = [ways[i % len(ways)](ring[i - 1], mark) for i, mark in enumerate(ring)]
+            opened = [rule for rule in rules if rule.target != 255]
+            yield from case(plain(25, 256 - length), 1, 256, rng.sample(rules, length), texts, marks)
+            yield passing(Book(1, 256, rng.sample(opened, length - 1), texts, list(marks)))
+            if length < 100:  # rules that lead into the ring, and rules that it leads to, two deep
+                hanging = [rng.choice(ways)(mark, target) for mark, target in (
+                    (0, 5), (5, ring[0]), (6, ring[-1]), (ring[1], 3), (ring[0], 1), (1, 2), (6, 7))]
+                rules, opened = rules + hanging, opened + hanging
+                yield from case(plain(25, 256 - length), 1, 256, rng.sample(rules, len(rules)), texts, marks)
+                yield passing(Book(1, 256, rng.sample(opened, len(opened)), texts, list(marks)))
 
 
 def clash_causes(rng):
@@ -480,7 +512,7 @@ def clash_causes(rng):
                 yield from case(plain(26, 0, 1), pair)
     yield passing(Book(2, 2, [on_completion(0, SET, 1), on_completion(1, CLEAR, 1)], [], []))  # P10
     both = Book(2, 2, [on_completion(0, SET, 1), on_completion(0, CLEAR, 1)], [], [])
-    yield plain(26, 0, 1), check_request(2, book_image(both))
+    yield from both_calls(rng, plain(26, 0, 1), book_image(both), 2)
     # the same effect never clashes, nor do different targets
     yield passing(Book(1, 3, [on_completion(0, SET, 1)] * 2 + [on_completion(0, CLEAR, 2)], [], []))
     # the lowest first rule, then the lowest second
@@ -515,7 +547,7 @@ def order_causes(rng):
         snapshot = list(opened)
         snapshot[mark] = True
         yield plain(28), complete_request(rng.choice((0, 3, HUGE)), snapshot, order, image)
-    for stage in (3, 4, 63, 64, 255, 256, 65536, 65536 + 1, 1 << 31, HUGE):
+    for stage in (3, 4, 63, 64, 255, 256, 65536, 65536 + 1, 70000, 1 << 31, HUGE):
         yield plain(29), complete_request(stage, opened, order, image)
         yield plain(29), complete_request(stage, [False] * 256, order, image)
     for stage in range(3):
@@ -526,13 +558,14 @@ def order_causes(rng):
     yield plain(27), complete_request(0, [True] + [False] * 255, [0], empty)
     pair = book_image(Book(2, 2, [on_completion(0, SET, 1), on_completion(1, CLEAR, 1)], [], []))
     yield plain(27), complete_request(0, [True] + [False] * 255, [0, 0], pair)  # P12
-    for book in (Book(0, 0, [], [], []), Book(0, 256, [], [], []), Book(0, 3, [Rule(2, 0, 1, 0, 0, 0, 1)], [], [])):
+    for book in (Book(0, 0, [], [], []), Book(0, 255, [], [], []), Book(0, 256, [], [], []),
+                 Book(0, 3, [Rule(2, 0, 1, 0, 0, 0, 1)], [], [])):
         order = list(range(len(book.rules)))
         yield passing(book)
         yield plain(29), complete_request(0, [False] * 256, order, book_image(book))
         if book.marks < 256:
             yield plain(28), complete_request(0, [mark == book.marks for mark in range(256)], order, book_image(book))
-    for stages, marks in ((64, 64), (64, 256), (1, 256), (1, 1)):
+    for stages, marks in ((64, 64), (64, 256), (1, 255), (1, 256), (1, 1)):
         image = book_image(Book(stages, marks, [], [], []))
         everyone = [mark < marks for mark in range(256)]
         yield GRANTED, complete_request(stages - 1, everyone, [], image)
@@ -546,6 +579,44 @@ def order_causes(rng):
     yield GRANTED, check_request(5, empty)
     clash = [on_completion(0, SET, 1), on_completion(0, CLEAR, 1)]
     yield plain(26, 0, 1), check_request(0, book_image(Book(2, 2, clash, [], [])))  # before 31
+
+
+def pair_causes(rng):
+    """Two or more refusals at once: the one that comes first is given."""
+    image = chart_image([FREE, (9, 8), FREE], [])  # 3 before 4
+    for wrong in (with_number16(image, 4, 9), with_number16(image, 6, 16), image[:-1], image + b'\0'):
+        yield plain(3), read_request(wrong)
+    for count in (65, 126):  # 5 before 7
+        yield plain(5, 0), read_request(chart_image([(1, 0), (0, 0)] + [FREE] * count, []))
+        yield plain(5, count), read_request(chart_image([FREE] * count + [(count + 1, 0), (count, 0)], []))
+    fight, bad = [(0, 1, INCLUDE), (0, 1, EXCLUDE)], [(0, 2, CONDITION)]  # 8 before 9
+    yield plain(8, 0), read_request(chart_image([FREE] * 2, bad + fight))
+    yield plain(8, 2), read_request(chart_image([FREE] * 2, fight + bad))
+
+    image = book_image(sound_small()._replace(rules=[on_completion(3, SET, 3)]))  # 22 before 23
+    for wrong in (with_number32(image, 20, 33), with_number32(image, 24, 43), with_number32(image, 28, 59), image[:-1],
+                  image + b'\0'):
+        yield from both_calls(rng, plain(22), wrong, 1)
+    loop, clash = [Rule(BECOME_YES, 0, SET, 0, 2, 0, 2)], [on_completion(0, SET, 1), on_completion(0, CLEAR, 1)]
+    own_clash = [Rule(BECOME_NO, 0, effect, 0, 2, 0, 2) for effect in (CLEAR, SET)]
+    bad_rule, two_left = [on_completion(1, SET, 1)], [(0, 2)]
+    for answer, rules, conditions in (
+            (plain(23, 1), loop + bad_rule, two_left), (plain(23, 2), clash + bad_rule, two_left),
+            (plain(23, 0), bad_rule + clash + loop, []),
+            (plain(24, 0), loop, two_left), (plain(24, 0), clash, two_left), (plain(24, 0), loop + clash, two_left),
+            (plain(25, 2), loop + clash, []), (plain(25, 2), clash + loop, []), (plain(25, 2), own_clash, [])):
+        yield from both_calls(rng, answer, book_image(Book(1, 3, rules, conditions, [0, 0])), len(rules))
+        yield answer, check_request(0, book_image(Book(1, 3, rules, conditions, [0, 0])))  # before 31
+
+    image, order, wrong_order = book_image(sound_small()), [0, 1, 2, 3], [0, 1, 3, 2]
+    opened, closed = [mark < 8 for mark in range(256)], [False] * 256
+    past, past_and_closed = [mark < 9 for mark in range(256)], [mark == 255 for mark in range(256)]
+    for stage in (0, 3, 70000, HUGE):
+        for snapshot in (past, past_and_closed):
+            yield plain(27), complete_request(stage, snapshot, wrong_order, image)
+            yield plain(28), complete_request(stage, snapshot, order, image)
+        yield plain(27), complete_request(stage, closed, wrong_order, image)
+    yield plain(27), complete_request(3, opened, wrong_order, image)
 
 
 def running_order_causes(rng):
@@ -707,5 +778,5 @@ def wide_conditions(rng):
 
 CAUSES = (header_causes, node_causes, group_causes, conflict_causes, accepted_charts, unfit_causes, step_causes,
           marking_causes, derive_causes, book_header_causes, rule_causes, condition_causes, loop_causes, clash_causes,
-          order_causes, running_order_causes, firing_causes, bad_requests, request_limits)
+          order_causes, pair_causes, running_order_causes, firing_causes, bad_requests, request_limits)
 LARGEST = (largest_charts, largest_derivings, largest_derived_book, largest_hand_made, wide_conditions)
