@@ -274,11 +274,11 @@ def side_by_side(rng, longest=25):
     yield from run_of_both(rng, chart, start, rng.randrange(1, longest))
 
 
-def long_runs(rng):
-    """A hundred steps of a wider chart and its book."""
+def long_runs(rng, steps_to_go=100):
+    """Many steps of a wider chart and its book."""
     chart = random_flat(rng, rng.randrange(20, 40), 0.03)
     start = Marking(set(), some(rng, range(chart.count), 0.2), some(rng, range(chart.count), 0.9))
-    yield from run_of_both(rng, chart, start, 100)
+    yield from run_of_both(rng, chart, start, steps_to_go)
 
 
 def run_of_both(rng, chart, marking, steps_to_go):

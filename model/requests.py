@@ -51,10 +51,12 @@ def stream(seed):
 
 
 def selection():
-    """The fixed selection: every cause, the largest sizes, and some of each random family."""
+    """The fixed selection: every cause, the largest sizes, long runs, and some of each random family."""
     rng = random.Random('the stored requests')
     for make in causes.CAUSES + causes.LARGEST:
         yield from expected(make(rng))
+    for _ in range(4):
+        yield from expected(unmeant(chances.long_runs(rng, 60)))
     for make, times in [(make, 60) for make in chances.SMALL] + [(make, 40) for make in chances.WIDE]:
         if make is chances.side_by_side:
             make, times = (lambda rng: chances.side_by_side(rng, longest=12)), 12
