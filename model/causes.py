@@ -288,7 +288,8 @@ def marking_causes(rng):
         for e in everyone - last:
             held.conditions[e] |= last
             held.milestones[e] |= last
-        yield from all_calls(held, [Marking(executed, pending, everyone) for executed in (set(), last) for pending in (set(), last)])
+        yield from all_calls(held, [Marking(executed, pending, everyone)
+                                    for executed in (set(), last) for pending in (set(), last)])
     yield from all_calls(small_flat(), (
         model.empty_marking(), Marking({0, 2}, set(), {3}), Marking({0, 2}, set(), {1, 3}), Marking(set(), {0}, {1}),
         Marking(set(), {0}, {0, 1}), Marking({0, 1, 2}, {2}, {0, 1, 2, 3})))
