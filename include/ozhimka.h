@@ -7,8 +7,8 @@
 // where the count is 0. It is valid for as many elements as the count says, and nobody else writes them during the call. Room that is
 // lent to be written overlaps nothing else that the call is given. A `bool` is 0 or 1.
 //
-// Stack, at most, without the caller's copies of arguments and result and without what the C library takes: ozhimka_check 68 KiB,
-// ozhimka_complete 52 KiB, ozhimka_read_chart 15 KiB, every other call 4 KiB.
+// Stack, at most, without the caller's copies of arguments and result and without what the C library takes: ozhimka_check 72 KiB,
+// ozhimka_complete 55 KiB, ozhimka_read_chart 15 KiB, every other call 4 KiB.
 //
 // Every answer is a code, a place and an other. Code 0 is granted; any other refuses, and then
 //   - a marking or a snapshot that was handed in is handed back as it was;

@@ -135,7 +135,7 @@ fn read_nodes(image: &[u8], n: usize, k: usize) -> Reading
 
 // The flat chart and the start marking of an image, or the refusal that comes first.
 // Cost: some passes over the nodes, one over the relations, and for each event two climbs over the groups above it.
-// Stack: about 14 KiB, of which what the relations gather takes 5, the tables 3 and the reading 3.
+// Stack: about 15 KiB, of which what the relations gather takes 5, the tables 3 and the reading 3.
 pub fn read(image: &[u8]) -> Reading
     ensures { λ r. ⌜ r ≡ reading (now (image .entry)) ⌝ }
 {

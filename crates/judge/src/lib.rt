@@ -63,8 +63,8 @@ pub fn judge_rules(
 // The check: 20 to 26 and 31, or 0 and the running order in the room.
 // Cost: two passes over the book for 20 to 24, one over the texts for the references, the running order, one pass over the rules for the
 // chains, the pairs of rules that set and clear one mark, and one copy of the order.
-// Stack: 24 KiB here (references 8, order 16), and below it at most 38 KiB (the two chains 33, their heads 1, their stages 4) in the search for
-// clashes; 80 KiB if every callee is compiled into this function.
+// Stack: about 72 KiB: 34 here, with the running order compiled in (references 8, order 17, flags of the written rules 8), and 38 in the search for
+// clashes (the two chains 33, their heads 1, their stages 4).
 pub fn check(book: &[u8], room: &mut [u16]) -> Answer
     ensures { λ r. ⌜ (r ≡ checking (now (book .entry)) (length (now (room .entry)))) × (now (room .exit) ≡ checkedRoom (now (book .entry)) (now (room .entry))) ⌝ }
 {
