@@ -1,0 +1,75 @@
+// Reads a rule book from standard input, checks it, and prints the answer, and of a book that passes the counts and the running order.
+ghost use Prim.Native.Nat.{_<_, _≤_};
+ghost use Rattle.paper.specs.Limits.{maxRules};
+ghost use Rattle.judge.specs.Checking.{Passed};
+use libc::STDIN_FILENO;
+use paper::BOOK_HEADER;
+use paper::CONDITION_SIZE;
+use paper::MAX_CONDITIONS;
+use paper::MAX_RULES;
+use paper::MAX_WORDS;
+use paper::RULE_SIZE;
+use paper::WORD_SIZE;
+use printing::ROOM;
+
+// The longest book image, and one byte more, which shows a longer input for what it is.
+const INPUT: usize = BOOK_HEADER
+    + RULE_SIZE * MAX_RULES
+    + CONDITION_SIZE * MAX_CONDITIONS
+    + WORD_SIZE * MAX_WORDS
+    + 1;
+
+fn wide(n: u16) -> u64 {
+    n as u64
+}
+
+// The numbers of the running order, behind the word `order`.
+fn order_line(buffer: &mut [u8; ROOM], at: usize, order: &[u16; MAX_RULES], rules: usize) -> usize
+    requires { ⌜ (at < 4096) × (rules ≤ maxRules) ⌝ }
+    ensures { λ r. ⌜ r < 4096 ⌝ }
+{
+    let mut next = printing::text(buffer, at, b"order");
+    let mut i = 0;
+    while i < rules {
+        next = printing::named(buffer, next, b" ", wide(order[i]));
+        i += 1;
+    }
+    printing::text(buffer, next, b"\n")
+}
+
+// What is printed of a book that passes, behind the answer.
+fn passed_lines(buffer: &mut [u8; ROOM], at: usize, book: &[u8], order: &[u16; MAX_RULES]) -> usize
+    requires { ⌜ (at < 4096) × (Passed (now book) maxRules) ⌝ }
+    ensures { λ r. ⌜ r < 4096 ⌝ }
+{
+    let h = book::header::counts_at(book);
+    let a = printing::counts(
+        buffer,
+        at,
+        h.stages,
+        h.marks,
+        h.rules,
+        h.conditions,
+        h.words,
+    );
+    order_line(buffer, a, order, h.rules as usize)
+}
+
+fn report(book: &[u8]) {
+    let mut order = [0u16; MAX_RULES];
+    let answer = judge::check(book, &mut order);
+    let mut buffer = [0u8; ROOM];
+    let at = printing::answer(&mut buffer, 0, b"checked", answer);
+    if answer.code != 0 {
+        printing::finish(buffer, at);
+        return;
+    }
+    let end = passed_lines(&mut buffer, at, book, &order);
+    printing::finish(buffer, end);
+}
+
+fn main() {
+    let mut input = [0u8; INPUT];
+    let n = io::read_full(STDIN_FILENO, &mut input);
+    report(&input[..n]);
+}

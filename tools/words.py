@@ -1,0 +1,226 @@
+# What the scripts share: the words of every refusal, reading an input, building and running a program.
+
+import os
+import stat
+import subprocess
+import sys
+
+ROOT = os.path.dirname(os.path.dirname(os.path.abspath(__file__)))
+
+# Exit statuses of every script.
+PASSED, REFUSED, USAGE, COULD_NOT = 0, 1, 2, 3
+
+# ---- limits and formats, under the names of crates/paper
+
+MAX_NODES = 128
+MAX_RELATIONS = 4096
+MAX_EVENTS = 64
+MAX_MARKS = 256
+MAX_RULES = 8384
+MAX_CONDITIONS = 256
+MAX_WORDS = 41024
+MAX_STACK = 16
+CHART_HEADER = 8
+NODE_SIZE = 4
+RELATION_SIZE = 6
+NO_PARENT = 65535
+MAX_FLAGS = 7
+KINDS = 5
+BOOK_HEADER = 32
+RULE_SIZE = 10
+CONDITION_SIZE = 8
+WORD_SIZE = 2
+AND = 65533
+OR = 65534
+NOT = 65535
+
+LONGEST_CHART = CHART_HEADER + NODE_SIZE * MAX_NODES + RELATION_SIZE * MAX_RELATIONS
+LONGEST_BOOK = BOOK_HEADER + RULE_SIZE * MAX_RULES + CONDITION_SIZE * MAX_CONDITIONS + WORD_SIZE * MAX_WORDS
+
+# ---- refusals: each code's name in crates/paper and its words. In braces stand the limits above, `place` and `other` as numbers, and what
+# they are the number of: `node`, `relation`, `event`, `rule`, `condition`, `mark` of place, `other_event` and `other_rule` of other.
+
+REFUSALS = {
+    1: ('CHART_SHORT', 'the chart is too short to have a header, which takes {CHART_HEADER} bytes'),
+    2: ('CHART_COUNT', 'the header has a count out of range: a chart has 1 to {MAX_NODES} nodes and up to {MAX_RELATIONS:,} relations'),
+    3: ('CHART_LENGTH', "the header's offsets, or the length of the file, do not fit its counts"),
+    4: ('BAD_NODE', '{node} is a bad record: its parent is no node of the chart, or its flags are above {MAX_FLAGS}'),
+    5: ('PARENTS_LOOP', '{node} is on a loop of parents'),
+    6: ('GROUP_FLAGS', '{node} is a group, since other nodes have it as parent, and a group has no flags'),
+    7: ('MANY_EVENTS', 'the chart has {place} events, and at most {MAX_EVENTS} are allowed'),
+    8: ('BAD_RELATION', '{relation} is a bad record: it names a node that is not there, or a kind that is none of 0 to 4'),
+    9: ('INCLUDE_EXCLUDE', '{event} both includes and excludes {other_event}, itself or through groups'),
+    10: ('NO_SUCH_EVENT', 'there is no such event'),
+    11: ('NOT_INCLUDED', 'the event is not included'),
+    12: ('CONDITION_WANTING', '{event} is a condition and has not been executed'),
+    13: ('MILESTONE_WANTING', '{event} is a milestone and is pending'),
+    14: ('UNFIT', 'the flattened chart or the marking is unfit'),
+    15: ('BOOK_ROOM', 'the book takes {place:,} bytes, more than there is room for'),
+    20: ('BOOK_SHORT', 'the book is too short to have a header, which takes {BOOK_HEADER} bytes'),
+    21: ('BOOK_COUNT', 'the header has a count out of range: a book has up to {MAX_EVENTS} stages, as many marks or more but up to {MAX_MARKS}, '
+         'up to {MAX_RULES:,} rules, {MAX_CONDITIONS} conditions and {MAX_WORDS:,} words'),
+    22: ('BOOK_LENGTH', "the header's offsets, or the length of the file, do not fit its counts"),
+    23: ('BAD_RULE', '{rule} is a bad record'),
+    24: ('BAD_CONDITION', '{condition} is a bad record or has a bad text'),
+    25: ('LOOP', '{mark} is on a loop: rules wait for each other in a circle'),
+    26: ('CLASH', '{rule} and {other_rule} clash: one sets a mark, the other clears it, and nothing keeps them apart'),
+    27: ('ORDER_UNFIT', 'the order is unfit: it does not list each rule once, or a rule stands before one that it waits for'),
+    28: ('MARK_ABOVE', 'the snapshot has a yes at a mark that the book does not have'),
+    29: ('NO_SUCH_STAGE', 'there is no such stage'),
+    30: ('STAGE_CLOSED', 'the stage is closed'),
+    31: ('ORDER_ROOM', 'the order takes room for {place:,} numbers, more than there is'),
+}
+
+
+def words(code, place, other, node=None, relation=None, event=None, rule=None, condition=None, mark=None):
+    """What a refusal says, as a sentence without a full stop. Each hook turns a number of its sort into text; without it the
+    text is the sort and the number, as `node 3`."""
+    if code not in REFUSALS:
+        return 'refused with code %d, place %d, other %d' % (code, place, other)
+    hooks = dict(node=node, relation=relation, event=event, rule=rule, condition=condition, mark=mark)
+    said = {sort: hook or (lambda n, sort=sort: '%s %d' % (sort, n)) for sort, hook in hooks.items()}
+    wanted = REFUSALS[code][1]
+    fields = {name: value for name, value in globals().items() if name.isupper() and isinstance(value, int)}
+    fields.update(place=place, other=other)
+    for sort in said:
+        for field, number in ((sort, place), ('other_' + sort, other)):
+            if '{%s}' % field in wanted:
+                fields[field] = said[sort](number)
+    return wanted.format(**fields)
+
+
+# ---- how a script ends
+
+class Stop(Exception):
+    """Ends a script with a line on standard error and this exit status."""
+
+    def __init__(self, status, line):
+        super().__init__(line)
+        self.status = status
+
+
+def end(main):
+    """Runs main(words of the command line), which gives the exit status, and ends. No input ends in a traceback."""
+    try:
+        status = main(sys.argv[1:])
+        sys.stdout.flush()
+    except Stop as stop:
+        print(printable(str(stop)), file=sys.stderr)
+        status = stop.status
+    except BrokenPipeError:
+        os.dup2(os.open(os.devnull, os.O_WRONLY), sys.stdout.fileno())
+        status = COULD_NOT
+    except (OSError, MemoryError) as error:
+        print(printable(str(error)), file=sys.stderr)
+        status = COULD_NOT
+    except KeyboardInterrupt:
+        status = COULD_NOT
+    sys.exit(status)
+
+
+def printable(text):
+    """The text with escapes for what a terminal should not get: control characters, and bytes of a file name that are no text."""
+    return ''.join(c if c.isprintable() or c == '\n' else c.encode('unicode_escape', 'surrogatepass').decode() for c in text)
+
+
+def plural(n, sort):
+    return '%s %s%s' % (format(n, ','), sort, '' if n == 1 else 's')
+
+
+# ---- reading an input
+
+def read_input(path, limit):
+    """The first bytes of a file, a pipe or a device: `limit` and one more, which shows a longer input for what it is."""
+    try:
+        with open(path, 'rb') as source:
+            if stat.S_ISDIR(os.fstat(source.fileno()).st_mode):
+                raise IsADirectoryError
+            return source.read(limit + 1)
+    except FileNotFoundError:
+        raise Stop(USAGE, '%s: no such file' % (path or "''")) from None
+    except IsADirectoryError:
+        raise Stop(USAGE, '%s is a directory, not a file' % path) from None
+    except PermissionError:
+        raise Stop(USAGE, '%s may not be read' % path) from None
+    except (OSError, ValueError) as error:
+        raise Stop(USAGE, '%s cannot be read: %s' % (path, getattr(error, 'strerror', None) or error)) from None
+
+
+def looks_like_text(data):
+    """Whether these are lines of text: UTF-8, with no zero byte and no other control characters than tabs and ends of lines."""
+    try:
+        text = data.decode()
+    except UnicodeDecodeError:
+        return False
+    return bool(text) and all(c.isprintable() or c in '\t\r\n\ufeff' for c in text)
+
+
+def number16(data, at):
+    return int.from_bytes(data[at:at + 2], 'little')
+
+
+def number32(data, at):
+    return int.from_bytes(data[at:at + 4], 'little')
+
+
+def looks_like_chart(data):
+    """Whether the first bytes are a chart's header."""
+    return len(data) >= CHART_HEADER and number16(data, 4) == CHART_HEADER and number16(data, 6) == CHART_HEADER + NODE_SIZE * number16(data, 0)
+
+
+def looks_like_book(data):
+    """Whether the first bytes are a book's header."""
+    return len(data) >= BOOK_HEADER and number32(data, 20) == BOOK_HEADER and number32(data, 24) == BOOK_HEADER + RULE_SIZE * number32(data, 8)
+
+
+# ---- building and running a program
+
+def newer(program, name):
+    """Whether a crate that the program is built from has changed since."""
+    built = os.stat(program).st_mtime
+    parts = {name}
+    with open(os.path.join(ROOT, 'crates.txt')) as lines:
+        for line in lines:
+            crate, _, uses = line.partition(':')
+            if crate == name:
+                parts.update(uses.split())
+    for part in parts:
+        for folder, _, files in os.walk(os.path.join(ROOT, 'crates', part)):
+            if any(os.lstat(os.path.join(folder, file)).st_mtime > built for file in files):
+                return True
+    return False
+
+
+def program(name):
+    """The path of a program, which is built first where it is not there or older than its crates."""
+    path = os.path.join(ROOT, 'target', 'bin', name)
+    if os.path.isfile(path) and not newer(path, name):
+        return path
+    print('building %s, which takes some minutes the first time' % name, file=sys.stderr, flush=True)
+    try:
+        built = subprocess.run(['rt', 'check', name], cwd=ROOT, stdin=subprocess.DEVNULL, stdout=subprocess.PIPE, stderr=subprocess.STDOUT)
+    except FileNotFoundError:
+        raise Stop(COULD_NOT, '%s is not built, and the command rt, which builds it, was not found' % name) from None
+    if built.returncode != 0 or not os.path.isfile(path):
+        sys.stderr.write(built.stdout.decode(errors='replace'))
+        raise Stop(COULD_NOT, '%s could not be built' % name)
+    os.utime(path)
+    return path
+
+
+def command(path):
+    """The words that run a program on this processor."""
+    lines = '. "$1/tools/native.sh" && native_command "$2" && printf "%s\\0" "${native[@]}"'
+    found = subprocess.run(['bash', '-c', lines, 'bash', ROOT, path], stdout=subprocess.PIPE)
+    if found.returncode != 0:
+        raise Stop(COULD_NOT, '%s cannot be run here' % path)
+    return [os.fsdecode(word) for word in found.stdout.split(b'\0')[:-1]]
+
+
+def run(name, data):
+    """What a program writes on standard output when these bytes are its input."""
+    path = program(name)
+    ran = subprocess.run(command(path), input=data, stdout=subprocess.PIPE)
+    if ran.returncode != 0:
+        raise Stop(COULD_NOT, '%s did not end well' % path)
+    return ran.stdout
