@@ -62,7 +62,7 @@ REFUSALS = {
     22: ('BOOK_LENGTH', "the header's offsets, or the length of the file, do not fit its counts"),
     23: ('BAD_RULE', '{rule} is a bad record'),
     24: ('BAD_CONDITION', '{condition} is a bad record or has a bad text'),
-    25: ('LOOP', '{mark} is on a loop: rules wait for each other in a circle'),
+    25: ('LOOP', '{mark} is on a loop: rules that wait for each other in a circle'),
     26: ('CLASH', '{rule} and {other_rule} clash: one sets a mark, the other clears it, and nothing keeps them apart'),
     27: ('ORDER_UNFIT', 'the order is unfit: it does not list each rule once, or a rule stands before one that it waits for'),
     28: ('MARK_ABOVE', 'the snapshot has a yes at a mark that the book does not have'),
