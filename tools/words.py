@@ -1,6 +1,7 @@
 # What the scripts share: the words of every refusal, reading an input, building and running a program.
 
 import os
+import shutil
 import stat
 import subprocess
 import sys
@@ -196,11 +197,11 @@ def program(name):
     path = os.path.join(ROOT, 'target', 'bin', name)
     if os.path.isfile(path) and not newer(path, name):
         return path
+    if shutil.which('rt') is None:
+        state = 'is older than its crates' if os.path.isfile(path) else 'is not built'
+        raise Stop(COULD_NOT, '%s %s, and the command rt, which builds it, was not found' % (name, state))
     print('building %s, which takes some minutes the first time' % name, file=sys.stderr, flush=True)
-    try:
-        built = subprocess.run(['rt', 'check', name], cwd=ROOT, stdin=subprocess.DEVNULL, stdout=subprocess.PIPE, stderr=subprocess.STDOUT)
-    except FileNotFoundError:
-        raise Stop(COULD_NOT, '%s is not built, and the command rt, which builds it, was not found' % name) from None
+    built = subprocess.run(['rt', 'check', name], cwd=ROOT, stdin=subprocess.DEVNULL, stdout=subprocess.PIPE, stderr=subprocess.STDOUT)
     if built.returncode != 0 or not os.path.isfile(path):
         sys.stderr.write(built.stdout.decode(errors='replace'))
         raise Stop(COULD_NOT, '%s could not be built' % name)
