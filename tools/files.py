@@ -46,6 +46,8 @@ def same(one, other):
 
 def check_target(target, sort):
     """An image takes the place of nothing, of an empty file or of an older image of its sort."""
+    if not os.path.basename(target):
+        raise Stop(USAGE, '"%s" is no name for a file' % target)
     if os.path.isdir(target):
         raise Stop(USAGE, '%s is a directory, not a file' % target)
     if os.path.lexists(target) and not is_image(target, sort) and not (is_plain(target) and os.path.getsize(target) == 0):
