@@ -1,0 +1,268 @@
+# A chart's text, as charts/draw and ./list read it: its lines, what is wrong with them, and its image. README.md has the syntax.
+
+import os
+from collections import namedtuple
+
+from files import image_sort
+from words import CHART_HEADER, MAX_EVENTS, MAX_NODES, MAX_RELATIONS, NODE_SIZE, NO_PARENT
+
+FLAGS = {'executed': 1, 'pending': 2, 'included': 4}
+KINDS = {'condition': 0, 'response': 1, 'milestone': 2, 'include': 3, 'exclude': 4}
+OPPOSITES = {'include': 'exclude', 'exclude': 'include'}
+
+# The longest text that is read, in bytes; comments and long names have room in it.
+MAX_TEXT = 1048576
+# How much of a name a message shows.
+SHOWN = 40
+
+Relation = namedtuple('Relation', 'line origin kind to')
+
+
+class Mistake(Exception):
+    """What is wrong with a text, in words, with its line."""
+
+
+class Node:
+    """An event or a group, with the line that names it."""
+
+    def __init__(self, sort, name, line):
+        self.sort, self.name, self.line = sort, name, line
+        self.group = None
+        self.flags = 0
+
+
+class Drawing:
+    """The nodes by name and the relations, both in the order of their lines."""
+
+    def __init__(self):
+        self.nodes = {}
+        self.relations = []
+
+    def events(self):
+        """The events in the order of their numbers."""
+        return [node for node in self.nodes.values() if node.sort == 'event']
+
+    def above(self, node):
+        """The node and the groups above it, from the inside outwards."""
+        while node is not None:
+            yield node
+            node = self.nodes.get(node.group)
+
+
+def text_path(path):
+    """Where the text of a chart image stands."""
+    return os.path.splitext(path)[0] + '.txt'
+
+
+def mistake(line, text, *words):
+    return Mistake('line %d: %s' % (line, text % tuple(map(shown, words))))
+
+
+def shown(word):
+    word = str(word)
+    return word if len(word) <= SHOWN else word[:SHOWN - 2] + '..'
+
+
+def read(data):
+    """The drawing of a text's bytes. Its image is read with no other refusal than 5 and 9, which `judge` rules out."""
+    drawing = Drawing()
+    for number, line in enumerate(lines(data), 1):
+        words = line.split('#')[0].split()
+        for word in words:
+            if not word.isprintable():
+                raise mistake(number, 'a character here cannot be printed')
+        if words:
+            READERS.get(words[0], read_relation)(drawing, number, words)
+    for check in (check_any, check_groups, check_names):
+        check(drawing)
+    return drawing
+
+
+def judge(drawing):
+    """Hands the drawing back if its image is read without a refusal."""
+    check_loops(drawing)
+    check_pairs(drawing)
+    return drawing
+
+
+# ---- From bytes to lines
+
+def lines(data):
+    """The lines of a text. One that is too long is read as far as it may go, since an earlier line says better what is wrong."""
+    if image_sort(data):
+        raise Mistake('this is the image of a %s, not a text' % image_sort(data))
+    if data.startswith(b'\xef\xbb\xbf'):
+        raise mistake(1, 'the text begins with a byte order mark; save it as UTF-8 without one')
+    if data[:2] in (b'\xff\xfe', b'\xfe\xff'):
+        raise mistake(1, 'this is UTF-16; save the text as UTF-8')
+    kept = data if len(data) <= MAX_TEXT else data[:data.rfind(b'\n') + 1]
+    try:
+        text = kept.decode('utf-8')
+    except UnicodeDecodeError as fault:
+        raise mistake(data.count(b'\n', 0, fault.start) + 1, 'this is not text in UTF-8') from None
+    yield from text.replace('\r\n', '\n').replace('\r', '\n').split('\n')
+    if len(kept) < len(data):
+        raise mistake(data.count(b'\n') + 1, 'the text goes on past %s bytes, and no chart needs so many', format(MAX_TEXT, ','))
+
+
+# ---- From lines to nodes and relations
+
+def read_node(drawing, line, words):
+    sort, name, rest = words[0], ''.join(words[1:2]), words[2:]
+    if not name:
+        raise mistake(line, 'a name is missing')
+    if name in READERS:
+        raise mistake(line, '%s begins a line and cannot be a name', name)
+    if name in drawing.nodes:
+        raise mistake(line, '%s is there already (line %s)', name, drawing.nodes[name].line)
+    node = drawing.nodes[name] = Node(sort, name, line)
+    while rest:
+        rest = CLAUSES.get(rest[0], read_flag)(node, rest)
+    check_room(line, name, 'node', len(drawing.nodes), MAX_NODES)
+    if sort == 'event':
+        check_room(line, name, 'event', len(drawing.events()), MAX_EVENTS)
+
+
+def read_in(node, words):
+    """`in GROUP`; hands back the words behind it, as every clause does."""
+    if len(words) < 2:
+        raise mistake(node.line, 'in which group is %s?', node.name)
+    if node.group is not None:
+        raise mistake(node.line, '%s is in %s already', node.name, node.group)
+    node.group = words[1]
+    return words[2:]
+
+
+def read_flag(node, words):
+    if words[0] not in FLAGS:
+        raise mistake(node.line, '%s is none of executed, pending, included', words[0])
+    if node.sort == 'group':
+        raise mistake(node.line, 'the group %s cannot be %s, only its events can', node.name, words[0])
+    node.flags |= FLAGS[words[0]]
+    return words[1:]
+
+
+def read_relation(drawing, line, words):
+    if len(words) != 3:
+        raise mistake(line, 'expected event NAME, group NAME, or NAME %s NAME' % '|'.join(KINDS))
+    if words[1] not in KINDS:
+        raise mistake(line, '%s is none of ' + ', '.join(KINDS), words[1])
+    drawing.relations.append(Relation(line, *words))
+    check_room(line, ' '.join(map(shown, words)), 'relation', len(drawing.relations), MAX_RELATIONS)
+
+
+def check_room(line, name, sort, count, limit):
+    if count > limit:
+        raise Mistake('line %d: %s is %s number %s, and a chart has at most %s' % (line, shown(name), sort, format(count, ','), format(limit, ',')))
+
+
+# What begins a line, and what stands behind a node's name: the flags and these.
+READERS = {'event': read_node, 'group': read_node}
+CLAUSES = {'in': read_in}
+
+
+# ---- What has to hold between the lines
+
+def check_any(drawing):
+    if not drawing.nodes:
+        raise mistake(1, 'there is no event in the whole text')
+
+
+def check_groups(drawing):
+    """In the image a node is a group because others are in it, so the text must say the same."""
+    filled = set()
+    for node in drawing.nodes.values():
+        group = drawing.nodes.get(node.group)
+        if node.group is not None and group is None:
+            raise mistake(node.line, 'there is no group %s', node.group)
+        if group is not None and group.sort != 'group':
+            raise mistake(node.line, '%s is an event (line %s), not a group', group.name, group.line)
+        filled.add(node.group)
+    for node in drawing.nodes.values():
+        if node.sort == 'group' and node.name not in filled:
+            raise mistake(node.line, 'nothing is in the group %s, so it would be an event', node.name)
+
+
+def check_loops(drawing):
+    for node in drawing.nodes.values():
+        chain = []
+        for above in drawing.above(node):
+            if above in chain:
+                break
+            chain.append(above)
+        else:
+            continue
+        if above is node:
+            circle = ', '.join('%s is in %s (line %d)' % (shown(one.name), shown(one.group), one.line) for one in chain)
+            raise Mistake('line %d: the groups go round: %s' % (node.line, circle))
+
+
+def check_names(drawing):
+    for relation in drawing.relations:
+        for name in (relation.origin, relation.to):
+            if name not in drawing.nodes:
+                raise mistake(relation.line, 'there is no event or group %s', name)
+
+
+def check_pairs(drawing):
+    """No event may both include and exclude an event, itself or through groups."""
+    events, inside = drawing.events(), members(drawing)
+    reached = {kind: [0] * len(events) for kind in OPPOSITES}
+    for relation in drawing.relations:
+        if relation.kind not in OPPOSITES:
+            continue
+        origins, targets = inside[relation.origin], inside[relation.to]
+        for e, event in enumerate(events):
+            if origins >> e & 1:
+                both = reached[OPPOSITES[relation.kind]][e] & targets
+                if both:
+                    raise Mistake(conflict(drawing, relation, event, events[lowest(both)]))
+                reached[relation.kind][e] |= targets
+
+
+def members(drawing):
+    """The events in each node by its name, an event in itself: event e is bit e."""
+    inside = dict.fromkeys(drawing.nodes, 0)
+    for e, event in enumerate(drawing.events()):
+        for node in drawing.above(event):
+            inside[node.name] |= 1 << e
+    return inside
+
+
+def lowest(bits):
+    return (bits & -bits).bit_length() - 1
+
+
+def conflict(drawing, later, event, target):
+    """The words for a pair that a line both includes and excludes with an earlier one: `event` would do both to `target`."""
+    froms, tos = names_above(drawing, event), names_above(drawing, target)
+    earlier = next(relation for relation in drawing.relations
+                   if relation.kind == OPPOSITES[later.kind] and relation.origin in froms and relation.to in tos)
+    what = later.to if later.to == earlier.to else target.name
+    text = 'line %d %ss %s%s; line %d %ss it%s' % (
+        later.line, later.kind, shown(what), through(later, what), earlier.line, earlier.kind, through(earlier, what))
+    groups = sorted({later.origin, earlier.origin} - {event.name}, key=froms.index)
+    if groups and later.origin != earlier.origin:
+        text += ' (%s is in %s)' % (shown(event.name), ' and '.join(map(shown, groups)))
+    return text
+
+
+def names_above(drawing, node):
+    return [above.name for above in drawing.above(node)]
+
+
+def through(relation, what):
+    return '' if relation.to == what else ' through ' + shown(relation.to)
+
+
+# ---- The image
+
+def image(drawing):
+    place = {name: n for n, name in enumerate(drawing.nodes)}
+    nodes, relations = drawing.nodes.values(), drawing.relations
+    numbers = [len(nodes), len(relations), CHART_HEADER, CHART_HEADER + NODE_SIZE * len(nodes)]
+    for node in nodes:
+        numbers += [NO_PARENT if node.group is None else place[node.group], node.flags]
+    for relation in relations:
+        numbers += [place[relation.origin], place[relation.to], KINDS[relation.kind]]
+    return b''.join(one.to_bytes(2, 'little') for one in numbers)
