@@ -5,7 +5,7 @@
 // At the start it prints the open stages, and `finished` where no included event is pending. Each stage number gets one line: the
 // same after a completion, or the refusal, which leaves everything as it was and does not count as a failure. A word that is no stage
 // number is said on standard error and passed over; one of over 32 characters, which may be no text at all, ends the run.
-// Exit status: 0; 1 if the chart is refused or a word was no stage number; 2 usage; 3 if a file could not be read or written.
+// Exit status: 0; 1 if the chart is refused or a word was no stage number; 2 usage, or no such chart; 3 if input or output failed.
 #include "ozhimka.h"
 
 #include <ctype.h>
@@ -121,7 +121,7 @@ int main(int argc, char **argv)
         return 2;
     }
     if (!read_file(argv[1]))
-        return 3;
+        return 2;
     if (!load())
         return 1;
     print_open();
