@@ -1,14 +1,16 @@
 // The controller's interface to Ozhimka: reading a chart, stepping it, deriving its rule book, checking a book, completing a stage.
 //
-// Link target/staticlib/libozhimka.a (x86-64, the System V calling convention); of the C library it uses memcpy, memmove and memset at most.
-// Every call ends, keeps no memory between calls, allocates nothing, and may be made from several threads at once.
+// For C99 and later and C++11 and later. Link libozhimka.a (x86-64, the System V calling convention); of the C library it uses memcpy,
+// memmove and memset at most. Every call ends, keeps no memory between calls, allocates nothing, and may be made from several threads at
+// once.
 //
-// The caller's duties. A slice goes in as a pointer and a count of elements. No pointer is null, and a pointer to uint16_t is even, also
-// where the count is 0. It is valid for as many elements as the count says, and nobody else writes them during the call. Room that is
-// lent to be written overlaps nothing else that the call is given. A `bool` is 0 or 1.
+// The caller's duties. A slice goes in as a pointer and a count of elements. The pointer may be null where the count is 0; else it is valid
+// for as many elements as the count says, and nobody else writes them during the call. A pointer to uint16_t is even. Room that is lent
+// to be written overlaps nothing else that the call is given. A `bool` is 0 or 1.
 //
-// Stack, at most, without the caller's copies of arguments and result and without what the C library takes: ozhimka_check 72 KiB,
-// ozhimka_complete 55 KiB, ozhimka_read_chart 15 KiB, every other call 4 KiB.
+// Stack, at most, with the copies that the caller's code makes there of structs that go in or come back by value (ozhimka_chart takes 2,568
+// bytes, ozhimka_reading 2,608), and without what the C library and the dynamic linker take: ozhimka_check 72 KiB, ozhimka_complete
+// 56 KiB, ozhimka_read_chart 17 KiB, every other call 6 KiB.
 //
 // Every answer is a code, a place and an other. Code 0 is granted; any other refuses, and then
 //   - a marking or a snapshot that was handed in is handed back as it was;
@@ -48,21 +50,99 @@
 #ifndef OZHIMKA_H
 #define OZHIMKA_H
 
+// Windows has another calling convention, and so has x32, with pointers of 4 bytes.
+#if !defined(__x86_64__) || defined(__ILP32__) || defined(_WIN32) || defined(__CYGWIN__)
+#error "libozhimka.a is for x86-64 with the System V calling convention"
+#endif
+
+#ifndef __cplusplus
 #include <stdbool.h>
+#endif
 #include <stddef.h>
 #include <stdint.h>
+
+// The header's version. A new major number changes what a program written for the one before relies on; a new minor number adds to it.
+#define OZHIMKA_VERSION_MAJOR 1
+#define OZHIMKA_VERSION_MINOR 0
+#define OZHIMKA_VERSION "1.0"
 
 #ifdef __cplusplus
 extern "C" {
 #endif
 
+// Limits.
 enum {
-    OZHIMKA_MAX_EVENTS = 64,       // events of a chart
-    OZHIMKA_MAX_MARKS = 256,       // marks of a snapshot
-    OZHIMKA_MAX_RULES = 8384,      // rules of a book, and numbers of an order
-    OZHIMKA_MAX_CHART = 25096,     // bytes of a chart image
-    OZHIMKA_MAX_DERIVED = 166432,  // bytes of a derived book
-    OZHIMKA_MAX_BOOK = 167968      // bytes of any book
+    OZHIMKA_MAX_NODES = 128,                     // nodes of a chart image, events and groups
+    OZHIMKA_MAX_RELATIONS = 4096,                // relations of a chart image
+    OZHIMKA_MAX_EVENTS = 64,                     // events of a chart
+    OZHIMKA_NO_EVENT = OZHIMKA_MAX_EVENTS,       // the lowest open event where none is open
+    OZHIMKA_MAX_STAGES = OZHIMKA_MAX_EVENTS,     // stages of a book
+    OZHIMKA_MAX_MARKS = 256,                     // marks of a book and of a snapshot
+    OZHIMKA_MAX_RULES = 8384,                    // rules of a book, and numbers of an order
+    OZHIMKA_MAX_CONDITIONS = 256,                // conditions of a book
+    OZHIMKA_MAX_WORDS = 41024,                   // words of a book
+    OZHIMKA_MAX_STACK = 16                       // values that a condition's text holds at once
+};
+
+// The chart image: sizes in bytes, flags of a node, kinds of a relation.
+enum {
+    OZHIMKA_CHART_HEADER = 8,
+    OZHIMKA_NODE_SIZE = 4,
+    OZHIMKA_RELATION_SIZE = 6,
+    OZHIMKA_MAX_CHART = OZHIMKA_CHART_HEADER + OZHIMKA_NODE_SIZE * OZHIMKA_MAX_NODES + OZHIMKA_RELATION_SIZE * OZHIMKA_MAX_RELATIONS,
+    OZHIMKA_NO_PARENT = 65535
+};
+
+enum ozhimka_flag {
+    OZHIMKA_FLAG_EXECUTED = 1,
+    OZHIMKA_FLAG_PENDING = 2,
+    OZHIMKA_FLAG_INCLUDED = 4,
+    OZHIMKA_MAX_FLAGS = 7                        // all three
+};
+
+enum ozhimka_kind {
+    OZHIMKA_KIND_CONDITION = 0,                  // from is a condition of to
+    OZHIMKA_KIND_RESPONSE = 1,                   // to is a response of from
+    OZHIMKA_KIND_MILESTONE = 2,                  // from is a milestone of to
+    OZHIMKA_KIND_INCLUDE = 3,                    // from includes to
+    OZHIMKA_KIND_EXCLUDE = 4,                    // from excludes to
+    OZHIMKA_KINDS = 5
+};
+
+// The book image: sizes in bytes, the bytes of a rule, the words that are operators.
+enum {
+    OZHIMKA_BOOK_HEADER = 32,
+    OZHIMKA_RULE_SIZE = 10,
+    OZHIMKA_CONDITION_SIZE = 8,
+    OZHIMKA_WORD_SIZE = 2,
+    OZHIMKA_MAX_BOOK = OZHIMKA_BOOK_HEADER + OZHIMKA_RULE_SIZE * OZHIMKA_MAX_RULES + OZHIMKA_CONDITION_SIZE * OZHIMKA_MAX_CONDITIONS
+                       + OZHIMKA_WORD_SIZE * OZHIMKA_MAX_WORDS,
+    OZHIMKA_MAX_DERIVED = OZHIMKA_BOOK_HEADER + OZHIMKA_RULE_SIZE * OZHIMKA_MAX_RULES + OZHIMKA_CONDITION_SIZE * OZHIMKA_MAX_EVENTS
+                          + OZHIMKA_WORD_SIZE * OZHIMKA_MAX_WORDS // of a derived book, which has one condition an event
+};
+
+enum ozhimka_trigger {
+    OZHIMKA_TRIGGER_NONE = 0,
+    OZHIMKA_TRIGGER_COMPLETED = 1,               // a stage completed
+    OZHIMKA_TRIGGER_BECOME_YES = 2,              // a mark become yes
+    OZHIMKA_TRIGGER_BECOME_NO = 3                // a mark become no
+};
+
+enum ozhimka_sense {
+    OZHIMKA_SENSE_NONE = 0,                      // no condition
+    OZHIMKA_SENSE_AS_WRITTEN = 1,
+    OZHIMKA_SENSE_NEGATED = 2
+};
+
+enum ozhimka_effect {
+    OZHIMKA_EFFECT_CLEAR = 0,
+    OZHIMKA_EFFECT_SET = 1
+};
+
+enum ozhimka_word {
+    OZHIMKA_WORD_AND = 65533,
+    OZHIMKA_WORD_OR = 65534,
+    OZHIMKA_WORD_NOT = 65535
 };
 
 enum ozhimka_code {
@@ -107,7 +187,8 @@ struct ozhimka_answer {
 // count, every entry at or above count is 0, and no entry's includes and excludes have a bit in common.
 struct ozhimka_chart {
     uint32_t count;
-    uint64_t conditions[64], responses[64], milestones[64], includes[64], excludes[64];
+    uint64_t conditions[OZHIMKA_MAX_EVENTS], responses[OZHIMKA_MAX_EVENTS], milestones[OZHIMKA_MAX_EVENTS];
+    uint64_t includes[OZHIMKA_MAX_EVENTS], excludes[OZHIMKA_MAX_EVENTS];
 };
 
 // Which events were executed, are pending, are included. It is fit for a chart if no bit stands at or above the chart's count.
@@ -118,7 +199,7 @@ struct ozhimka_marking {
 // Marks of a book, yes or no. Mark e below the book's count of stages is stage e. In a derived book of n events, stage e is open,
 // n + e executed, 2n + e included, 3n + e answered (not pending).
 struct ozhimka_snapshot {
-    bool marks[256];
+    bool marks[OZHIMKA_MAX_MARKS];
 };
 
 struct ozhimka_reading {
@@ -148,13 +229,18 @@ struct ozhimka_settled {
 };
 
 // The sizes that the archive is built with: a compiler that lays the structs out in another way stops here.
-typedef char ozhimka_sizes[sizeof(struct ozhimka_answer) == 12 && sizeof(struct ozhimka_chart) == 2568
+typedef char ozhimka_sizes[sizeof(size_t) == 8 && sizeof(struct ozhimka_answer) == 12 && sizeof(struct ozhimka_chart) == 2568
                                    && sizeof(struct ozhimka_marking) == 24 && sizeof(struct ozhimka_snapshot) == 256
                                    && sizeof(struct ozhimka_reading) == 2608 && sizeof(struct ozhimka_step) == 40
                                    && sizeof(struct ozhimka_open_count) == 20 && sizeof(struct ozhimka_finish) == 16
                                    && sizeof(struct ozhimka_settled) == 268
                                ? 1
                                : -1];
+
+// The five counts at the start of a book image.
+struct ozhimka_counts {
+    uint32_t stages, marks, rules, conditions, words;
+};
 
 // The flat chart and the start marking of a chart image of `length` bytes. Refuses with 1 to 9, and then gives a chart of count 0
 // with every set empty, and an empty marking.
@@ -165,7 +251,7 @@ struct ozhimka_reading ozhimka_read_chart(const uint8_t *image, size_t length);
 // excluded, what it includes included. Refuses with 10 to 14, and then hands the marking back.
 struct ozhimka_step ozhimka_execute(struct ozhimka_chart chart, struct ozhimka_marking marking, uint32_t event);
 
-// How many events are open, and the lowest of them, 64 if none is. Refuses with 14, and then gives 0 and 64.
+// How many events are open, and the lowest of them, OZHIMKA_NO_EVENT if none is. Refuses with 14, and then gives 0 and OZHIMKA_NO_EVENT.
 struct ozhimka_open_count ozhimka_count_open(struct ozhimka_chart chart, struct ozhimka_marking marking);
 
 // Whether no event is both included and pending. Refuses with 14, and then says no.
@@ -174,8 +260,8 @@ struct ozhimka_finish ozhimka_finished(struct ozhimka_chart chart, struct ozhimk
 // The snapshot of the derived book that stands for a marking of the chart. Refuses with 14, and then gives every mark no.
 struct ozhimka_settled ozhimka_matching(struct ozhimka_chart chart, struct ozhimka_marking marking);
 
-// Writes the chart's rule book to the start of the room, which has `length` bytes; OZHIMKA_MAX_DERIVED are enough for any chart. Its
-// length is 32 + 10 R + 8 Q + 2 W, from the third, fourth and fifth 32-bit number of its header. What lies behind it stays as it was.
+// Writes the chart's rule book to the start of the room, which has `length` bytes; OZHIMKA_MAX_DERIVED are enough for any chart.
+// ozhimka_book_length tells its length. What lies behind it stays as it was.
 // From the matching snapshot of a marking, completing its stage e gives the matching snapshot of the marking after event e is executed.
 // Refuses with 14 and 15.
 struct ozhimka_answer ozhimka_derive(struct ozhimka_chart chart, uint8_t *room, size_t length);
@@ -190,6 +276,66 @@ struct ozhimka_answer ozhimka_check(const uint8_t *book, size_t length, uint16_t
 // anew in every call. Refuses with 20 to 30, and then hands the snapshot back.
 struct ozhimka_settled ozhimka_complete(const uint8_t *book, size_t length, const uint16_t *order, size_t count,
                                         struct ozhimka_snapshot snapshot, uint32_t stage);
+
+// The counts in a book's header, which is the first OZHIMKA_BOOK_HEADER bytes.
+static inline struct ozhimka_counts ozhimka_book_counts(const uint8_t *header)
+{
+    uint32_t number[5];
+    struct ozhimka_counts counts;
+    for (int i = 0; i < 5; i++)
+        number[i] = (uint32_t)header[4 * i] | (uint32_t)header[4 * i + 1] << 8 | (uint32_t)header[4 * i + 2] << 16
+                    | (uint32_t)header[4 * i + 3] << 24;
+    counts.stages = number[0];
+    counts.marks = number[1];
+    counts.rules = number[2];
+    counts.conditions = number[3];
+    counts.words = number[4];
+    return counts;
+}
+
+// The length in bytes of the book, derived or any other, that has this header; above OZHIMKA_MAX_BOOK only if a count is out of range.
+static inline size_t ozhimka_book_length(const uint8_t *header)
+{
+    struct ozhimka_counts counts = ozhimka_book_counts(header);
+    return OZHIMKA_BOOK_HEADER + OZHIMKA_RULE_SIZE * (size_t)counts.rules + OZHIMKA_CONDITION_SIZE * (size_t)counts.conditions
+           + OZHIMKA_WORD_SIZE * (size_t)counts.words;
+}
+
+// A code in words, with what its place and other are.
+static inline const char *ozhimka_reason(uint32_t code)
+{
+    switch (code) {
+    case OZHIMKA_GRANTED: return "granted";
+    case OZHIMKA_CHART_SHORT: return "the chart is too short to have a header";
+    case OZHIMKA_CHART_COUNT: return "the chart's count of nodes or of relations is out of range";
+    case OZHIMKA_CHART_LENGTH: return "the chart's offsets or its length do not fit its counts";
+    case OZHIMKA_BAD_NODE: return "a node's parent is no node of the chart, or its flags are above 7 (place: the node)";
+    case OZHIMKA_PARENTS_LOOP: return "parents form a loop (place: the lowest node on one)";
+    case OZHIMKA_GROUP_FLAGS: return "a group has flags (place: its node)";
+    case OZHIMKA_MANY_EVENTS: return "the chart has over 64 events (place: how many)";
+    case OZHIMKA_BAD_RELATION: return "a relation names no node of the chart, or no kind (place: the relation)";
+    case OZHIMKA_INCLUDE_EXCLUDE: return "an event both includes and excludes another (place: the one, other: the other)";
+    case OZHIMKA_NO_SUCH_EVENT: return "the chart has no such event";
+    case OZHIMKA_NOT_INCLUDED: return "the event is not included";
+    case OZHIMKA_CONDITION_WANTING: return "a condition of the event was not executed (place: the lowest such)";
+    case OZHIMKA_MILESTONE_WANTING: return "a milestone of the event is pending (place: the lowest such)";
+    case OZHIMKA_UNFIT: return "the flat chart or the marking is unfit";
+    case OZHIMKA_BOOK_ROOM: return "the room for the book is too short (place: bytes needed)";
+    case OZHIMKA_BOOK_SHORT: return "the book is too short to have a header";
+    case OZHIMKA_BOOK_COUNT: return "a count in the book's header is out of range";
+    case OZHIMKA_BOOK_LENGTH: return "the book's offsets or its length do not fit its counts";
+    case OZHIMKA_BAD_RULE: return "a rule is a bad record (place: the rule)";
+    case OZHIMKA_BAD_CONDITION: return "a condition is a bad record, or its text is (place: the condition)";
+    case OZHIMKA_LOOP: return "rules loop (place: the lowest mark that a rule on a loop targets)";
+    case OZHIMKA_CLASH: return "two rules clash (place: the first, other: the second)";
+    case OZHIMKA_ORDER_UNFIT: return "the order does not fit the book";
+    case OZHIMKA_MARK_ABOVE: return "the snapshot has a mark that the book has not";
+    case OZHIMKA_NO_SUCH_STAGE: return "the book has no such stage";
+    case OZHIMKA_STAGE_CLOSED: return "the stage is closed";
+    case OZHIMKA_ORDER_ROOM: return "the room for the order is too short (place: numbers needed)";
+    default: return "no code of this library";
+    }
+}
 
 #ifdef __cplusplus
 }

@@ -1,4 +1,5 @@
-# How a program for x86-64 is compiled and run on this processor. Sourced by list, model/run, examples/run and bench/run.
+# How a program for x86-64 is compiled and run on this processor. Sourced by list, install, model/run, examples/run
+# and bench/run.
 
 # native_command PROGRAM: puts the words that run PROGRAM into the array `native`. With the toolchain at hand they are
 # those that rt uses: the toolchain's emulator, where it has one for this processor, and its loader and C library.
@@ -55,4 +56,21 @@ x86_64_command() {
     }
     native=("$emulator" -cpu 'max,-erms' "$1")
     x86_64_how="Compiled for x86-64 and run under an emulator ($("$emulator" --version | head -n 1)), so the ratios say more than the times"
+}
+
+# archive_ready: builds target/staticlib/libozhimka.a unless it is newer than every crate; what rt says is shown only if that fails.
+archive_ready() {
+    local archive=target/staticlib/libozhimka.a said=target/staticlib.log
+    [ ! -f "$archive" ] || [ -n "$(find crates crates.txt -newer "$archive" -print -quit)" ] || return 0
+    if ! command -v rt >/dev/null; then
+        echo "no command rt, which builds $archive: the toolchain is wanted" >&2
+        return 1
+    fi
+    [ ! -t 2 ] || echo "building $archive, which takes some minutes the first time" >&2
+    mkdir -p target || return 1
+    if ! rt staticlib ozhimka >"$said" 2>&1; then
+        cat "$said" >&2
+        return 1
+    fi
+    touch "$archive"
 }

@@ -1,0 +1,150 @@
+// Tries on the library what the header says of null pointers, of a book's length, of the words for each code, and of the stack. Prints what
+// does not hold; exit status 0 if nothing, else 1. Wants POSIX contexts, to run a call on a stack that was painted before.
+#define _XOPEN_SOURCE 700
+#include "ozhimka.h"
+
+#include <stdio.h>
+#include <string.h>
+#include <ucontext.h>
+
+enum { PAINT = 0xA5, ROOM = 1 << 18 };
+
+static int failures;
+static uint8_t image[OZHIMKA_MAX_CHART], book[OZHIMKA_MAX_BOOK];
+static uint16_t order[OZHIMKA_MAX_RULES];
+static size_t image_length, book_length, rules;
+static struct ozhimka_reading reading;
+static struct ozhimka_settled settled;
+static struct ozhimka_snapshot open; // stage 0 is open, and nothing else is yes
+
+static void expect(bool holds, const char *what)
+{
+    if (!holds) {
+        printf("does not hold: %s\n", what);
+        failures++;
+    }
+}
+
+static void put16(uint8_t *at, size_t number)
+{
+    at[0] = (uint8_t)number;
+    at[1] = (uint8_t)(number >> 8);
+}
+
+// A chart of 64 groups, each in the one before, with an event in each, and 4,096 relations: all kinds but exclude.
+static void largest_chart(void)
+{
+    size_t nodes = OZHIMKA_MAX_NODES, events = OZHIMKA_MAX_EVENTS, relations_at = OZHIMKA_CHART_HEADER + OZHIMKA_NODE_SIZE * nodes;
+    put16(image, nodes);
+    put16(image + 2, OZHIMKA_MAX_RELATIONS);
+    put16(image + 4, OZHIMKA_CHART_HEADER);
+    put16(image + 6, relations_at);
+    for (size_t n = 0; n < nodes; n++) {
+        uint8_t *node = image + OZHIMKA_CHART_HEADER + OZHIMKA_NODE_SIZE * n;
+        put16(node, n == 0 ? OZHIMKA_NO_PARENT : n < events ? n - 1 : n - events);
+        put16(node + 2, n < events ? 0 : OZHIMKA_FLAG_INCLUDED);
+    }
+    for (size_t k = 0; k < OZHIMKA_MAX_RELATIONS; k++) {
+        uint8_t *relation = image + relations_at + OZHIMKA_RELATION_SIZE * k;
+        put16(relation, events + k % events);
+        put16(relation + 2, events + k / events);
+        put16(relation + 4, k % OZHIMKA_KIND_EXCLUDE);
+    }
+    image_length = OZHIMKA_MAX_CHART;
+}
+
+// ---- the calls, each on the values above
+
+static void no_call(void) {}
+static void read_chart(void) { reading = ozhimka_read_chart(image, image_length); }
+static void execute(void) { reading.marking = ozhimka_execute(reading.chart, reading.marking, 0).marking; }
+static void count_open(void) { order[0] = (uint16_t)ozhimka_count_open(reading.chart, reading.marking).count; }
+static void finished(void) { settled.snapshot.marks[0] = ozhimka_finished(reading.chart, reading.marking).yes; }
+static void matching(void) { settled = ozhimka_matching(reading.chart, reading.marking); }
+static void derive(void) { settled.answer = ozhimka_derive(reading.chart, book, sizeof book); }
+static void check(void) { settled.answer = ozhimka_check(book, book_length, order, OZHIMKA_MAX_RULES); }
+static void complete(void) { settled = ozhimka_complete(book, book_length, order, rules, open, 0); }
+
+static ucontext_t here, there;
+
+static size_t stack_of(void (*call)(void))
+{
+    static unsigned char stack[ROOM];
+    size_t left = 0;
+    call(); // once before, so that the dynamic linker has found what the call uses
+    memset(stack, PAINT, sizeof stack);
+    getcontext(&there);
+    there.uc_stack.ss_sp = stack;
+    there.uc_stack.ss_size = sizeof stack;
+    there.uc_link = &here;
+    makecontext(&there, call, 0);
+    swapcontext(&here, &there);
+    while (left < sizeof stack && stack[left] == PAINT)
+        left++;
+    return sizeof stack - left;
+}
+
+static void expect_stack(const char *name, void (*call)(void), size_t kib)
+{
+    size_t bytes = stack_of(call) - stack_of(no_call);
+    if (settled.answer.code != OZHIMKA_GRANTED || bytes > 1024 * kib) {
+        printf("%s: %zu bytes of stack, %zu KiB said; code %u\n", name, bytes, kib, (unsigned)settled.answer.code);
+        failures++;
+    }
+}
+
+static void try_stack(void)
+{
+    largest_chart();
+    expect_stack("ozhimka_read_chart", read_chart, 17);
+    expect(reading.answer.code == OZHIMKA_GRANTED, "the largest chart is read");
+    expect_stack("ozhimka_execute", execute, 6);
+    expect_stack("ozhimka_count_open", count_open, 6);
+    expect_stack("ozhimka_finished", finished, 6);
+    expect_stack("ozhimka_derive", derive, 6);
+    book_length = ozhimka_book_length(book);
+    rules = ozhimka_book_counts(book).rules;
+    expect_stack("ozhimka_check", check, 72);
+    expect_stack("ozhimka_matching", matching, 6);
+    expect_stack("ozhimka_complete", complete, 56);
+}
+
+static bool is(struct ozhimka_answer answer, uint32_t code, size_t place)
+{
+    return answer.code == code && answer.place == place && answer.other == 0;
+}
+
+static void try_null(void)
+{
+    uint8_t no_rules[OZHIMKA_BOOK_HEADER] = {0};
+    no_rules[0] = no_rules[4] = 1; // a stage, which is a mark
+    no_rules[20] = no_rules[24] = no_rules[28] = OZHIMKA_BOOK_HEADER;
+    expect(is(ozhimka_read_chart(NULL, 0).answer, OZHIMKA_CHART_SHORT, 0), "no chart");
+    expect(is(ozhimka_derive(reading.chart, NULL, 0), OZHIMKA_BOOK_ROOM, book_length), "no room for a book");
+    expect(is(ozhimka_check(NULL, 0, NULL, 0), OZHIMKA_BOOK_SHORT, 0), "no book to check");
+    expect(is(ozhimka_check(book, book_length, NULL, 0), OZHIMKA_ORDER_ROOM, rules), "no room for an order");
+    expect(is(ozhimka_check(no_rules, sizeof no_rules, NULL, 0), OZHIMKA_GRANTED, 0), "no rules, no room");
+    expect(is(ozhimka_complete(NULL, 0, NULL, 0, open, 0).answer, OZHIMKA_BOOK_SHORT, 0), "no book to complete a stage of");
+    expect(is(ozhimka_complete(book, book_length, NULL, 0, open, 0).answer, OZHIMKA_ORDER_UNFIT, 0), "rules, no order");
+    struct ozhimka_settled same = ozhimka_complete(no_rules, sizeof no_rules, NULL, 0, open, 0);
+    expect(is(same.answer, OZHIMKA_GRANTED, 0) && memcmp(&same.snapshot, &open, sizeof open) == 0, "no rules, no order");
+    expect(ozhimka_book_length(no_rules) == sizeof no_rules, "the length of a book without rules");
+}
+
+static void try_reasons(void)
+{
+    const char *unknown = ozhimka_reason(UINT32_MAX);
+    for (uint32_t code = 0; code <= OZHIMKA_ORDER_ROOM; code++) {
+        bool known = code <= OZHIMKA_BOOK_ROOM || code >= OZHIMKA_BOOK_SHORT;
+        expect((strcmp(ozhimka_reason(code), unknown) != 0) == known, "words for each code and for no other number");
+    }
+}
+
+int main(void)
+{
+    open.marks[0] = true;
+    try_stack();
+    try_null();
+    try_reasons();
+    return failures == 0 ? 0 : 1;
+}
