@@ -15,9 +15,8 @@ use Rattle.sets.specs.Below.{some, some-of, some-none, first, first-is, first-s
 use Rattle.reach.specs.Closure.{Way, hop, via, trans, wider}
 use Rattle.reach.specs.Rows.{bit}
 use Rattle.chart.specs.Image.{nodes, parentOf, Whole}
-use Rattle.chart.specs.Nesting.{parent, nested, atOrAbove, onLoopAt}
+use Rattle.chart.specs.Nesting.{parent, nested, atOrAbove, onLoopAt, nested-so}
 use Rattle.chart.specs.Tables.{rowWidth, Nestings}
-use Rattle.chart.specs.Conditions.{nested-so}
 
 -- c is a node, and g is c or lies above it
 unfoldable pub fromUp : List ℕ → ℕ → ℕ → Bool

@@ -11,10 +11,9 @@ use borrow.Author.Tests.{lt-ltb, le-ltb, ltb-true, ltb-false, le-leb, leb-true, 
 use Rattle.paper.specs.Limits.{maxNodes, maxRelations, chartHeader, noParent, maxFlags, kinds}
 use Rattle.sets.specs.Cases.{contra, cases, both, either, neither, all3, or-left, or-right, not-so}
 use Rattle.sets.specs.Below.{some, some-of, some-at, some-none, first, first-is, first-found}
-use Rattle.reach.specs.Closure.{reached}
 use Rattle.graph.specs.Chart.{Kind, include, exclude}
 use Rattle.chart.specs.Image.{nodes, relations, nodesOffset, relationsOffset, nodeAt, relationAt, parentOf, flagsOf, fromOf, toOf, kindOf, outOfRange, misplaced, badNodeAt, badRelationAt}
-use Rattle.chart.specs.Nesting.{parent, Nested, AtOrAbove, OnLoop, nested, atOrAbove, onLoopAt, isGroup, eventCount, eventNode, flaggedGroupAt}
+use Rattle.chart.specs.Nesting.{parent, Nested, AtOrAbove, OnLoop, nested, atOrAbove, onLoopAt, isGroup, eventCount, eventNode, flaggedGroupAt, nested-so}
 use Rattle.chart.specs.Flattening.{kindNumber, Flattened, leads, related, conflict, conflictAt}
 
 -- the lowest number below n of which P holds
@@ -126,21 +125,13 @@ module _ (image : List ℕ) where
       (leb-so kinds (kindOf image k))
 
   -- a parent is a node
-  parent-in : (a b : ℕ) → parent image a b ≡ true → b < nodes image
-  unfolding parent
-  parent-in a b h = ltb-true b (nodes image) (all3 (ltb a (nodes image)) (ltb b (nodes image)) (eqb (parentOf image a) b) h .1)
-
-  pub nested-so : (a b : ℕ) → (nested image a b ≡ true) ↔ Nested image a b
-  unfolding nested
-  nested-so a b = let t = reached (parent image) (nodes image) parent-in a b in (t .1, t .0)
-
   pub loop-so : (a : ℕ) → (onLoopAt image a ≡ true) ↔ OnLoop image a
   unfolding onLoopAt
-  loop-so a = nested-so a a
+  loop-so a = nested-so image a a
 
   pub above-so : (a b : ℕ) → (atOrAbove image a b ≡ true) ↔ AtOrAbove image a b
   unfolding atOrAbove
-  above-so a b = or-so (eqb a b) (nested image a b) (eqb-true a b, eq-eqb a b) (nested-so a b)
+  above-so a b = or-so (eqb a b) (nested image a b) (eqb-true a b, eq-eqb a b) (nested-so image a b)
 
   pub member-in : (a b : ℕ) → parent image a b ≡ true → a < nodes image
   unfolding parent

@@ -1,12 +1,14 @@
 -- Nesting as document 001's Definition 1 has it: super-events, the nesting relation and its reflexive closure, atoms, and the numbers of the events. Assumes nothing.
-use Prim.Native.Nat.{ℕ}
+use Prim.Native.Nat.{ℕ, _<_}
 use mathlib.Core.Path.{_≡_}
-use mathlib.Core.Logic.{_⊎_}
-use mathlib.Core.Bool.{Bool, not, _&&_, _||_}
+use mathlib.Core.Logic.{_↔_, _⊎_}
+use mathlib.Core.Bool.{Bool, true, not, _&&_, _||_}
 use mathlib.Core.List.{List}
 use lib.Dec.{eqb, ltb}
+use borrow.Author.Tests.{ltb-true}
+use Rattle.sets.specs.Cases.{all3}
 use Rattle.sets.specs.Below.{some, first, tally}
-use Rattle.reach.specs.Closure.{Way, within}
+use Rattle.reach.specs.Closure.{Way, within, reached}
 use Rattle.chart.specs.Image.{nodes, parentOf, flagsOf}
 
 module _ (image : List ℕ) where
@@ -59,3 +61,14 @@ module _ (image : List ℕ) where
   -- "a group's flags are 0"
   unfoldable pub flaggedGroupAt : ℕ → Bool
   flaggedGroupAt i = isGroup i && not (eqb (flagsOf image i) 0)
+
+-- ---- the closure says so
+
+module _ (image : List ℕ) where
+  parent-in : (a b : ℕ) → parent image a b ≡ true → b < nodes image
+  unfolding parent
+  parent-in a b h = ltb-true b (nodes image) (all3 (ltb a (nodes image)) (ltb b (nodes image)) (eqb (parentOf image a) b) h .1)
+
+  pub nested-so : (a b : ℕ) → (nested image a b ≡ true) ↔ Nested image a b
+  unfolding nested
+  nested-so a b = let t = reached (parent image) (nodes image) parent-in a b in (t .1, t .0)

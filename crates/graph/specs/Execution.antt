@@ -16,7 +16,7 @@ use Rattle.sets.specs.Laws.{has-union, has-inter, has-minus, has-only, has-empt
 use Rattle.graph.specs.Chart.{condition, response, milestone, include, exclude, setOf, In, Fit, FitMarking}
 use Rattle.graph.specs.Tests.{fit}
 use Rattle.graph.specs.Fitness.{fit-both, both-fit}
-use Rattle.graph.specs.Steps.{unmetOf, awaitedOf, openWith, isOpen, afterWith, after, refusing, granting, executing, openAmong, openSet, counting, finishing}
+use Rattle.graph.specs.Steps.{unmetOf, awaitedOf, openWith, isOpen, afterWith, after, refusing, granting, stepping, executing, openAmong, openSet, counting, finishing}
 use Rattle.graph.specs.declared.FlatChart.{FlatChart}
 use Rattle.graph.specs.declared.Marking.{Marking}
 use Rattle.graph.specs.declared.steps.Step.{Step}
@@ -165,16 +165,17 @@ executed-one c m e n k a b =
 
 module _ (c : FlatChart) (m : Marking) (e : ℕ) where
   -- the lowest member of a set of included events
-  lowest-in : FitMarking (c .count) m → (P : ℕ → Type 0) (s : ℕ) → ((f : ℕ) → In s f ↔ P f) → ((f : ℕ) → P f → In (m .included) f) → (s ≡ 0 → ⊥) → Lowest P (lowest (c .count) s)
-  lowest-in t P s h i n =
-      let b : s < 2 ^ c .count = below (c .count) s (λ f l. not-so (λ x. let u : f < c .count = t .included f (i f (h f .0 x)) in absurd (omega arith))) in
+  lowest-in : Fit c → FitMarking (c .count) m → (P : ℕ → Type 0) (s : ℕ) → ((f : ℕ) → In s f ↔ P f) → ((f : ℕ) → P f → In (m .included) f) → (s ≡ 0 → ⊥) → Lowest P (lowest maxEvents s)
+  lowest-in k t P s h i n =
+      let few : c .count ≤ maxEvents = k .few in
+      let b : s < 2 ^ maxEvents = below maxEvents s (λ f l. not-so (λ x. let u : f < c .count = t .included f (i f (h f .0 x)) in absurd (omega arith))) in
       record {
-        holds = h (lowest (c .count) s) .0 (lowest-has (c .count) s (lowest-lt (c .count) s (omega arith) b));
-        least = λ g l p. contra (h g .1 p) (lowest-least (c .count) s g l);
+        holds = h (lowest maxEvents s) .0 (lowest-has maxEvents s (lowest-lt maxEvents s (omega arith) b));
+        least = λ g l p. contra (h g .1 p) (lowest-least maxEvents s g l);
       }
 
   pub executes : Executes c m e (executing c m e)
-  unfolding executing openWith
+  unfolding executing stepping openWith
   executes =
       cases (fit c m)
       (λ ok. let t = fit-both c m ok in
@@ -186,8 +187,8 @@ module _ (c : FlatChart) (m : Marking) (e : ℕ) where
       (λ u. cases (eqb (awaitedOf m (setOf c milestone e)) 0)
       (λ w. rw (ok, g, i, u, w) (isDone s (open-enabled c m e .0 (opens i u w)) (after-executed c m e)))
       (λ w. rw (ok, g, i, u, w) (isAwaiting s i (λ f x. contra (unmet-wanting c m e f .1 x) (ap (λ (y : ℕ). has y f) (eqb-true _ 0 u) ∙ has-empty f))
-      (lowest-in (t .1) (Awaiting c m e) (awaitedOf m (setOf c milestone e)) (awaited-awaiting c m e) (λ f x. x .included) (eqb-false _ 0 w)))))
-      (λ u. rw (ok, g, i, u) (isWanting s i (lowest-in (t .1) (Wanting c m e) (unmetOf m (setOf c condition e)) (unmet-wanting c m e) (λ f x. x .included) (eqb-false _ 0 u)))))
+      (lowest-in (t .0) (t .1) (Awaiting c m e) (awaitedOf m (setOf c milestone e)) (awaited-awaiting c m e) (λ f x. x .included) (eqb-false _ 0 w)))))
+      (λ u. rw (ok, g, i, u) (isWanting s i (lowest-in (t .0) (t .1) (Wanting c m e) (unmetOf m (setOf c condition e)) (unmet-wanting c m e) (λ f x. x .included) (eqb-false _ 0 u)))))
       (λ i. rw (ok, g, i) (isExcluded s (λ x. contra x i)))))
       (λ no. rw no (isUnfit (λ f t. contra (both-fit c m f t) no)))
     where
@@ -199,20 +200,20 @@ module _ (c : FlatChart) (m : Marking) (e : ℕ) where
 
   -- and nothing else: whatever the paper's cases allow is what executing gives
   pub executes-only : {s : Step} → Executes c m e s → s ≡ executing c m e
-  unfolding executing openWith
+  unfolding executing stepping openWith
   executes-only (isUnfit n) = let no : fit c m ≡ false = not-so (λ ok. let t = fit-both c m ok in n (t .0) (t .1)) in rw no
   executes-only (isGone f t g) = rw (both-fit c m f t, le-leb (c .count) e g)
   executes-only (isExcluded s x) = rw (both-fit c m (s .chart) (s .marking), lt-leb (c .count) e (s .exists), not-so x)
   executes-only (isWanting {f} s i l) =
       let u : unmetOf m (setOf c condition e) ≡ 0 → ⊥ = some-in _ f (unmet-wanting c m e f .1 (l .holds)) in
-      let o : f ≡ lowest (c .count) (unmetOf m (setOf c condition e)) = lowest-one (Wanting c m e) f _ l
-      (lowest-in (s .marking) (Wanting c m e) (unmetOf m (setOf c condition e)) (unmet-wanting c m e) (λ g x. x .included) u) in
+      let o : f ≡ lowest maxEvents (unmetOf m (setOf c condition e)) = lowest-one (Wanting c m e) f _ l
+      (lowest-in (s .chart) (s .marking) (Wanting c m e) (unmetOf m (setOf c condition e)) (unmet-wanting c m e) (λ g x. x .included) u) in
       rw (both-fit c m (s .chart) (s .marking), lt-leb (c .count) e (s .exists), i, ne-eqb _ 0 u) (ap (λ (x : ℕ). refusing conditionWanting x m) o)
   executes-only (isAwaiting {f} s i n l) =
       let z : unmetOf m (setOf c condition e) ≡ 0 = none-zero _ (λ g. not-so (λ h. n g (unmet-wanting c m e g .0 h))) in
       let w : awaitedOf m (setOf c milestone e) ≡ 0 → ⊥ = some-in _ f (awaited-awaiting c m e f .1 (l .holds)) in
-      let o : f ≡ lowest (c .count) (awaitedOf m (setOf c milestone e)) = lowest-one (Awaiting c m e) f _ l
-      (lowest-in (s .marking) (Awaiting c m e) (awaitedOf m (setOf c milestone e)) (awaited-awaiting c m e) (λ g x. x .included) w) in
+      let o : f ≡ lowest maxEvents (awaitedOf m (setOf c milestone e)) = lowest-one (Awaiting c m e) f _ l
+      (lowest-in (s .chart) (s .marking) (Awaiting c m e) (awaitedOf m (setOf c milestone e)) (awaited-awaiting c m e) (λ g x. x .included) w) in
       rw (both-fit c m (s .chart) (s .marking), lt-leb (c .count) e (s .exists), i, eq-eqb _ 0 z, ne-eqb _ 0 w) (ap (λ (x : ℕ). refusing milestoneWanting x m) o)
   executes-only (isDone {n} s t x) =
       let o = all3 (has (m .included) e) (eqb (unmetOf m (setOf c condition e)) 0) (eqb (awaitedOf m (setOf c milestone e)) 0) (open-enabled c m e .1 t) in

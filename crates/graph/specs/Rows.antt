@@ -7,7 +7,7 @@ use lib.Count.{trailingZeros}
 use Rattle.paper.specs.Limits.{maxEvents}
 use Rattle.sets.specs.Set.{has}
 use Rattle.graph.specs.Tests.{rowSpill, spillAt, spillOf, fitTables, fitChart, fitMarking, fit}
-use Rattle.graph.specs.Steps.{unmetOf, awaitedOf, afterWith, granting, executing}
+use Rattle.graph.specs.Steps.{unmetOf, awaitedOf, afterWith, granting, stepping, executing}
 use Rattle.graph.specs.declared.FlatChart.{FlatChart}
 use Rattle.graph.specs.declared.Marking.{Marking}
 
@@ -31,5 +31,5 @@ pub record Rows : Type 0 where
   pub p6 : executing (pair none none (set none 1 1)) (marking 0 1 2) 1 ≡ granting (marking 2 1 2)
 
 pub rows : Rows
-unfolding executing fit fitChart fitMarking fitTables spillOf spillAt rowSpill has unmetOf awaitedOf afterWith trailingZeros
+unfolding executing stepping fit fitChart fitMarking fitTables spillOf spillAt rowSpill has unmetOf awaitedOf afterWith trailingZeros
 rows = record { p4 = refl; p5 = refl; p6 = refl }

@@ -21,6 +21,7 @@ use Rattle.graph.specs.Tests.{fit}
 use Rattle.graph.specs.Fitness.{fit-both}
 use Rattle.graph.specs.declared.FlatChart.{FlatChart}
 use Rattle.graph.specs.declared.Marking.{Marking}
+use Rattle.graph.specs.declared.steps.Row.{Row}
 use Rattle.graph.specs.declared.steps.Step.{Step}
 use Rattle.graph.specs.declared.steps.OpenCount.{OpenCount}
 use Rattle.graph.specs.declared.steps.Finished.{Finished}
@@ -66,14 +67,30 @@ refusing code place m = record { answer = answer code place 0; marking = m }
 abbrev pub granting : Marking → Step
 granting m = record { answer = granted; marking = m }
 
+-- the sets of event e
+abbrev pub rowOf : FlatChart → ℕ → Row
+rowOf c e =
+    record {
+      conditions = setOf c condition e;
+      responses = setOf c response e;
+      milestones = setOf c milestone e;
+      includes = setOf c include e;
+      excludes = setOf c exclude e;
+    }
+
+-- a step of event e after the fitness test, from its own sets
+unfoldable pub stepping : Marking → ℕ → Row → Step
+stepping m e row =
+    cond (not (has (m .included) e)) (refusing notIncluded 0 m)
+    (cond (not (eqb (unmetOf m (row .conditions)) 0)) (refusing conditionWanting (lowest maxEvents (unmetOf m (row .conditions))) m)
+    (cond (not (eqb (awaitedOf m (row .milestones)) 0)) (refusing milestoneWanting (lowest maxEvents (awaitedOf m (row .milestones))) m)
+    (granting (afterWith m e (row .responses) (row .includes) (row .excludes)))))
+
 unfoldable pub executing : FlatChart → Marking → ℕ → Step
 executing c m e =
     cond (not (fit c m)) (refusing unfit 0 m)
     (cond (leb (c .count) e) (refusing noSuchEvent 0 m)
-    (cond (not (has (m .included) e)) (refusing notIncluded 0 m)
-    (cond (not (eqb (unmetOf m (setOf c condition e)) 0)) (refusing conditionWanting (lowest (c .count) (unmetOf m (setOf c condition e))) m)
-    (cond (not (eqb (awaitedOf m (setOf c milestone e)) 0)) (refusing milestoneWanting (lowest (c .count) (awaitedOf m (setOf c milestone e))) m)
-    (granting (after c m e))))))
+    (stepping m e (rowOf c e)))
 
 -- ---- counting
 
@@ -139,15 +156,6 @@ module _ (c : FlatChart) (m : Marking) (r : Bool) (p : r ≡ fit c m) (q : not r
   pub fit-index : (e : ℕ) → e < c .count → e < maxEvents
   fit-index e h = let l : c .count ≤ maxEvents = fit-few in omega arith
 
-  -- a set of included events has its lowest below the count
-  pub fit-lowest : (s : ℕ) → s ≤ m .included → (s ≡ 0 → ⊥) → lowest maxEvents s ≡ lowest (c .count) s
-  fit-lowest s l n =
-      let i : m .included < 2 ^ c .count = below (c .count) (m .included) (λ f h. not-in f h) in
-      lowest-wide (c .count) maxEvents s (omega arith) (omega arith) fit-few
-    where
-      not-in : (f : ℕ) → c .count ≤ f → has (m .included) f ≡ false
-      not-in f h = not-so (λ i. let l : f < c .count = fit-both c m ok .1 .included f i in absurd (omega arith))
-
 -- ---- the cases, in the form in which the code meets them
 
 pub step-unfit : (c : FlatChart) (m : Marking) (e : ℕ) (r : Bool) (s : Step) → r ≡ fit c m → not r ≡ true → s ≡ refusing unfit 0 m → s ≡ executing c m e
@@ -159,28 +167,29 @@ module _ (c : FlatChart) (m : Marking) (e : ℕ) (r : Bool) (p : r ≡ fit c m) 
   unfolding executing
   step-gone s h z = z ∙ rw (ok c m r p q, le-leb (c .count) e h)
 
-  module _ (h : e < c .count) (i : Bool) (pi : i ≡ has (m .included) e) where
-    pub step-excluded : (s : Step) → not i ≡ true → s ≡ refusing notIncluded 0 m → s ≡ executing c m e
-    unfolding executing
-    step-excluded s qi z = z ∙ rw (ok c m r p q, lt-leb (c .count) e h, ← pi, not-true i qi)
+  pub step-taken : (s : Step) (row : Row) → e < c .count → row ≡ rowOf c e → s ≡ stepping m e row → s ≡ executing c m e
+  unfolding executing
+  step-taken s row h l z = z ∙ rw (l, ok c m r p q, lt-leb (c .count) e h)
 
-    module _ (qi : not i ≡ false) (u : ℕ) (pu : u ≡ unmetOf m (setOf c condition e)) where
-      pub step-unmet : (u ≡ 0 → ⊥) → (l : ℕ) (s : Step) → l ≡ lowest maxEvents u → s ≡ refusing conditionWanting l m → s ≡ executing c m e
-      unfolding executing unmetOf
-      step-unmet qu l s pl z =
-          z ∙ rw (ok c m r p q, lt-leb (c .count) e h, ← pi, not-false i qi, ← pu, ne-eqb u 0 qu, pl)
-          (ap (λ (x : ℕ). refusing conditionWanting x m) (fit-lowest c m r p q u (rw pu (le-trans (minus-le _ _) (and-le-l _ _))) qu))
+module _ (m : Marking) (e : ℕ) (row : Row) (i : Bool) (pi : i ≡ has (m .included) e) where
+  pub step-excluded : (s : Step) → not i ≡ true → s ≡ refusing notIncluded 0 m → s ≡ stepping m e row
+  unfolding stepping
+  step-excluded s qi z = z ∙ rw (← pi, not-true i qi)
 
-      module _ (zu : u ≡ 0) (w : ℕ) (pw : w ≡ awaitedOf m (setOf c milestone e)) where
-        pub step-awaited : (w ≡ 0 → ⊥) → (l : ℕ) (s : Step) → l ≡ lowest maxEvents w → s ≡ refusing milestoneWanting l m → s ≡ executing c m e
-        unfolding executing awaitedOf
-        step-awaited qw l s pl z =
-            z ∙ rw (ok c m r p q, lt-leb (c .count) e h, ← pi, not-false i qi, ← pu, eq-eqb u 0 zu, ← pw, ne-eqb w 0 qw, pl)
-            (ap (λ (x : ℕ). refusing milestoneWanting x m) (fit-lowest c m r p q w (rw pw (le-trans (and-le-l _ _) (and-le-l _ _))) qw))
+  module _ (qi : not i ≡ false) (u : ℕ) (pu : u ≡ unmetOf m (row .conditions)) where
+    pub step-unmet : (u ≡ 0 → ⊥) → (l : ℕ) (s : Step) → l ≡ lowest maxEvents u → s ≡ refusing conditionWanting l m → s ≡ stepping m e row
+    unfolding stepping
+    step-unmet qu l s pl z = z ∙ rw (← pi, not-false i qi, ← pu, ne-eqb u 0 qu, pl)
 
-        pub step-done : w ≡ 0 → (a : Answer) (n : Marking) → a ≡ granted → n ≡ after c m e → record { answer = a; marking = n } ≡ executing c m e
-        unfolding executing
-        step-done zw a n pa pn = rw (ok c m r p q, lt-leb (c .count) e h, ← pi, not-false i qi, ← pu, eq-eqb u 0 zu, ← pw, eq-eqb w 0 zw, pa, pn)
+    module _ (zu : u ≡ 0) (w : ℕ) (pw : w ≡ awaitedOf m (row .milestones)) where
+      pub step-awaited : (w ≡ 0 → ⊥) → (l : ℕ) (s : Step) → l ≡ lowest maxEvents w → s ≡ refusing milestoneWanting l m → s ≡ stepping m e row
+      unfolding stepping
+      step-awaited qw l s pl z = z ∙ rw (← pi, not-false i qi, ← pu, eq-eqb u 0 zu, ← pw, ne-eqb w 0 qw, pl)
+
+      pub step-done : w ≡ 0 → (a : Answer) (n : Marking) → a ≡ granted → n ≡ afterWith m e (row .responses) (row .includes) (row .excludes)
+          → record { answer = a; marking = n } ≡ stepping m e row
+      unfolding stepping
+      step-done zw a n pa pn = rw (← pi, not-false i qi, ← pu, eq-eqb u 0 zu, ← pw, eq-eqb w 0 zw, pa, pn)
 
 pub count-unfit : (c : FlatChart) (m : Marking) (r : Bool) (a : Answer) → r ≡ fit c m → not r ≡ true → a ≡ refusal unfit
     → record { answer = a; count = 0; lowest = maxEvents } ≡ counting c m

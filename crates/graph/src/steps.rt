@@ -2,13 +2,23 @@
 ghost use mathlib.Core.Path.{_≡_};
 ghost use mathlib.Core.Bool.{cond};
 ghost use Prim.Native.Nat.{_*_, _%_, _^_, _<_, _≤_};
+ghost use Rattle.paper.specs.Limits.{maxEvents};
 ghost use Rattle.sets.specs.Set.{union};
 ghost use Rattle.graph.specs.Chart.{chartOf};
-ghost use Rattle.graph.specs.Steps.{unmetOf, awaitedOf, freeWith, afterWith, refusing, openAmong, executing, counting, finishing};
+ghost use Rattle.graph.specs.Steps.{rowOf, unmetOf, awaitedOf, freeWith, afterWith, refusing, stepping, openAmong, executing, counting, finishing};
 use crate::FlatChart;
 use crate::Marking;
 use paper::Answer;
 use paper::MAX_EVENTS;
+
+// One event's own sets.
+pub struct Row {
+    pub conditions: u64,
+    pub responses: u64,
+    pub milestones: u64,
+    pub includes: u64,
+    pub excludes: u64,
+}
 
 // What executing an event gives: the next marking, or the old one beside the refusal.
 #[repr(C)]
@@ -45,6 +55,27 @@ fn put_bit_if(s: u64, bit: u64, on: bool) -> u64
         return s | bit;
     }
     s
+}
+
+// The sets of event e, out of lent tables.
+pub fn row_at<'a>(
+    e: usize,
+    conditions: &'a [u64; MAX_EVENTS],
+    responses: &'a [u64; MAX_EVENTS],
+    milestones: &'a [u64; MAX_EVENTS],
+    includes: &'a [u64; MAX_EVENTS],
+    excludes: &'a [u64; MAX_EVENTS],
+) -> Row
+    requires { ⌜ e < maxEvents ⌝ }
+    ensures { λ r. ⌜ r ≡ rowOf (chartOf 0 (now (conditions .entry)) (now (responses .entry)) (now (milestones .entry)) (now (includes .entry)) (now (excludes .entry))) e ⌝ }
+{
+    Row {
+        conditions: conditions[e],
+        responses: responses[e],
+        milestones: milestones[e],
+        includes: includes[e],
+        excludes: excludes[e],
+    }
 }
 
 impl Marking {
@@ -93,6 +124,28 @@ impl Marking {
         }
     }
 
+    // A step of event e, of a chart and a marking that are known to be fit: 11, 12, 13, or the next marking.
+    pub fn step(self, e: usize, row: Row) -> Step
+        requires { ⌜ e < maxEvents ⌝ }
+        ensures { λ r. ⌜ r ≡ stepping self e row ⌝ }
+    {
+        if !sets::member(self.included, e) {
+            return self.refused(paper::NOT_INCLUDED, 0);
+        }
+        let unmet = self.unmet(row.conditions);
+        if unmet != 0 {
+            return self.refused(paper::CONDITION_WANTING, sets::least(unmet));
+        }
+        let awaited = self.awaited(row.milestones);
+        if awaited != 0 {
+            return self.refused(paper::MILESTONE_WANTING, sets::least(awaited));
+        }
+        Step {
+            answer: paper::granted(),
+            marking: self.after(e, row.responses, row.includes, row.excludes),
+        }
+    }
+
     // Executing over lent tables: what `execute` does, with no copy of the chart.
     pub fn execute_in<'a>(
         self,
@@ -113,21 +166,8 @@ impl Marking {
             return self.refused(paper::NO_SUCH_EVENT, 0);
         }
         let e = event as usize;
-        if !sets::member(self.included, e) {
-            return self.refused(paper::NOT_INCLUDED, 0);
-        }
-        let unmet = self.unmet(conditions[e]);
-        if unmet != 0 {
-            return self.refused(paper::CONDITION_WANTING, sets::least(unmet));
-        }
-        let awaited = self.awaited(milestones[e]);
-        if awaited != 0 {
-            return self.refused(paper::MILESTONE_WANTING, sets::least(awaited));
-        }
-        Step {
-            answer: paper::granted(),
-            marking: self.after(e, responses[e], includes[e], excludes[e]),
-        }
+        let row = row_at(e, conditions, responses, milestones, includes, excludes);
+        self.step(e, row)
     }
 
     pub fn execute(self, chart: FlatChart, event: u32) -> Step

@@ -10,7 +10,7 @@ use Rattle.paper.specs.Limits as limit
 use Rattle.paper.specs.Answers.{answer, granted, refusal}
 use Rattle.sets.specs.Set.{has}
 use Rattle.graph.specs.Tests.{rowSpill, spillAt, spillOf, fitTables, fitChart, fitMarking, fit}
-use Rattle.graph.specs.Steps.{unmetOf, awaitedOf, afterWith, after, executing, refusing, granting, finishing}
+use Rattle.graph.specs.Steps.{unmetOf, awaitedOf, afterWith, after, stepping, executing, refusing, granting, finishing}
 use Rattle.graph.specs.Rows.{none, pair, marking}
 use Rattle.graph.specs.Rows as graph
 use Rattle.chart.specs.Reading.{reading, refused}
@@ -62,7 +62,7 @@ pub record Rows : Type 0 where
       → completing s order snapshot stage ≡ record { answer = refusal orderUnfit; snapshot = snapshot }
 
 pub rows : Rows
-unfolding executing fit fitChart fitMarking fitTables spillOf spillAt rowSpill has unmetOf awaitedOf afterWith trailingZeros finishing
+unfolding executing stepping fit fitChart fitMarking fitTables spillOf spillAt rowSpill has unmetOf awaitedOf afterWith trailingZeros finishing
 rows =
     record {
       whole = chart.rows .whole;
