@@ -203,6 +203,7 @@ module _ {image : List ℕ} {n k : ℕ} {groups : List Bool} {events : ℕ} (g :
             where
               in-set : (κ : Kind) → holds tables (kindNumber κ) e f ≡ ((ltb e (eventCount image) && ltb f (eventCount image)) && entered image (kindNumber κ) e f)
               in-set κ = ap (λ (x : ℕ). has x f) (cell-is (kindNumber κ) e (kind-fits κ)) ∙ flat-has image (kindNumber κ) e f
+
               twice : (x a b : Bool) → ((x && a) && (x && b)) ≡ (x && (a && b))
               twice true a b = refl
               twice false a b = refl

@@ -7,7 +7,7 @@ use native.Mathlib.Omega.{arith}
 use lib.Dec.{eqb, leb}
 use lib.ListN.{length, take}
 use borrow.Author.Tests.{ne-eqb, lt-ltb, leb-true}
-use Rattle.paper.specs.Limits.{maxEvents, andWord, orWord, notWord, maxWords}
+use Rattle.paper.specs.Limits.{maxEvents, maxMarks, andWord, orWord, notWord, maxWords}
 use Rattle.paper.specs.Answers.{granted}
 use Rattle.sets.specs.Cases.{cases, both}
 use Rattle.sets.specs.Set.{has}
@@ -52,7 +52,7 @@ module _ (M : ℕ) where
   abbrev fine : List ℕ → ℕ → Bool
   fine ws d = goodFrom M ws d && deepest 3 ws d
 
-  module _ (few : M ≤ 256) where
+  module _ (few : M ≤ maxMarks) where
     plain : (m : ℕ) → m < M → (eqb m andWord ≡ false) × (eqb m orWord ≡ false) × (eqb m notWord ≡ false)
     plain m h = (ne-eqb m andWord (λ e. omega arith), ne-eqb m orWord (λ e. omega arith), ne-eqb m notWord (λ e. omega arith))
 
@@ -86,7 +86,7 @@ module _ (c : FlatChart) (fit : Fit c) where
   unfolding derivedText textFor goodFrom deepest follows after
   text-fine e h =
       let m : n ≤ maxEvents = few in
-      let l : 4 * n ≤ 256 = omega arith in
+      let l : 4 * n ≤ maxMarks = omega arith in
       let t : includedMark n e < 4 * n = omega arith in
       let p = plain (4 * n) l (includedMark n e) t in
       let y : List ℕ = flat n (listed (clause n (answeredMark n)) (setOf c milestone e)) in

@@ -174,8 +174,8 @@ module _ (c : FlatChart) where
     unfolding rulesNeeded completionsSize
     rules-most =
         let few : n ≤ maxEvents = fit .few in
-        let b : total n (λ e. completionSize e (setOf c include e) (setOf c exclude e) (setOf c response e)) ≤ n * 129 =
-        total-le n 129 _ (λ e h.
+        let b : total n (λ e. completionSize e (setOf c include e) (setOf c exclude e) (setOf c response e)) ≤ n * (2 * maxEvents + 1) =
+        total-le n (2 * maxEvents + 1) _ (λ e h.
         let l : completionSize e (setOf c include e) (setOf c exclude e) (setOf c response e) ≤ 2 * n + 1 =
         completion-le n e h (setOf c include e) (setOf c exclude e) (setOf c response e) (both-within e h) (set-within response e h) in omega arith) in
         rw rules-length (omega arith)
@@ -184,14 +184,14 @@ module _ (c : FlatChart) where
     unfolding wordsNeeded textsSize
     words-most =
         let few : n ≤ maxEvents = fit .few in
-        let b : total n (λ e. textSize (setOf c condition e) (setOf c milestone e)) ≤ n * 641 =
-        total-le n 641 _ (λ e h.
+        let b : total n (λ e. textSize (setOf c condition e) (setOf c milestone e)) ≤ n * (10 * maxEvents + 1) =
+        total-le n (10 * maxEvents + 1) _ (λ e h.
         let l : textSize (setOf c condition e) (setOf c milestone e) ≤ 10 * n + 1 =
         text-le n (setOf c condition e) (setOf c milestone e) (set-within condition e h) (set-within milestone e h) in omega arith) in
         rw words-length (omega arith)
 
-    -- 32 + 10 * 8,384 + 8 * 64 + 2 * 41,024
-    pub bytes-most : bytesNeeded ≤ 166432
+    -- 166,432
+    pub bytes-most : bytesNeeded ≤ bookHeader + ruleSize * maxRules + conditionSize * maxEvents + wordSize * maxWords
     unfolding bytesNeeded
     bytes-most =
         let few : n ≤ maxEvents = fit .few in
