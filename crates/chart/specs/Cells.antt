@@ -1,6 +1,6 @@
 -- Sets side by side, five to a row: at a node what the relations gather there, at an event its set of each kind. What each step of flattening makes of them.
 -- Assumes nothing.
-use Prim.Native.Nat.{ℕ, zero, suc, _+_, _*_, _≤_, _<_}
+use Prim.Native.Nat.{ℕ, _+_, _*_, _≤_, _<_}
 use mathlib.Core.Path.{_≡_, refl, sym, ap, _∙_}
 use mathlib.Core.Bool.{Bool, true, false, not, cond, _&&_, _||_, and-true, and-false, or-false, or-assoc}
 use mathlib.Core.List.{List}
@@ -15,7 +15,7 @@ use Rattle.sets.specs.Cases.{contra, cases, both, either, neither, or-left, or-
 use Rattle.sets.specs.Set.{has, union, inter, only, putIf, collect}
 use Rattle.sets.specs.Laws.{has-union, has-only, has-empty}
 use Rattle.sets.specs.Below.{some, some-of, some-at, some-none, some-step, first}
-use Rattle.sets.specs.Tables.{tabulate, length-tabulate, getD-tabulate}
+use Rattle.sets.specs.Tables.{tabulate, length-tabulate, getD-tabulate, zeros-at}
 use Rattle.reach.specs.Rows.{takeRow}
 use Rattle.reach.specs.Bits.{apart, take-word, take-kept, length-takeRow}
 use Rattle.chart.specs.Scan.{Passed, passed-none, passed-more, passed-found, passed-end, at-end, ltb-more, collect-more}
@@ -33,11 +33,6 @@ cell tables κ i = getD tables (i * kinds + κ) 0
 -- f is in it
 abbrev pub holds : List ℕ → ℕ → ℕ → ℕ → Bool
 holds tables κ i f = has (cell tables κ i) f
-
-zeros-at : (n i : ℕ) → getD {A = ℕ} (replicate n 0) i 0 ≡ 0
-zeros-at zero i = refl
-zeros-at (suc n) zero = refl
-zeros-at (suc n) (suc i) = zeros-at n i
 
 -- ---- the events at or below each node
 
@@ -310,7 +305,7 @@ flat-end {image} {gathered} {nodes} {tables} = at-end (λ (e : ℕ). Flat image 
 -- ---- include and exclude
 
 abbrev pub bothAt : List ℕ → ℕ → ℕ
-bothAt tables e = inter (cell tables 3 e) (cell tables 4 e)
+bothAt tables e = inter (cell tables (kindNumber include) e) (cell tables (kindNumber exclude) e)
 
 abbrev pub conflictIn : List ℕ → ℕ → Bool
 conflictIn tables e = not (eqb (bothAt tables e) 0)

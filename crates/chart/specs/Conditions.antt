@@ -10,17 +10,11 @@ use lib.Dec.{eqb, leb, ltb}
 use borrow.Author.Tests.{lt-ltb, le-ltb, ltb-true, ltb-false, le-leb, leb-true, eq-eqb, ne-eqb, eqb-true, eqb-false, not-true, not-false}
 use Rattle.paper.specs.Limits.{maxNodes, maxRelations, chartHeader, noParent, maxFlags, kinds}
 use Rattle.sets.specs.Cases.{contra, cases, both, either, neither, all3, or-left, or-right, not-so}
-use Rattle.sets.specs.Below.{some, some-of, some-at, some-none, first, first-is, first-found}
+use Rattle.sets.specs.Below.{some, some-of, some-at, some-none, first, first-is, first-found, Lowest}
 use Rattle.graph.specs.Chart.{Kind, include, exclude}
 use Rattle.chart.specs.Image.{nodes, relations, nodesOffset, relationsOffset, nodeAt, relationAt, parentOf, flagsOf, fromOf, toOf, kindOf, outOfRange, misplaced, badNodeAt, badRelationAt}
 use Rattle.chart.specs.Nesting.{parent, Nested, AtOrAbove, OnLoop, nested, atOrAbove, onLoopAt, isGroup, eventCount, eventNode, flaggedGroupAt, nested-so}
 use Rattle.chart.specs.Flattening.{kindNumber, Flattened, leads, related, conflict, conflictAt}
-
--- the lowest number below n of which P holds
-pub record Lowest (n : ℕ) (P : ℕ → Type 0) (i : ℕ) : Type 0 where
-  pub fits : i < n
-  pub holds : P i
-  pub none : (p : ℕ) → p < i → P p → ⊥
 
 -- P holds of no number below n
 abbrev pub Never : ℕ → (ℕ → Type 0) → Type 0
@@ -188,7 +182,7 @@ module _ {n : ℕ} {f : ℕ → Bool} {P : ℕ → Type 0} (t : (p : ℕ) → (f
       let s = some-at n f h in
       let l = first-is n f in
       let b : first n f < n = first-below s in
-      record { fits = b; holds = t (first n f) .0 (l .passes b); none = λ p i x. contra (t p .1 x) (l .lowest p i) }
+      record { fits = b; holds = t (first n f) .0 (l .passes b); least = λ p i x. contra (t p .1 x) (l .lowest p i) }
     where
       first-below : ((p : ℕ) × (p < n) × (f p ≡ true)) → first n f < n
       first-below s = let l = first-is n f in let a = l .fits in let q = s .1 in
@@ -204,7 +198,7 @@ module _ {n : ℕ} {f : ℕ → Bool} {P : ℕ → Type 0} (t : (p : ℕ) → (f
   lowest-some {i} l = some-of n f i (l .fits) (t i .1 (l .holds))
 
   pub lowest-first : {i : ℕ} → Lowest n P i → i ≡ first n f
-  lowest-first {i} l = first-found n f i (l .fits) (λ p h. not-so (λ e. l .none p h (t p .0 e))) (t i .1 (l .holds))
+  lowest-first {i} l = first-found n f i (l .fits) (λ p h. not-so (λ e. l .least p h (t p .0 e))) (t i .1 (l .holds))
 
   pub never-none : Never n P → some n f ≡ false
   never-none h = some-none n f (λ p l. not-so (λ e. h p l (t p .0 e)))

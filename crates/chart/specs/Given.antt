@@ -17,7 +17,7 @@ use Rattle.sets.specs.Set.{has}
 use Rattle.sets.specs.Laws.{has-collect, has-empty, none-zero}
 use Rattle.sets.specs.Below.{first}
 use Rattle.sets.specs.Tables.{tabulate, length-tabulate, getD-tabulate}
-use Rattle.reach.specs.Closure.{Way, hop, via}
+use Rattle.reach.specs.Closure.{hop, join}
 use Rattle.graph.specs.Chart.{Kind, condition, response, milestone, include, exclude, table, setOf, In, Fit, FitMarking}
 use Rattle.chart.specs.declared.Reading.{Reading}
 use Rattle.chart.specs.Numbering.{tally-lt, tally-find, first-numbered, tally-grows}
@@ -119,13 +119,9 @@ module _ (R : ℕ → ℕ → Bool) (step : (a b c : ℕ) → R a b ≡ true →
       (λ t. (suc k, omega arith, λ x h. lt-suc h (λ z. rw z (n (suc k) (omega arith))) (λ g. not-so (λ e. contra (step x (suc k) (l .0) e t) (l .2 x g)))))
       (λ t. (l .0, omega arith, λ x h. lt-suc h (λ z. rw z t) (λ g. l .2 x g)))
 
-join : {E : ℕ → ℕ → Bool} {a b c : ℕ} → Way E a b → Way E b c → Way E a c
-join (hop e) w = via e w
-join (via e v) w = via e (join v w)
-
 module _ (image : List ℕ) where
   nested-step : (a b c : ℕ) → nested image a b ≡ true → nested image b c ≡ true → nested image a c ≡ true
-  nested-step a b c p q = nested-so image a c .1 (join (nested-so image a b .0 p) (nested-so image b c .0 q))
+  nested-step a b c p q = nested-so image a c .1 (join (parent image) (nested-so image a b .0 p) (nested-so image b c .0 q))
 
   pub some-event : 1 ≤ nodes image → Never (nodes image) (OnLoop image) → 1 ≤ eventCount image
   some-event h straight =

@@ -197,10 +197,13 @@ module _ {image : List ℕ} {n k : ℕ} {groups : List Bool} {events : ℕ} (g :
           both-has e f h =
               let n = g .count in
               let in-count : ltb e (eventCount image) ≡ true = lt-ltb e (eventCount image) (omega arith) in
-              has-inter (cell tables 3 e) (cell tables 4 e) f
-              ∙ ap₂ _&&_ (ap (λ (x : ℕ). has x f) (cell-is 3 e (omega arith)) ∙ flat-has image 3 e f) (ap (λ (x : ℕ). has x f) (cell-is 4 e (omega arith)) ∙ flat-has image 4 e f)
-              ∙ rw (in-count, n) (twice (ltb f (eventCount image)) (related image 3 e f) (related image 4 e f))
+              has-inter (cell tables (kindNumber include) e) (cell tables (kindNumber exclude) e) f
+              ∙ ap₂ _&&_ (in-set include) (in-set exclude)
+              ∙ rw (in-count, n) (twice (ltb f (eventCount image)) (related image (kindNumber include) e f) (related image (kindNumber exclude) e f))
             where
+              in-set : (κ : Kind) → holds tables (kindNumber κ) e f ≡ ((ltb e (eventCount image) && ltb f (eventCount image)) && entered image (kindNumber κ) e f)
+              in-set κ = ap (λ (x : ℕ). has x f) (cell-is (kindNumber κ) e (kind-fits κ)) ∙ flat-has image (kindNumber κ) e f
+
               twice : (x a b : Bool) → ((x && a) && (x && b)) ≡ (x && (a && b))
               twice true a b = refl
               twice false a b = refl

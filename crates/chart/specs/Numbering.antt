@@ -2,19 +2,14 @@
 use Prim.Native.Nat.{ℕ, zero, suc, _+_, _≤_, _<_}
 use mathlib.Core.Path.{_≡_, refl, sym, ap, _∙_}
 use mathlib.Core.Bool.{Bool, true, false, cond, _&&_}
-use native.Mathlib.Numerals.{add-one}
 use native.Mathlib.Omega.{arith}
 use lib.Dec.{eqb}
 use mir.Val.{boolByte}
 use borrow.Author.Tests.{eq-eqb, eqb-true}
 use Rattle.sets.specs.Cases.{contra, cases, both, not-so}
-use Rattle.sets.specs.Below.{tally, first, first-found}
+use Rattle.sets.specs.Below.{tally, tally-step, first, first-found}
 
 module _ (f : ℕ → Bool) where
-  pub tally-step : (k : ℕ) → tally (k + 1) f ≡ cond (f k) 1 0 + tally k f
-  unfolding tally
-  tally-step k = rw add-one
-
   pub tally-grows : (i k : ℕ) → i ≤ k → tally i f ≤ tally k f
   unfolding tally
   tally-grows i zero h = let e : i ≡ zero = omega arith in rw e (omega arith)
@@ -27,7 +22,7 @@ module _ (f : ℕ → Bool) where
   pub tally-lt : (i k : ℕ) → i < k → f i ≡ true → tally i f < tally k f
   unfolding tally
   tally-lt i k h e =
-      let s : tally (i + 1) f ≡ 1 + tally i f = tally-step i ∙ rw e in
+      let s : tally (i + 1) f ≡ 1 + tally i f = tally-step i f ∙ rw e in
       let g : tally (i + 1) f ≤ tally k f = tally-grows (i + 1) k (omega arith) in
       omega arith
 
@@ -59,7 +54,7 @@ unfolding tally
 tally-none f = refl
 
 pub tally-more : (f : ℕ → Bool) (k c : ℕ) → c ≡ tally k f → c + boolByte (f k) ≡ tally (k + 1) f
-tally-more f k c e = let s = tally-step f k in cases (f k) (λ t. rw t (let z : tally (k + 1) f ≡ 1 + tally k f = rw t at s in omega arith)) (λ t. rw t (let z : tally (k + 1) f ≡ 0 + tally k f = rw t at s in omega arith))
+tally-more f k c e = let s = tally-step k f in cases (f k) (λ t. rw t (let z : tally (k + 1) f ≡ 1 + tally k f = rw t at s in omega arith)) (λ t. rw t (let z : tally (k + 1) f ≡ 0 + tally k f = rw t at s in omega arith))
 
 pub tally-end : (f : ℕ → Bool) (n k c : ℕ) → k ≤ n → n ≤ k → c ≡ tally k f → c ≡ tally n f
 tally-end f n k c h l e = let z : k ≡ n = omega arith in e ∙ ap (λ (m : ℕ). tally m f) z

@@ -12,13 +12,13 @@ use Rattle.paper.specs.Limits.{maxEvents, chartHeader, chartShort, chartCount, 
 use Rattle.paper.specs.Answers.{answer, granted, refusal}
 use Rattle.paper.specs.declared.Answer.{Answer}
 use Rattle.sets.specs.Cases.{contra, cases}
-use Rattle.sets.specs.Below.{some, first}
+use Rattle.sets.specs.Below.{some, first, Lowest}
 use Rattle.chart.specs.declared.Reading.{Reading}
 use Rattle.chart.specs.Image.{nodes, relations, outOfRange, misplaced, badNodeAt, badRelationAt}
 use Rattle.chart.specs.Nesting.{OnLoop, onLoopAt, flaggedGroupAt, eventCount}
 use Rattle.chart.specs.Flattening.{conflictAt}
 use Rattle.chart.specs.Reading.{refused, grantedReading, conflictFrom, conflictTo, readingRelations, readingNodes, reading}
-use Rattle.chart.specs.Conditions.{Lowest, Never, InRange, Laid, BadNode, FlaggedGroup, BadRelation, Conflict, Conflicting, range-right, laid-right, node-bad, relation-bad, loop-so, flagged-so, conflict-so, conflicting-so, lowest-of, never-of, lowest-some, lowest-first, never-none}
+use Rattle.chart.specs.Conditions.{Never, InRange, Laid, BadNode, FlaggedGroup, BadRelation, Conflict, Conflicting, range-right, laid-right, node-bad, relation-bad, loop-so, flagged-so, conflict-so, conflicting-so, lowest-of, never-of, lowest-some, lowest-first, never-none}
 
 -- none of 1 to 3
 pub record HeaderRight (image : List ℕ) : Type 0 where

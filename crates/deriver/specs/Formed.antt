@@ -7,7 +7,7 @@ use native.Mathlib.Omega.{arith}
 use lib.Dec.{eqb, leb}
 use lib.ListN.{length, take}
 use borrow.Author.Tests.{ne-eqb, lt-ltb, leb-true}
-use Rattle.paper.specs.Limits.{andWord, orWord, notWord, maxWords}
+use Rattle.paper.specs.Limits.{maxEvents, maxMarks, andWord, orWord, notWord, maxWords}
 use Rattle.paper.specs.Answers.{granted}
 use Rattle.sets.specs.Cases.{cases, both}
 use Rattle.sets.specs.Set.{has}
@@ -52,7 +52,7 @@ module _ (M : ℕ) where
   abbrev fine : List ℕ → ℕ → Bool
   fine ws d = goodFrom M ws d && deepest 3 ws d
 
-  module _ (few : M ≤ 256) where
+  module _ (few : M ≤ maxMarks) where
     plain : (m : ℕ) → m < M → (eqb m andWord ≡ false) × (eqb m orWord ≡ false) × (eqb m notWord ≡ false)
     plain m h = (ne-eqb m andWord (λ e. omega arith), ne-eqb m orWord (λ e. omega arith), ne-eqb m notWord (λ e. omega arith))
 
@@ -79,14 +79,14 @@ module _ (c : FlatChart) (fit : Fit c) where
   abbrev n : ℕ
   n = c .count
 
-  few : n ≤ 64
+  few : n ≤ maxEvents
   few = fit .few
 
   text-fine : (e : ℕ) → e < n → fine (4 * n) (derivedText c e) 0 ≡ true
   unfolding derivedText textFor goodFrom deepest follows after
   text-fine e h =
-      let m : n ≤ 64 = few in
-      let l : 4 * n ≤ 256 = omega arith in
+      let m : n ≤ maxEvents = few in
+      let l : 4 * n ≤ maxMarks = omega arith in
       let t : includedMark n e < 4 * n = omega arith in
       let p = plain (4 * n) l (includedMark n e) t in
       let y : List ℕ = flat n (listed (clause n (answeredMark n)) (setOf c milestone e)) in
@@ -151,7 +151,7 @@ module _ (c : FlatChart) (fit : Fit c) where
 
   pub derived-formed : FormedBook (derivedBook c)
   derived-formed =
-      let m : n ≤ 64 = few in
+      let m : n ≤ maxEvents = few in
       let q : length (derivedBook c .conditions) ≡ n = conditions-length c fit in
       record {
         stages = rw stages-are m;
@@ -178,7 +178,7 @@ module _ (c : FlatChart) (fit : Fit c) where
 
   clause-words : (mark : ℕ → ℕ) (s : ℕ) → ((f : ℕ) → f < n → mark f < 65536) → All (λ w. w < 65536) (flat n (listed (clause n mark) s))
   clause-words mark s h =
-      let m : n ≤ 64 = few in
+      let m : n ≤ maxEvents = few in
       all-flat _ n (listed (clause n mark) s) (λ f i.
       let z : mark f < 65536 = h f i in
       cases (has s f) (λ b. rw b (omega arith, (omega arith, (z, (omega arith, (omega arith, tt)))))) (λ b. rw b tt))
@@ -186,7 +186,7 @@ module _ (c : FlatChart) (fit : Fit c) where
   text-words : All (λ w. w < 65536) (flat n (derivedText c))
   unfolding derivedText textFor
   text-words =
-      let m : n ≤ 64 = few in
+      let m : n ≤ maxEvents = few in
       all-flat _ n (derivedText c) (λ e h. (
         omega arith,
         all-append _ (flat n (listed (clause n (executedMark n)) (setOf c condition e))) (flat n (listed (clause n (answeredMark n)) (setOf c milestone e)))
@@ -196,7 +196,7 @@ module _ (c : FlatChart) (fit : Fit c) where
   pub derived-limits : WithinLimits (derivedBook c)
   unfolding derivedBook derivedCondition
   derived-limits =
-      let m : n ≤ 64 = few in
+      let m : n ≤ maxEvents = few in
       let q : length (derivedBook c .words) ≤ maxWords = words-most c fit in
       record {
         stages = m;
@@ -210,18 +210,18 @@ module _ (c : FlatChart) (fit : Fit c) where
       }
     where
       small-rule : (r : Rule) → RuleFormed n (4 * n) n r → SmallRule r
-      small-rule r h = let m : n ≤ 64 = few in record { number = small-trigger (r .trigger) (h .trigger); condition = small-sense (r .sense) (h .sense); target = let t = h .target in omega arith }
+      small-rule r h = let m : n ≤ maxEvents = few in record { number = small-trigger (r .trigger) (h .trigger); condition = small-sense (r .sense) (h .sense); target = let t = h .target in omega arith }
         where
           small-trigger : (t : Trigger) → TriggerIn n (4 * n) t → triggerNumber t < 65536
           small-trigger None h = omega arith
-          small-trigger (Completed k) h = let m : n ≤ 64 = few in omega arith
-          small-trigger (BecomeYes k) h = let m : n ≤ 64 = few in omega arith
-          small-trigger (BecomeNo k) h = let m : n ≤ 64 = few in omega arith
+          small-trigger (Completed k) h = let m : n ≤ maxEvents = few in omega arith
+          small-trigger (BecomeYes k) h = let m : n ≤ maxEvents = few in omega arith
+          small-trigger (BecomeNo k) h = let m : n ≤ maxEvents = few in omega arith
 
           small-sense : (s : Sense) → SenseIn n s → conditionNumber s < 65536
           small-sense NoCondition h = omega arith
-          small-sense (AsWritten k) h = let m : n ≤ 64 = few in omega arith
-          small-sense (Negated k) h = let m : n ≤ 64 = few in omega arith
+          small-sense (AsWritten k) h = let m : n ≤ maxEvents = few in omega arith
+          small-sense (Negated k) h = let m : n ≤ maxEvents = few in omega arith
 
       small-condition : (e : ℕ) → e < n → SmallCondition (derivedCondition c e)
       small-condition e h =

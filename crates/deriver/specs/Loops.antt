@@ -5,6 +5,7 @@ use mathlib.Core.Bool.{true}
 use mathlib.Core.List.{List, [], _++_}
 use native.Mathlib.Omega.{arith}
 use lib.ListN.{length, length-append}
+use Rattle.paper.specs.Limits.{maxEvents}
 use Rattle.sets.specs.Cases.{lt-suc}
 use Rattle.sets.specs.Set.{minus, only, lowest, within}
 use Rattle.book.specs.Lists.{flat, flat-step, packed, packed-append}
@@ -25,7 +26,7 @@ module _ {A : Type 0} (f : A → List ℕ) (g : ℕ → List A) (n among : ℕ) 
   pub turn-start : within n among ≡ true → Turn among at room₀
   turn-start h = record { inside = h; left = left-whole room₀ at (run among) }
 
-  module _ (s next : ℕ) (room : List ℕ) (few : n ≤ 64) (inv : Turn s next room) where
+  module _ (s next : ℕ) (room : List ℕ) (few : n ≤ maxEvents) (inv : Turn s next room) where
     pub turn-length : length room ≡ length room₀
     turn-length = left-length (inv .left)
 
@@ -33,7 +34,7 @@ module _ {A : Type 0} (f : A → List ℕ) (g : ℕ → List A) (n among : ℕ) 
     unfolding packed
     turn-done z = left-none (inv .left) (rw (z, listed-none g n))
 
-    module _ (m : ℕ) (some : s ≡ 0 → ⊥) (low : m ≡ lowest 64 s) where
+    module _ (m : ℕ) (some : s ≡ 0 → ⊥) (low : m ≡ lowest maxEvents s) where
       pub turn-lt : m < n
       turn-lt = low-lt n s m few (inv .inside) some low
 

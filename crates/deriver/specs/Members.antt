@@ -11,6 +11,7 @@ use lib.Pow.{pow-mono}
 use lib.Dec.{ltb}
 use lib.ListN.{length, length-append}
 use borrow.Author.Tests.{eq-eqb, ne-eqb, lt-ltb, ltb-true}
+use Rattle.paper.specs.Limits.{maxEvents}
 use Rattle.sets.specs.Cases.{contra, cases, lt-suc}
 use Rattle.sets.specs.Below.{tally, tally-same}
 use Rattle.sets.specs.Set.{has, minus, only, size, lowest, within, collect}
@@ -75,11 +76,11 @@ module _ {A : Type 0} (g : ℕ → List A) where
 
 -- ---- one turn of a loop that takes the lowest member of a set within n out of it
 
-module _ (n s m : ℕ) (few : n ≤ 64) (in-n : within n s ≡ true) (some : s ≢ 0) (low : m ≡ lowest 64 s) where
+module _ (n s m : ℕ) (few : n ≤ maxEvents) (in-n : within n s ≡ true) (some : s ≢ 0) (low : m ≡ lowest maxEvents s) where
   low-has : has s m ≡ true
   low-has =
-      let z : s < 2 ^ 64 = lt-of-lt-of-le (ltb-true s (2 ^ n) in-n) (pow-mono few) in
-      rw low (lowest-has 64 s (lowest-lt 64 s (lt-of-le-ne (omega arith) (λ q. some (sym q))) z))
+      let z : s < 2 ^ maxEvents = lt-of-lt-of-le (ltb-true s (2 ^ n) in-n) (pow-mono few) in
+      rw low (lowest-has maxEvents s (lowest-lt maxEvents s (lt-of-le-ne (omega arith) (λ q. some (sym q))) z))
 
   pub low-lt : m < n
   low-lt = within-lt n s m in-n low-has
@@ -94,5 +95,5 @@ module _ (n s m : ℕ) (few : n ≤ 64) (in-n : within n s ≡ true) (some : s �
 
   pub low-first : {A B : Type 0} (f : A → List B) (g : ℕ → List A) → packed f (flat n (listed g s)) ≡ packed f (g m) ++ packed f (flat n (listed g (minus s (only m))))
   low-first f g =
-      rw (listed-lowest g n s m low-lt low-has (λ e h. lowest-least 64 s e (rw low at h)))
+      rw (listed-lowest g n s m low-lt low-has (λ e h. lowest-least maxEvents s e (rw low at h)))
       (packed-append f (g m) (flat n (listed g (minus s (only m)))))

@@ -7,7 +7,7 @@ use native.Mathlib.Omega.{arith}
 use lib.Dec.{eqb}
 use lib.ListN.{length, getD, length-append}
 use borrow.Author.Tests.{eq-eqb, ne-eqb, eqb-true}
-use Rattle.paper.specs.Limits.{maxRules, maxWords, bookHeader, ruleSize, conditionSize, wordSize}
+use Rattle.paper.specs.Limits.{maxEvents, maxRules, maxWords, bookHeader, ruleSize, conditionSize, wordSize}
 use Rattle.sets.specs.Cases.{cases, either}
 use Rattle.sets.specs.Below.{tally, tally-le}
 use Rattle.sets.specs.Set.{has, union, only, size, within}
@@ -173,9 +173,9 @@ module _ (c : FlatChart) where
     pub rules-most : length (derivedBook c .rules) ≤ maxRules
     unfolding rulesNeeded completionsSize
     rules-most =
-        let few : n ≤ 64 = fit .few in
-        let b : total n (λ e. completionSize e (setOf c include e) (setOf c exclude e) (setOf c response e)) ≤ n * 129 =
-        total-le n 129 _ (λ e h.
+        let few : n ≤ maxEvents = fit .few in
+        let b : total n (λ e. completionSize e (setOf c include e) (setOf c exclude e) (setOf c response e)) ≤ n * (2 * maxEvents + 1) =
+        total-le n (2 * maxEvents + 1) _ (λ e h.
         let l : completionSize e (setOf c include e) (setOf c exclude e) (setOf c response e) ≤ 2 * n + 1 =
         completion-le n e h (setOf c include e) (setOf c exclude e) (setOf c response e) (both-within e h) (set-within response e h) in omega arith) in
         rw rules-length (omega arith)
@@ -183,18 +183,18 @@ module _ (c : FlatChart) where
     pub words-most : length (derivedBook c .words) ≤ maxWords
     unfolding wordsNeeded textsSize
     words-most =
-        let few : n ≤ 64 = fit .few in
-        let b : total n (λ e. textSize (setOf c condition e) (setOf c milestone e)) ≤ n * 641 =
-        total-le n 641 _ (λ e h.
+        let few : n ≤ maxEvents = fit .few in
+        let b : total n (λ e. textSize (setOf c condition e) (setOf c milestone e)) ≤ n * (10 * maxEvents + 1) =
+        total-le n (10 * maxEvents + 1) _ (λ e h.
         let l : textSize (setOf c condition e) (setOf c milestone e) ≤ 10 * n + 1 =
         text-le n (setOf c condition e) (setOf c milestone e) (set-within condition e h) (set-within milestone e h) in omega arith) in
         rw words-length (omega arith)
 
-    -- 32 + 10 * 8,384 + 8 * 64 + 2 * 41,024
-    pub bytes-most : bytesNeeded ≤ 166432
+    -- 166,432
+    pub bytes-most : bytesNeeded ≤ bookHeader + ruleSize * maxRules + conditionSize * maxEvents + wordSize * maxWords
     unfolding bytesNeeded
     bytes-most =
-        let few : n ≤ 64 = fit .few in
+        let few : n ≤ maxEvents = fit .few in
         let r : rulesNeeded ≤ maxRules = rw rules-length at rules-most in
         let w : wordsNeeded ≤ maxWords = rw words-length at words-most in
         omega arith

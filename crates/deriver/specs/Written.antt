@@ -7,7 +7,7 @@ use native.Mathlib.Numerals.{add-one}
 use native.Mathlib.Omega.{arith}
 use lib.ListN.{length, set, getD}
 use lib.Seq.{sets}
-use Rattle.paper.specs.Limits.{ruleSize, conditionSize, wordSize, notWord, orWord, andWord}
+use Rattle.paper.specs.Limits.{maxEvents, ruleSize, conditionSize, wordSize, notWord, orWord, andWord}
 use Rattle.sets.specs.Set.{has, union}
 use Rattle.wire.specs.Wire.{put16, put32, bytes16, bytes32}
 use Rattle.wire.specs.Laws.{length-bytes16}
@@ -152,8 +152,8 @@ stage-fits room at e h =
 
 -- ---- sizes, event by event
 
-module _ (n : ℕ) (i x r : List ℕ) (few : n ≤ 64) (ok : CompletionsIn n i x r) (e v : ℕ) (h : e < n) (q : v ≡ completionSize e (getD i e 0) (getD x e 0) (getD r e 0)) where
-  pub completion-small : v ≤ 129
+module _ (n : ℕ) (i x r : List ℕ) (few : n ≤ maxEvents) (ok : CompletionsIn n i x r) (e v : ℕ) (h : e < n) (q : v ≡ completionSize e (getD i e 0) (getD x e 0) (getD r e 0)) where
+  pub completion-small : v ≤ 2 * maxEvents + 1
   completion-small =
       let l : completionSize e (getD i e 0) (getD x e 0) (getD r e 0) ≤ 2 * n + 1 = completion-le n e h _ _ _ (ok .inclusions e h) (ok .responses e h) in
       omega arith
@@ -165,8 +165,8 @@ module _ (n : ℕ) (i x r : List ℕ) (few : n ≤ 64) (ok : CompletionsIn n i x
 pub completions-all : (n : ℕ) (i x r : List ℕ) (e s : ℕ) → e ≤ n → n ≤ e → s ≡ completionsSize e i x r → s ≡ completionsSize n i x r
 completions-all n i x r e s h l p = let z : e ≡ n = omega arith in p ∙ ap (λ (k : ℕ). completionsSize k i x r) z
 
-module _ (n : ℕ) (t m : List ℕ) (few : n ≤ 64) (ok : TextsIn n t m) (e v : ℕ) (h : e < n) (q : v ≡ textSize (getD t e 0) (getD m e 0)) where
-  pub text-small : v ≤ 641
+module _ (n : ℕ) (t m : List ℕ) (few : n ≤ maxEvents) (ok : TextsIn n t m) (e v : ℕ) (h : e < n) (q : v ≡ textSize (getD t e 0) (getD m e 0)) where
+  pub text-small : v ≤ 10 * maxEvents + 1
   text-small =
       let l : textSize (getD t e 0) (getD m e 0) ≤ 10 * n + 1 = text-le n _ _ (ok .conditions e h) (ok .milestones e h) in
       omega arith

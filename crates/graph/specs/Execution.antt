@@ -1,16 +1,15 @@
 -- Document 000, Definitions 2 and 3, by membership, and what the paper says of executing, counting and the finished test. Assumes nothing.
-use Prim.Native.Nat.{ℕ, suc, _^_, _≤_, _<_}
+use Prim.Native.Nat.{ℕ, _^_, _≤_, _<_}
 use mathlib.Core.Path.{_≡_, refl, sym, ap, ap₂, _∙_}
 use mathlib.Core.Bool.{true, false, not, _&&_}
 use mathlib.Core.Logic.{_↔_, _⊎_, inl, inr, ⊎-elim}
 use native.Mathlib.Omega.{arith}
-use native.Mathlib.Nat.{le-antisymm, lt-of-not-le, le-of-suc-le-suc}
 use lib.Dec.{eqb, leb, ltb}
 use borrow.Author.Tests.{eq-eqb, ne-eqb, eqb-true, eqb-false, le-leb, lt-leb, leb-true, leb-false, lt-ltb, ltb-true, not-true}
 use Rattle.paper.specs.Limits.{maxEvents, noSuchEvent, notIncluded, conditionWanting, milestoneWanting, unfit}
 use Rattle.paper.specs.Answers.{answer, granted, refusal}
 use Rattle.sets.specs.Cases.{contra, cases, both, all3, either, or-right, not-so, same-test, coincide}
-use Rattle.sets.specs.Below.{tally}
+use Rattle.sets.specs.Below.{tally, Lowest, lowest-one}
 use Rattle.sets.specs.Set.{has, inter, minus, only, lowest}
 use Rattle.sets.specs.Laws.{has-union, has-inter, has-minus, has-only, has-empty, none-zero, ext, lowest-has, lowest-lt, lowest-least, has-collect, size-collect, below, apart-not, not-apart, lowest-none}
 use Rattle.graph.specs.Chart.{condition, response, milestone, include, exclude, setOf, In, Fit, FitMarking}
@@ -48,11 +47,6 @@ pub record Awaiting (c : FlatChart) (m : Marking) (e f : ℕ) : Type 0 where
   pub asked : In (setOf c milestone e) f
   pub pending : In (m .pending) f
 
--- the lowest number of which P holds
-pub record Lowest (P : ℕ → Type 0) (f : ℕ) : Type 0 where
-  pub holds : P f
-  pub least : (g : ℕ) → g < f → P g → ⊥
-
 -- "Executing gives 14, 10, 11, 12, 13": what the paper has a step give, case by case
 pub record Stands (c : FlatChart) (m : Marking) (e : ℕ) : Type 0 where
   pub chart : Fit c
@@ -63,8 +57,8 @@ pub data Executes (c : FlatChart) (m : Marking) (e : ℕ) : Step → Type 0 wher
   isUnfit : (Fit c → FitMarking (c .count) m → ⊥) → Executes c m e (refusing unfit 0 m)
   isGone : Fit c → FitMarking (c .count) m → c .count ≤ e → Executes c m e (refusing noSuchEvent 0 m)
   isExcluded : Stands c m e → (In (m .included) e → ⊥) → Executes c m e (refusing notIncluded 0 m)
-  isWanting : {f : ℕ} → Stands c m e → In (m .included) e → Lowest (Wanting c m e) f → Executes c m e (refusing conditionWanting f m)
-  isAwaiting : {f : ℕ} → Stands c m e → In (m .included) e → ((g : ℕ) → Wanting c m e g → ⊥) → Lowest (Awaiting c m e) f → Executes c m e (refusing milestoneWanting f m)
+  isWanting : {f : ℕ} → Stands c m e → In (m .included) e → Lowest (c .count) (Wanting c m e) f → Executes c m e (refusing conditionWanting f m)
+  isAwaiting : {f : ℕ} → Stands c m e → In (m .included) e → ((g : ℕ) → Wanting c m e g → ⊥) → Lowest (c .count) (Awaiting c m e) f → Executes c m e (refusing milestoneWanting f m)
   isDone : {n : Marking} → Stands c m e → Enabled c m e → Executed c m e n → Executes c m e (granting n)
 
 -- ---- the open rule
@@ -140,13 +134,6 @@ module _ (c : FlatChart) (m : Marking) (e : ℕ) where
         );
       }
 
--- two numbers that are the lowest with P are one
-pub lowest-one : (P : ℕ → Type 0) (f g : ℕ) → Lowest P f → Lowest P g → f ≡ g
-lowest-one P f g a b = le-antisymm (half f g a b) (half g f b a)
-  where
-    half : (f g : ℕ) → Lowest P f → Lowest P g → f ≤ g
-    half f g a b = le-of-suc-le-suc (lt-of-not-le (λ (h : suc g ≤ f). a .least g h (b .holds)))
-
 -- two markings that Definition 3 gives are one
 same-set : (s t : ℕ) (P : ℕ → Type 0) → ((f : ℕ) → In s f ↔ P f) → ((f : ℕ) → In t f ↔ P f) → s ≡ t
 same-set s t P a b = ext s t (λ f. same-test (has s f) (has t f) (λ h. b f .1 (a f .0 h)) (λ h. a f .1 (b f .0 h)))
@@ -165,12 +152,15 @@ executed-one c m e n k a b =
 
 module _ (c : FlatChart) (m : Marking) (e : ℕ) where
   -- the lowest member of a set of included events
-  lowest-in : Fit c → FitMarking (c .count) m → (P : ℕ → Type 0) (s : ℕ) → ((f : ℕ) → In s f ↔ P f) → ((f : ℕ) → P f → In (m .included) f) → (s ≡ 0 → ⊥) → Lowest P (lowest maxEvents s)
+  lowest-in : Fit c → FitMarking (c .count) m → (P : ℕ → Type 0) (s : ℕ) → ((f : ℕ) → In s f ↔ P f) → ((f : ℕ) → P f → In (m .included) f) → (s ≡ 0 → ⊥)
+      → Lowest (c .count) P (lowest maxEvents s)
   lowest-in k t P s h i n =
       let few : c .count ≤ maxEvents = k .few in
       let b : s < 2 ^ maxEvents = below maxEvents s (λ f l. not-so (λ x. let u : f < c .count = t .included f (i f (h f .0 x)) in absurd (omega arith))) in
+      let x : P (lowest maxEvents s) = h (lowest maxEvents s) .0 (lowest-has maxEvents s (lowest-lt maxEvents s (omega arith) b)) in
       record {
-        holds = h (lowest maxEvents s) .0 (lowest-has maxEvents s (lowest-lt maxEvents s (omega arith) b));
+        fits = t .included _ (i _ x);
+        holds = x;
         least = λ g l p. contra (h g .1 p) (lowest-least maxEvents s g l);
       }
 
@@ -206,13 +196,13 @@ module _ (c : FlatChart) (m : Marking) (e : ℕ) where
   executes-only (isExcluded s x) = rw (both-fit c m (s .chart) (s .marking), lt-leb (c .count) e (s .exists), not-so x)
   executes-only (isWanting {f} s i l) =
       let u : unmetOf m (setOf c condition e) ≡ 0 → ⊥ = some-in _ f (unmet-wanting c m e f .1 (l .holds)) in
-      let o : f ≡ lowest maxEvents (unmetOf m (setOf c condition e)) = lowest-one (Wanting c m e) f _ l
+      let o : f ≡ lowest maxEvents (unmetOf m (setOf c condition e)) = lowest-one (c .count) (Wanting c m e) f _ l
       (lowest-in (s .chart) (s .marking) (Wanting c m e) (unmetOf m (setOf c condition e)) (unmet-wanting c m e) (λ g x. x .included) u) in
       rw (both-fit c m (s .chart) (s .marking), lt-leb (c .count) e (s .exists), i, ne-eqb _ 0 u) (ap (λ (x : ℕ). refusing conditionWanting x m) o)
   executes-only (isAwaiting {f} s i n l) =
       let z : unmetOf m (setOf c condition e) ≡ 0 = none-zero _ (λ g. not-so (λ h. n g (unmet-wanting c m e g .0 h))) in
       let w : awaitedOf m (setOf c milestone e) ≡ 0 → ⊥ = some-in _ f (awaited-awaiting c m e f .1 (l .holds)) in
-      let o : f ≡ lowest maxEvents (awaitedOf m (setOf c milestone e)) = lowest-one (Awaiting c m e) f _ l
+      let o : f ≡ lowest maxEvents (awaitedOf m (setOf c milestone e)) = lowest-one (c .count) (Awaiting c m e) f _ l
       (lowest-in (s .chart) (s .marking) (Awaiting c m e) (awaitedOf m (setOf c milestone e)) (awaited-awaiting c m e) (λ g x. x .included) w) in
       rw (both-fit c m (s .chart) (s .marking), lt-leb (c .count) e (s .exists), i, eq-eqb _ 0 z, ne-eqb _ 0 w) (ap (λ (x : ℕ). refusing milestoneWanting x m) o)
   executes-only (isDone {n} s t x) =
@@ -276,7 +266,7 @@ module _ (c : FlatChart) (m : Marking) (e : ℕ) where
 pub record Counts (c : FlatChart) (m : Marking) (r : OpenCount) : Type 0 where
   pub granting : r .answer ≡ granted
   pub number : r .count ≡ tally (c .count) (isOpen c m)
-  pub lowest : (r .lowest < c .count → Lowest (Enabled c m) (r .lowest)) × ((r .lowest < c .count → ⊥) → (r .lowest ≡ maxEvents) × ((e : ℕ) → e < c .count → Enabled c m e → ⊥))
+  pub lowest : (r .lowest < c .count → Lowest (c .count) (Enabled c m) (r .lowest)) × ((r .lowest < c .count → ⊥) → (r .lowest ≡ maxEvents) × ((e : ℕ) → e < c .count → Enabled c m e → ⊥))
 
 module _ (c : FlatChart) (m : Marking) where
   open-in : (e : ℕ) → In (openSet c m) e ↔ ((e < c .count) × Enabled c m e)
@@ -295,6 +285,7 @@ module _ (c : FlatChart) (m : Marking) where
         number = size-collect (c .count) (isOpen c m);
         lowest = (
           λ h. record {
+            fits = h;
             holds = open-in (lowest maxEvents (openSet c m)) .0 (lowest-has maxEvents (openSet c m) (let l : c .count ≤ maxEvents = f .few in omega arith)) .1;
             least = λ g l x. contra (open-in g .1 (omega arith, x)) (lowest-least maxEvents (openSet c m) g l);
           },

@@ -94,9 +94,9 @@ executing c m e =
 
 -- ---- counting
 
--- the bit of e, doubled, is that of e + 1, as long as it lies in the word
-pub bit-more : (e b r : ℕ) → e + 1 < 64 → b ≡ only e → r ≡ (b * 2 ^ 1) % 2 ^ 64 → r ≡ only (e + 1)
-bit-more e b r h p q = q ∙ rw (p, ← pow-add 2 e 1) (rw one-mul at (one-bit 64 (e + 1) h))
+-- the bit of e, doubled, is that of e + 1, as long as it lies in the word of w digits
+pub bit-more : (w e b r : ℕ) → e + 1 < w → b ≡ only e → r ≡ (b * 2 ^ 1) % 2 ^ w → r ≡ only (e + 1)
+bit-more w e b r h p q = q ∙ rw (p, ← pow-add 2 e 1) (rw one-mul at (one-bit w (e + 1) h))
 
 unfoldable pub openAmong : Marking → List ℕ → List ℕ → ℕ → ℕ
 openAmong m conditions milestones n = collect n (λ e. openWith m e (getD conditions e 0) (getD milestones e 0))

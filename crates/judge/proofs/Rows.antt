@@ -13,7 +13,7 @@ use Rattle.sets.specs.Below.{some, some-step, first}
 use Rattle.wire.specs.Wire.{u16At}
 use Rattle.reach.specs.Rows.{bit, putBit, takeRow, closed}
 use Rattle.reach.specs.Bits.{take-bit, take-other, put-bit, bit-zeros, length-takeRow, length-putBit}
-use Rattle.orders.specs.Loops.{leads, loopMark, loop-rows}
+use Rattle.orders.specs.Loops.{leads, loop-rows}
 use Rattle.book.specs.Book.{ruleOf}
 use Rattle.book.specs.Firing.{refers}
 use Rattle.book.specs.Image.{rulesIn, marksIn, rulePlace, ruleFrom, bookOf}
@@ -171,7 +171,7 @@ linking-last s refs rows r g h =
 
 pub place-found : (s rows next : List ℕ) (marks p : ℕ) → WellFormed s → marks ≡ marksIn s → LinkedMarks s rows → next ≡ closed marks markWords rows
     → p ≡ first marks (λ m. bit next markWords m m) → p ≡ loopPlace (bookOf s)
-unfolding loopPlace loopMark netOf ruleFrom bookOf
+unfolding loopPlace netOf ruleFrom bookOf
 place-found s rows next marks p w m g e f =
     let n = w .headed .counted .marks in
     let z = g .size in

@@ -13,8 +13,8 @@ use Rattle.paper.specs.Answers.{answer, granted}
 use Rattle.paper.specs.declared.Answer.{Answer}
 use Rattle.sets.specs.Cases.{contra, cases, coincide}
 use Rattle.sets.specs.Tables.{length-tabulate}
-use Rattle.orders.specs.Order.{Net, Mem, Fit, Loop, OnLoop, NoLoop}
-use Rattle.orders.specs.Running.{runningOrder, running-fit, running-whole, running-length}
+use Rattle.orders.specs.Order.{Net, Fit, Loop, OnLoop, NoLoop}
+use Rattle.orders.specs.Running.{runningOrder, running-fit, running-length}
 use Rattle.book.specs.Book.{Book, ruleOf}
 use Rattle.book.specs.Image.{marksIn, rulesIn, rulePlace, ruleFrom, bookOf}
 use Rattle.book.specs.Judging.{imageAnswer}
@@ -88,12 +88,9 @@ module _ (s : List ℕ) where
     unfolding netOf
     targets-in = targets
 
-    -- the running order is a fit order where there is no loop, and lists every rule exactly if there is none
+    -- the running order is a fit order where there is no loop
     pub order-fit : NoLoop (rulesOf s) → Fit (rulesOf s) (runningOrder (rulesOf s))
     order-fit = running-fit (rulesOf s) (bookOf s .marks) (targets-in)
-
-    pub order-whole : ((q : ℕ) → q < rulesOf s .count → Mem q (runningOrder (rulesOf s))) ↔ NoLoop (rulesOf s)
-    order-whole = running-whole (rulesOf s) (bookOf s .marks) (targets-in)
 
     lowest-loop : loopPlace (bookOf s) < bookOf s .marks → LowestLoop (rulesOf s) (loopPlace (bookOf s))
     lowest-loop h = let t = loop-place (bookOf s) targets in record { on = t .0 .0 h; lowest = t .0 .1 }

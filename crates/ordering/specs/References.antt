@@ -81,13 +81,13 @@ touches-or b r marks =
 
 -- ---- the words of a u64 decide
 
-pub meet-word : (a b : ℕ) → a < 2 ^ 64 → not (eqb (inter a b) 0) ≡ meetWord a b
+pub meet-word : (a b : ℕ) → a < 2 ^ wordBits → not (eqb (inter a b) 0) ≡ meetWord a b
 unfolding meetWord
 meet-word a b h =
     find wordBits (λ e. has a e && has b e)
     (λ e c x. rw (some-of wordBits (λ e. has a e && has b e) e c x) (ap not (ne-eqb (inter a b) 0 (λ z. contra (has-inter a b e ∙ x) (rw z (has-empty e))))))
     (λ n. rw (some-none wordBits (λ e. has a e && has b e) n)
-    (ap not (eq-eqb (inter a b) 0 (none-zero (inter a b) (λ e. has-inter a b e ∙ cases (ltb e wordBits) (λ t. n e (omega (arith, ltb-true e wordBits t))) (λ t. rw (above 64 a e h (omega (arith, ltb-false e wordBits t)))))))))
+    (ap not (eq-eqb (inter a b) 0 (none-zero (inter a b) (λ e. has-inter a b e ∙ cases (ltb e wordBits) (λ t. n e (omega (arith, ltb-true e wordBits t))) (λ t. rw (above wordBits a e h (omega (arith, ltb-false e wordBits t)))))))))
 
 module _ (rows marks : List ℕ) (c : ℕ) where
   -- a word of the row and the same word of the set

@@ -1,15 +1,11 @@
 -- Fit orders by index, as code that reads a slice sees them. Assumes nothing.
-use mathlib.Core.Path.{_≡_, refl, sym, ap, subst}
+use mathlib.Core.Path.{_≡_, refl, sym, subst}
 use mathlib.Core.Logic.{inl, inr, _↔_}
-use mathlib.Core.Bool.{Bool, true, false, not, _&&_}
+use mathlib.Core.Bool.{false}
 use mathlib.Core.List.{List, [], _∷_}
 use Prim.Native.Nat.{ℕ, zero, suc, _≤_, _<_}
 use native.Mathlib.Omega.{arith}
-use lib.Dec.{eqb, ltb}
 use lib.ListN.{length, getD}
-use borrow.Author.Tests.{eqb-true, eqb-false, eq-eqb, ne-eqb, ltb-true, lt-ltb, not-true}
-use Rattle.sets.specs.Cases.{both}
-use Rattle.sets.specs.Below.{every, every-at, every-of}
 use Rattle.orders.specs.Order.{Net, Mem, Distinct, before, Respects, Fit}
 use Rattle.orders.specs.Written.{each-listed, listed-length}
 
@@ -75,44 +71,3 @@ module _ (N : Net) where
     where
       low : FitAt l → (q : ℕ) → Mem q l → q < N .count
       low x q m = let (j, h, e) = at-mem l q m in rw (← e) (x .below j h)
-
--- the same as one test
-module _ (N : Net) (l : List ℕ) where
-  -- entry j is a rule, is not listed before, and comes before no entry up to its own
-  unfoldable pub entry : ℕ → Bool
-  entry j = ltb (getD l j 0) (N .count) && every j (λ i. not (eqb (getD l i 0) (getD l j 0))) && every (suc j) (λ i. not (before N (getD l j 0) (getD l i 0)))
-
-  unfoldable pub fitB : Bool
-  fitB = eqb (length l) (N .count) && every (length l) entry
-
-  pub fitB-true : fitB ≡ true → FitAt N l
-  unfolding fitB entry
-  fitB-true e =
-      let (x, y) = both (eqb (length l) (N .count)) (every (length l) entry) e in
-      let each : (j : ℕ) → j < length l → (getD l j 0 < N .count) × ((i : ℕ) → i < j → eqb (getD l i 0) (getD l j 0) ≡ false) × ((i : ℕ) → i < suc j → before N (getD l j 0) (getD l i 0) ≡ false) =
-      λ j h.
-      let (u, w) = both (ltb (getD l j 0) (N .count) && every j (λ i. not (eqb (getD l i 0) (getD l j 0)))) (every (suc j) (λ i. not (before N (getD l j 0) (getD l i 0)))) (every-at (length l) entry j y h) in
-      let (a, b) = both (ltb (getD l j 0) (N .count)) (every j (λ i. not (eqb (getD l i 0) (getD l j 0)))) u in (
-        ltb-true (getD l j 0) (N .count) a,
-        λ i k. not-true (eqb (getD l i 0) (getD l j 0)) (every-at j (λ i. not (eqb (getD l i 0) (getD l j 0))) i b k),
-        λ i k. not-true (before N (getD l j 0) (getD l i 0)) (every-at (suc j) (λ i. not (before N (getD l j 0) (getD l i 0))) i w k),
-      ) in
-      record {
-        size = eqb-true (length l) (N .count) x;
-        below = λ j h. each j h .0;
-        distinct = λ i j h k. eqb-false (getD l i 0) (getD l j 0) (each j k .1 i h);
-        respects = λ i j h k. each j k .2 i (omega arith);
-      }
-
-  pub fitB-of : FitAt N l → fitB ≡ true
-  unfolding fitB entry
-  fitB-of f =
-      rw (
-        eq-eqb (length l) (N .count) (f .size),
-        every-of (length l) entry (λ j h.
-            rw (
-              lt-ltb (getD l j 0) (N .count) (f .below j h),
-              every-of j (λ i. not (eqb (getD l i 0) (getD l j 0))) (λ i k. rw (ne-eqb (getD l i 0) (getD l j 0) (f .distinct i j k h))),
-              every-of (suc j) (λ i. not (before N (getD l j 0) (getD l i 0))) (λ i k. ap not (f .respects i j (omega arith) h)),
-            )),
-      )

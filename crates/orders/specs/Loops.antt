@@ -57,6 +57,10 @@ module _ (N : Net) where
         (q, j, t, ⊎-elim (λ x. link j j (subst (λ y. before N q y ≡ true) x k)) (λ c. more j i k c) s),
   )
 
+  -- "lowest mark targeted by a rule on a loop", or marks: the lowest mark that reaches itself over the marks that rules refer to and target
+  abbrev pub loopMark : ℕ → ℕ
+  loopMark marks = first marks (λ m. within leads marks m m)
+
   module _ (marks : ℕ) (small : (r : ℕ) → r < N .count → N .target r < marks) where
     pub loop-found : (m : ℕ) → OnLoop N m ↔ (within leads marks m m ≡ true)
     loop-found m = (
@@ -64,27 +68,21 @@ module _ (N : Net) where
       λ e. loop-way m .1 (sound leads marks m m e),
     )
 
-    -- the lowest mark targeted by a rule on a loop, or marks
-    unfoldable pub loopMark : ℕ
-    loopMark = first marks (λ m. within leads marks m m)
-
-    pub loop-mark : ((loopMark < marks → OnLoop N loopMark) × ((m : ℕ) → m < loopMark → OnLoop N m → ⊥)) × (NoLoop N ↔ (loopMark ≡ marks))
-    unfolding loopMark
+    pub loop-mark : ((loopMark marks < marks → OnLoop N (loopMark marks)) × ((m : ℕ) → m < loopMark marks → OnLoop N m → ⊥)) × (NoLoop N ↔ (loopMark marks ≡ marks))
     loop-mark =
         let l = first-is marks (λ m. within leads marks m m) in (
-          (λ h. loop-found loopMark .1 (l .passes h), λ m h o. contra (loop-found m .0 o) (l .lowest m h)),
+          (λ h. loop-found (loopMark marks) .1 (l .passes h), λ m h o. contra (loop-found m .0 o) (l .lowest m h)),
           (
-            λ n. cases (ltb loopMark marks)
-                (λ e. let o = loop-found loopMark .1 (l .passes (ltb-true loopMark marks e)) in absurd (n (o .0) (o .1) (o .3)))
-                (λ e. let i = l .fits in omega (arith, ltb-false loopMark marks e)),
+            λ n. cases (ltb (loopMark marks) marks)
+                (λ e. let o = loop-found (loopMark marks) .1 (l .passes (ltb-true (loopMark marks) marks e)) in absurd (n (o .0) (o .1) (o .3)))
+                (λ e. let i = l .fits in omega (arith, ltb-false (loopMark marks) marks e)),
             λ e r i c. contra (loop-found (N .target r) .0 (r, i, refl, c)) (l .lowest (N .target r) (rw e (small r i))),
           ),
         )
 
     -- rows of bits that hold for each mark what the rules that target it refer to: the first that their closure has itself
     pub loop-rows : (width : ℕ) (rows : List ℕ) → marks * width ≤ length rows → marks ≤ 64 * width → ((a b : ℕ) → a < marks → b < marks → bit rows width b a ≡ leads a b)
-        → first marks (λ m. bit (closed marks width rows) width m m) ≡ loopMark
-    unfolding loopMark
+        → first marks (λ m. bit (closed marks width rows) width m m) ≡ loopMark marks
     loop-rows width rows f w h =
         first-same marks (λ m. bit (closed marks width rows) width m m) (λ m. within leads marks m m)
         (λ m c. closed-bit marks width rows f w m m c (omega arith)

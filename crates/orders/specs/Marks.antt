@@ -1,7 +1,7 @@
 -- Ready rules by marks, as code that counts the unwritten rules of each mark sees them: a rule is ready exactly if it is unwritten and every
 -- mark that it refers to is settled. Assumes nothing.
 use mathlib.Core.Path.{_≡_, refl, sym, _∙_}
-use mathlib.Core.Logic.{_≢_, _⊎_, ⊎-elim}
+use mathlib.Core.Logic.{_≢_}
 use mathlib.Core.Bool.{Bool, true, false, not, _&&_, _||_, and-true}
 use Prim.Native.Nat.{ℕ, suc, _≤_, _<_}
 use native.Mathlib.Omega.{arith}
@@ -106,10 +106,3 @@ module _ (N : Net) where
   next-on d r e s p h =
       cases (eqb p r) (λ x. rw (eqb-true p r x) (ready-gone d r))
       (λ x. let n : p ≢ r = eqb-false p r x in ready-waits d r p n s ∙ first-is (N .count) (ready N d) .lowest p (omega arith))
-
--- and where r's target has just been settled, the search goes back at most to the lowest unwritten rule that refers to it
-pub next-back : (N : Net) (d : Written) (r b : ℕ) → r ≡ next N d → b ≤ r → ((p : ℕ) → p < b → (d p ≡ true) ⊎ (N .refers p (N .target r) ≡ false))
-    → (p : ℕ) → p < b → ready N (write d r) p ≡ false
-next-back N d r b e h k p c =
-    ⊎-elim (λ t. not-so (λ z. contra t (neither (eqb p r) (d p) (ready-is N (write d r) p z .0) .1)))
-    (λ t. ready-stays N d r p (λ x. omega arith) t ∙ first-is (N .count) (ready N d) .lowest p (omega arith)) (k p c)

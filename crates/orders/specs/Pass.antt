@@ -10,11 +10,10 @@ use lib.Dec.{eqb, ltb}
 use lib.ListN.{length, getD, drop, drop-of-length-le}
 use lib.Seq.{drop-cons}
 use borrow.Author.Tests.{eqb-true, eq-eqb, ne-eqb, ltb-true, lt-ltb}
-use Rattle.sets.specs.Cases.{contra, cases, both, neither, same-test}
+use Rattle.sets.specs.Cases.{contra, cases, both, neither}
 use Rattle.orders.specs.Order.{Net, Mem, Distinct, Respects, Fit}
 use Rattle.orders.specs.Written.{Written, none, write, each-listed, listed-length}
-use Rattle.orders.specs.Running.{ready, ready-is, is-ready, ready-same}
-use Rattle.orders.specs.Index.{fit-at, fitB, fitB-true, fitB-of}
+use Rattle.orders.specs.Running.{ready, ready-is, is-ready}
 
 module _ (N : Net) where
   -- r may stand next where d is written: it is a rule, it is unwritten, and nothing unwritten, itself included, comes before it
@@ -31,14 +30,6 @@ module _ (N : Net) where
   fine-is : (d : Written) (r : ℕ) → fine d r ≡ true → (r < N .count) × (ready N d r ≡ true)
   unfolding fine
   fine-is d r e = let (x, y) = both (ltb r (N .count)) (ready N d r) e in (ltb-true r (N .count) x, y)
-
-  -- only what is below count matters of what is written
-  pub passes-same : (l : List ℕ) (d e : Written) → ((q : ℕ) → q < N .count → d q ≡ e q) → passes d l ≡ passes e l
-  unfolding passes fine
-  passes-same [] d e h = refl
-  passes-same (r ∷ l) d e h =
-      cases (ltb r (N .count))
-      (λ x. rw (x, ready-same N d e h r (ltb-true r (N .count) x), passes-same l (write d r) (write e r) (λ q c. rw (h q c)))) (λ x. rw x)
 
   -- ---- the turns of a loop along the order
 
@@ -113,8 +104,3 @@ module _ (N : Net) where
           respects = pass-respects l none y;
         },
   )
-
-  -- the two tests are one
-  pub pass-fit : (l : List ℕ) → fitPass l ≡ fitB N l
-  pass-fit l =
-      same-test (fitPass l) (fitB N l) (λ e. fitB-of N l (fit-at N l .0 (fit-pass l .1 e))) (λ e. fit-pass l .0 (fit-at N l .1 (fitB-true N l e)))

@@ -1,21 +1,20 @@
 -- The running order. It lists every rule exactly if there is no loop, and is then a fit order. Assumes nothing.
-use mathlib.Core.Path.{_≡_, refl, sym, ap, subst, _∙_}
+use mathlib.Core.Path.{_≡_, refl, sym, subst, _∙_}
 use mathlib.Core.Logic.{_≢_, _⊎_, inl, inr, ⊎-elim, _↔_}
 use mathlib.Core.Bool.{Bool, true, false, not, cond, _&&_, _||_}
-use mathlib.Core.List.{List, [], _∷_, _++_, append-assoc, append-nil}
-use Prim.Native.Nat.{ℕ, zero, suc, _+_, _-_, _≤_, _<_}
-use native.Mathlib.Nat.{zero-add, suc-add, sub-self}
+use mathlib.Core.List.{List, [], _∷_, _++_, append-assoc}
+use Prim.Native.Nat.{ℕ, zero, suc, _+_, _≤_, _<_}
 use native.Mathlib.Numerals.{add-one}
 use native.Mathlib.Omega.{arith}
 use lib.Dec.{eqb}
-use lib.ListN.{length, getD, take}
-use borrow.Author.Tests.{eqb-true, eqb-false, eq-eqb, ne-eqb, not-true}
+use lib.ListN.{length}
+use borrow.Author.Tests.{eqb-true, eqb-false, eq-eqb, ne-eqb}
 use Rattle.sets.specs.Cases.{contra, cases, both, neither, lt-suc}
-use Rattle.sets.specs.Below.{every, every-at, every-of, every-same, first, first-is, first-same, tally-some}
+use Rattle.sets.specs.Below.{every, every-at, every-of, first, first-is}
 use Rattle.orders.specs.Order.{Net, Mem, Distinct, before, Respects, Fit, Chain, link, more, NoLoop}
 use Rattle.reach.specs.Closure.{within, trans, wider}
 use Rattle.orders.specs.Loops.{leads, leads-of, loop-found}
-use Rattle.orders.specs.Written.{Written, none, write, writeAll, unwritten, left-less, unwritten-first, listed-length}
+use Rattle.orders.specs.Written.{Written, none, write, unwritten, left-less, unwritten-first, listed-length}
 
 -- ---- a least one of what is unwritten
 
@@ -66,19 +65,6 @@ module _ (N : Net) where
   unfolding ready
   is-ready d r e h = rw (e, every-of (N .count) (λ p. not (before N p r) || d p) (λ p c. cases (d p) (λ x. cases (before N p r) (λ y. rw (y, x)) (λ y. rw y)) (λ x. rw (h p c x))))
 
-  -- only what is below count matters of what is written
-  pub ready-same : (d e : Written) → ((q : ℕ) → q < N .count → d q ≡ e q) → (r : ℕ) → r < N .count → ready d r ≡ ready e r
-  unfolding ready
-  ready-same d e h r c =
-      rw (h r c, every-same (N .count) (λ p. not (before N p r) || d p) (λ p. not (before N p r) || e p) (λ p i. rw (h p i)))
-
-  pub greedy-same : (f : ℕ) (d e : Written) → ((q : ℕ) → q < N .count → d q ≡ e q) → greedy f d ≡ greedy f e
-  unfolding greedy
-  greedy-same zero d e h = refl
-  greedy-same (suc f) d e h =
-      let n : next d ≡ next e = first-same (N .count) (ready d) (ready e) (ready-same d e h) in
-      rw (n, greedy-same f (write d (next e)) (write e (next e)) (λ q c. rw (h q c)))
-
   -- ---- the order step by step
 
   -- the order goes on with r where r is next
@@ -91,37 +77,6 @@ module _ (N : Net) where
   unfolding greedy
   greedy-end zero d e = refl
   greedy-end (suc f) d e = rw (eq-eqb (next d) (N .count) e)
-
-  -- each of l is the lowest ready rule where what stands before it is written
-  abbrev pub Stepwise : Written → List ℕ → Type 0
-  Stepwise d [] = Unit {0}
-  Stepwise d (r ∷ l) = (r < N .count) × (r ≡ next d) × Stepwise (write d r) l
-
-  pub stepwise-more : (l : List ℕ) (d : Written) (r : ℕ) → Stepwise d l → r ≡ next (writeAll d l) → r < N .count → Stepwise d (l ++ r ∷ [])
-  unfolding writeAll
-  stepwise-more [] d r s e h = (h, e, tt)
-  stepwise-more (x ∷ l) d r s e h = (s .0, s .1, stepwise-more l (write d x) r (s .2) e h)
-
-  pub stepwise-at : (l : List ℕ) (d : Written) → ((j : ℕ) → j < length l → (getD l j 0 < N .count) × (getD l j 0 ≡ next (writeAll d (take j l)))) → Stepwise d l
-  unfolding writeAll
-  stepwise-at [] d h = tt
-  stepwise-at (r ∷ l) d h = (h 0 (omega arith) .0, h 0 (omega arith) .1, stepwise-at l (write d r) (λ j i. h (suc j) (omega arith)))
-
-  pub greedy-prefix : (l : List ℕ) (d : Written) (f : ℕ) → Stepwise d l → greedy (length l + f) d ≡ l ++ greedy f (writeAll d l)
-  unfolding writeAll
-  greedy-prefix [] d f s = rw zero-add
-  greedy-prefix (r ∷ l) d f s = rw (suc-add, greedy-on (length l + f) d r (s .1) (s .0), greedy-prefix l (write d r) f (s .2))
-
-  -- what is written so is how the running order begins
-  pub running-prefix : (l : List ℕ) → Stepwise none l → length l ≤ N .count → runningOrder ≡ l ++ greedy (N .count - length l) (writeAll none l)
-  unfolding runningOrder
-  running-prefix l s h =
-      let e : N .count ≡ length l + (N .count - length l) = omega arith in
-      ap (λ n. greedy n none) e ∙ greedy-prefix l none (N .count - length l) s
-
-  pub running-is : (l : List ℕ) → Stepwise none l → length l ≡ N .count → l ≡ runningOrder
-  unfolding greedy
-  running-is l s e = sym (running-prefix l s (omega arith) ∙ rw (e, sub-self) (append-nil l))
 
   -- the same where one more is written behind what is: `done` stands for the room's first entries
   pub running-on : (done : List ℕ) (d : Written) (f r : ℕ) → runningOrder ≡ done ++ greedy (f + 1) d → r ≡ next d → r < N .count → runningOrder ≡ (done ++ r ∷ []) ++ greedy f (write d r)
@@ -201,14 +156,6 @@ module _ (N : Net) where
         (least (N .count) under
         (λ p c. cases (under p p) (λ x. let o = loop-found N marks small (N .target p) .1 x in absurd (acyclic (o .0) (o .1) (o .3))) (λ x. x))
         (λ p q r c x y. trans (leads N) marks (N .target p) (N .target q) (N .target r) (small q c) x y) d (N .count) (omega arith))
-
-    -- while a rule is unwritten, some rule is next
-    pub next-below : (d : Written) → 0 < unwritten d (N .count) → next d < N .count
-    next-below d h =
-        let (q, c, e) = tally-some (N .count) (λ q. not (d q)) h in
-        let n : next d ≢ N .count = eqb-false (next d) (N .count) (some-ready d q c (not-true (d q) e)) in
-        let i = first-is (N .count) (ready d) .fits in
-        omega arith
 
     greedy-whole : (f : ℕ) (d : Written) → unwritten d (N .count) ≤ f → (q : ℕ) → q < N .count → d q ≡ false → Mem q (greedy f d)
     unfolding greedy

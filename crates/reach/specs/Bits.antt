@@ -15,8 +15,9 @@ use borrow.Author.Tests.{eqb-true, eqb-false, eq-eqb}
 use Rattle.sets.specs.Cases.{contra, cases, both, absorbed, not-so, same-test, lt-suc}
 use Rattle.sets.specs.Below.{first, first-found, first-none}
 use Rattle.sets.specs.Set.{has, union, only}
+use Rattle.sets.specs.Tables.{zeros-at}
 use Rattle.sets.specs.Laws.{has-union, has-only, has-empty}
-use Rattle.reach.specs.Closure.{Way, within, within-none, within-same, reached-below}
+use Rattle.reach.specs.Closure.{Way, within, within-same, reached-below}
 use Rattle.reach.specs.Rows.{bit, putBit, takeWords, takeRow, joinIf, round, rounds, closed}
 
 -- ---- where words stand
@@ -117,10 +118,6 @@ module _ (width k : ℕ) where
       (λ e. rw (eqb-true a k e) (rw (eqb-true a k e) at (join-bit rows a b l h) ∙ absorbed (bit rows width k b) (bit rows width k k)))
       (λ e. join-other rows a k b l (λ x. eqb-false a k e (sym x)) h)
 
-  join-past : (rows : List ℕ) (a i : ℕ) → a * width + width ≤ i → getD (joinIf width k rows a) i 0 ≡ getD rows i 0
-  unfolding joinIf takeRow
-  join-past rows a i h = cases (bit rows width a k) (λ e. rw e (take-kept width a k rows rows width i (λ t l x. omega arith))) (λ e. rw e)
-
   length-joinIf : (rows : List ℕ) (a : ℕ) → length (joinIf width k rows a) ≡ length rows
   unfolding joinIf takeRow
   length-joinIf rows a = cases (bit rows width a k) (λ e. rw e (length-takeWords width a k rows rows width)) (λ e. rw e)
@@ -173,14 +170,6 @@ module _ (width k : ℕ) where
         ∙ rw (round-later n n b (omega arith) (omega arith) i, round-later n n k (omega arith) (omega arith) inside, round-kept n b (omega arith) i)))
         (λ m. join-other (round width k rows n) n x b g (λ e. omega arith) i ∙ round-bit n x b (omega arith) m i)
 
-  -- words past the rows stay
-  round-past : (rows : List ℕ) (n i : ℕ) → n * width ≤ i → getD (round width k rows n) i 0 ≡ getD rows i 0
-  unfolding round
-  round-past rows zero i h = refl
-  round-past rows (suc n) i h =
-      let f : n * width + width ≤ i = omega (arith, suc-mul n width) in
-      join-past (round width k rows n) n i f ∙ round-past rows n i (omega arith)
-
 module _ (n width : ℕ) (rows : List ℕ) where
   length-rounds : (k : ℕ) → length (rounds n width rows k) ≡ length rows
   unfolding rounds
@@ -194,11 +183,6 @@ module _ (n width : ℕ) (rows : List ℕ) where
   pub rounds-end : (k : ℕ) (now : List ℕ) → k ≤ n → n ≤ k → now ≡ rounds n width rows k → now ≡ closed n width rows
   unfolding closed
   rounds-end k now h l e = e ∙ ap (rounds n width rows) (le-antisymm h l)
-
-  rounds-past : (k i : ℕ) → n * width ≤ i → getD (rounds n width rows k) i 0 ≡ getD rows i 0
-  unfolding rounds
-  rounds-past zero i h = refl
-  rounds-past (suc k) i h = round-past width k (rounds n width rows k) n i h ∙ rounds-past k i h
 
   module _ (fits : n * width ≤ length rows) (inside : n ≤ 64 * width) where
     rounds-bit : (k : ℕ) → k ≤ n → (a b : ℕ) → a < n → b < 64 * width → bit (rounds n width rows k) width a b ≡ within (bit rows width) k a b
@@ -215,20 +199,11 @@ module _ (n width : ℕ) (rows : List ℕ) where
   unfolding closed
   length-closed = length-rounds n width rows n
 
-  -- words past the n rows stay
-  pub closed-past : (i : ℕ) → n * width ≤ i → getD (closed n width rows) i 0 ≡ getD rows i 0
-  unfolding closed
-  closed-past i h = rounds-past n width rows n i h
-
   module _ (fits : n * width ≤ length rows) (inside : n ≤ 64 * width) where
     -- the bits of the closure are the closure of the bits, those from n on too
     pub closed-bit : (a b : ℕ) → a < n → b < 64 * width → bit (closed n width rows) width a b ≡ within (bit rows width) n a b
     unfolding closed
     closed-bit a b h i = rounds-bit n width rows fits inside n (omega arith) a b h i
-
-    -- a bit from n on that no row had no row gets
-    pub closed-none : (b : ℕ) → b < 64 * width → ((a : ℕ) → a < n → bit rows width a b ≡ false) → (a : ℕ) → a < n → bit (closed n width rows) width a b ≡ false
-    closed-none b i h a l = closed-bit a b l i ∙ within-none (bit rows width) n b h n a (omega arith) l
 
     -- rows that hold the links E, whose ends are below n: row a of the closure has b exactly if b can be reached from a
     pub closed-reached : (E : ℕ → ℕ → Bool) → ((a b : ℕ) → a < n → b < n → bit rows width a b ≡ E a b) → ((a b : ℕ) → a < n → E a b ≡ true → b < n)
@@ -283,11 +258,6 @@ put-bit rows width a b x y l h i =
     (λ t. stays
     (λ e. let (p, q) = apart width a (b / 64) x (y / 64) (word-in width b h) (word-in width y i) e in contra (rw (eq-eqb a x p, eq-eqb (b / 64) (y / 64) q)) t)
     (not-so (λ w. let (p, q) = both (eqb a x) (eqb b y) w in contra (rw (p, eq-eqb (b / 64) (y / 64) (ap (λ (n : ℕ). n / 64) (eqb-true b y q)))) t)))
-
-zeros-at : (n i : ℕ) → getD {A = ℕ} (replicate n 0) i 0 ≡ 0
-zeros-at zero i = refl
-zeros-at (suc n) zero = refl
-zeros-at (suc n) (suc i) = zeros-at n i
 
 pub bit-zeros : (n width a b : ℕ) → bit (replicate n 0) width a b ≡ false
 unfolding bit

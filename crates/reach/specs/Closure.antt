@@ -1,7 +1,7 @@
 -- Where one can get to: the ways over a table of links, and the closure of the table, which finds exactly these. Assumes nothing.
 use mathlib.Core.Path.{_≡_, refl, ap}
 use mathlib.Core.Logic.{_↔_}
-use mathlib.Core.Bool.{Bool, true, false, _&&_, _||_, and-false, and-comm}
+use mathlib.Core.Bool.{Bool, true, _&&_, _||_, and-comm}
 use Prim.Native.Nat.{ℕ, zero, suc, _≤_, _<_}
 use native.Mathlib.Omega.{arith}
 use Rattle.sets.specs.Cases.{both, either, or-left, or-right, lt-suc}
@@ -16,7 +16,7 @@ module _ (E : ℕ → ℕ → Bool) where
   within zero a b = E a b
   within (suc k) a b = within k a b || (within k a k && within k k b)
 
-  join : {a c b : ℕ} → Way a c → Way c b → Way a b
+  pub join : {a c b : ℕ} → Way a c → Way c b → Way a b
   join (hop e) w = via e w
   join (via e v) w = via e (join v w)
 
@@ -74,12 +74,6 @@ module _ (E : ℕ → ℕ → Bool) where
 
   pub reached-below : (n : ℕ) → ((a b : ℕ) → a < n → E a b ≡ true → b < n) → (a b : ℕ) → a < n → Way a b ↔ (within n a b ≡ true)
   reached-below n h a b l = (complete-below n h l, sound n a b)
-
-  -- what no link from below n ends in is not reached from below n
-  pub within-none : (n b : ℕ) → ((a : ℕ) → a < n → E a b ≡ false) → (k a : ℕ) → k ≤ n → a < n → within k a b ≡ false
-  unfolding within
-  within-none n b h zero a l m = h a m
-  within-none n b h (suc k) a l m = rw (within-none n b h k a (omega arith) m, within-none n b h k k (omega arith) (omega arith), and-false (within k a k))
 
 -- tables with the same links below n have the same closure there
 pub within-same : (E F : ℕ → ℕ → Bool) (n : ℕ) → ((a b : ℕ) → a < n → b < n → E a b ≡ F a b) → (k a b : ℕ) → k ≤ n → a < n → b < n → within E k a b ≡ within F k a b

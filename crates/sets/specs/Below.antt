@@ -26,19 +26,10 @@ unfolding every
 every-of zero f h = refl
 every-of (suc k) f h = rw (every-of k f (λ p l. h p (omega arith)), h k (omega arith))
 
--- one that fails
-pub every-no : (k : ℕ) (f : ℕ → Bool) (p : ℕ) → p < k → f p ≡ false → every k f ≡ false
-every-no k f p h e = not-so (λ t. contra (every-at k f p t h) e)
-
 pub every-same : (k : ℕ) (f g : ℕ → Bool) → ((p : ℕ) → p < k → f p ≡ g p) → every k f ≡ every k g
 unfolding every
 every-same zero f g h = refl
 every-same (suc k) f g h = rw (every-same k f g (λ p l. h p (omega arith)), h k (omega arith))
-
--- one turn of a loop that goes up
-pub every-step : (k : ℕ) (f : ℕ → Bool) → every (k + 1) f ≡ (every k f && f k)
-unfolding every
-every-step k f = rw add-one
 
 -- ---- some one
 
@@ -96,6 +87,18 @@ first-unique k f r s a b = le-antisymm (half r s a b) (half s r b a)
   where
     half : (r s : ℕ) → First k f r → First k f s → r ≤ s
     half r s a b = le-of-suc-le-suc (lt-of-not-le (λ (h : suc s ≤ r). let i = a .fits in contra (b .passes (omega arith)) (a .lowest s h)))
+
+-- the same of a proposition: the lowest number below k of which P holds
+pub record Lowest (k : ℕ) (P : ℕ → Type 0) (r : ℕ) : Type 0 where
+  pub fits : r < k
+  pub holds : P r
+  pub least : (p : ℕ) → p < r → P p → ⊥
+
+pub lowest-one : (k : ℕ) (P : ℕ → Type 0) (r s : ℕ) → Lowest k P r → Lowest k P s → r ≡ s
+lowest-one k P r s a b = le-antisymm (half r s a b) (half s r b a)
+  where
+    half : (r s : ℕ) → Lowest k P r → Lowest k P s → r ≤ s
+    half r s a b = le-of-suc-le-suc (lt-of-not-le (λ (h : suc s ≤ r). a .least s h (b .holds)))
 
 -- where a scan upwards stops: everything below r failed, and r passes or is the end
 pub first-found : (k : ℕ) (f : ℕ → Bool) (r : ℕ) → r < k → ((p : ℕ) → p < r → f p ≡ false) → f r ≡ true → r ≡ first k f
@@ -158,9 +161,6 @@ tally-none (suc k) f h = rw (h k (omega arith)) (omega (arith, tally-none k f (�
 
 pub none-tally : (k : ℕ) (f : ℕ → Bool) → tally k f ≡ 0 → (p : ℕ) → p < k → f p ≡ false
 none-tally k f z p h = not-so (λ e. absurd (omega (arith, tally-less k f (λ q. f q && not (eqb q p)) p h e (rw (eq-eqb p p refl, e)) (λ q l n. rw (ne-eqb q p n) (sym (and-true (f q)))))))
-
-pub tally-some : (k : ℕ) (f : ℕ → Bool) → 0 < tally k f → (p : ℕ) × (p < k) × (f p ≡ true)
-tally-some k f h = find k f (λ p c e. (p, c, e)) (λ n. absurd (omega (arith, tally-none k f n)))
 
 -- one turn of a loop that goes up
 pub tally-step : (k : ℕ) (f : ℕ → Bool) → tally (k + 1) f ≡ cond (f k) 1 0 + tally k f

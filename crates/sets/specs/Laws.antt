@@ -12,7 +12,7 @@ use lib.Pow.{pow-pos, pow-mono, shr-shr, shl-exact}
 use lib.Dec.{lit<, ltb, eqb, eqb·zero-suc, eqb·suc-zero, eqb·suc-suc}
 use borrow.Author.Tests.{eq-eqb, lt-ltb, le-ltb, ltb-true, ltb-false, eqb-true, eqb-false}
 use lib.Bits.{bitwise-step, bitAnd, bitOr, and-step, or-step, and-mask, or-shifted-r}
-use lib.Count.{trailingZeros, ones, onesIn, ones-step, ones-cat}
+use lib.Count.{trailingZeros, ones, ones-cat}
 use Rattle.sets.specs.Cases.{contra, not-so, cases, both, neither, same-test}
 use Rattle.sets.specs.Below.{tally}
 use Rattle.sets.specs.Set.{isSet, allBelow, has, union, inter, minus, only, size, lowest, within, putIf, collect}
@@ -281,14 +281,6 @@ pub collect-step : (n : ℕ) (p : ℕ → Bool) → collect (n + 1) p ≡ putIf 
 unfolding collect
 collect-step n p = rw add-one
 
--- the count of a set of w digits, as a sum that computes at any size
-pub size-digits : (w s : ℕ) → s < 2 ^ w → onesIn w s ≡ size s
-unfolding onesIn ones
-size-digits zero s h = rw (lt-one h)
-size-digits (suc w) s h =
-    let q : 2 ^ suc w ≡ 2 ^ w * 2 = pow-suc 2 w in
-    ap (λ (x : ℕ). s % 2 + x) (size-digits w (s / 2) (omega arith)) ∙ sym (ones-step s)
-
 -- ---- tests on sets, by their members
 
 pub within-lt : (n s f : ℕ) → within n s ≡ true → has s f ≡ true → f < n
@@ -341,7 +333,6 @@ has-all (suc n) (suc e) =
     ltb-both : (e n : ℕ) → ltb e n ≡ ltb (suc e) (suc n)
     ltb-both e n = same-test (ltb e n) (ltb (suc e) (suc n)) (λ t. let h : e < n = ltb-true e n t in lt-ltb (suc e) (suc n) (omega arith)) (λ t. let h : suc e < suc n = ltb-true (suc e) (suc n) t in lt-ltb e n (omega arith))
 
--- what the code makes of 64 digits: `(1 << n) - 1`, and every digit
 pub union-zero : (a b : ℕ) → eqb (union a b) 0 ≡ (eqb a 0 && eqb b 0)
 union-zero a b =
     same-test (eqb (union a b) 0) (eqb a 0 && eqb b 0)
@@ -360,5 +351,6 @@ minus-none s t z e h = cases (has t e) (λ x. x) (λ x. contra (has-minus s t e 
 pub none-minus : (s t : ℕ) → ((e : ℕ) → has s e ≡ true → has t e ≡ true) → minus s t ≡ 0
 none-minus s t h = none-zero (minus s t) (λ e. has-minus s t e ∙ cases (has s e) (λ x. rw (x, h e x)) (λ x. rw x))
 
-pub all-wide : (n : ℕ) → n ≤ 64 → 64 ≤ n → 2 ^ 64 - 1 ≡ allBelow n
-all-wide n h l = let e : 64 ≡ n = omega arith in ap allBelow e
+-- what the code makes of w digits that are all set: as many as it has
+pub all-wide : (w n : ℕ) → n ≤ w → w ≤ n → allBelow w ≡ allBelow n
+all-wide w n h l = let e : w ≡ n = omega arith in ap allBelow e

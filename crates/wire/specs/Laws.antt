@@ -64,10 +64,6 @@ module _ (s : List ℕ) (at n : ℕ) where
   unfolding put16
   put16-length = simp length-set
 
-  pub put32-length : length (put32 s at n) ≡ length s
-  unfolding put32 put16
-  put32-length = simp length-set
-
   pub put16-other : (i : ℕ) → i ≢ at → i ≢ at + 1 → getD (put16 s at n) i 0 ≡ getD s i 0
   unfolding put16
   put16-other i a b = getD-set-other (set s at (n % 256)) (at + 1) i (n / 256) 0 b ∙ getD-set-other s at i (n % 256) 0 a
@@ -88,11 +84,6 @@ module _ (s : List ℕ) (at n : ℕ) where
 -- a number that lies before or behind it stays as it was
 pub put16-before : (s : List ℕ) (at n i : ℕ) → i + 2 ≤ at → u16At (put16 s at n) i ≡ u16At s i
 put16-before s at n i h =
-    u16-same (put16 s at n) s i i (put16-other s at n i (λ e. omega arith) (λ e. omega arith))
-    (put16-other s at n (i + 1) (λ e. omega arith) (λ e. omega arith))
-
-pub put16-behind : (s : List ℕ) (at n i : ℕ) → at + 2 ≤ i → u16At (put16 s at n) i ≡ u16At s i
-put16-behind s at n i h =
     u16-same (put16 s at n) s i i (put16-other s at n i (λ e. omega arith) (λ e. omega arith))
     (put16-other s at n (i + 1) (λ e. omega arith) (λ e. omega arith))
 

@@ -1,5 +1,6 @@
 -- `deriver::rules::completions_size` meets its contract. Assumes nothing.
-use Prim.Native.Nat.{_≤_, _-_, _*_}
+use Prim.Native.Nat.{_≤_, _+_, _-_, _*_}
+use Rattle.paper.specs.Limits.{maxEvents}
 use Rattle.book.specs.Lists.{total}
 use Rattle.deriver.specs.Sizes.{completionsSize}
 use Rattle.deriver.specs.Written.{completion-small, completions-more, completions-all}
@@ -10,7 +11,7 @@ use Rattle.deriver.proofs.rules.completions_size.Statement.{statement}
 use Rattle.deriver.proofs.rules.completions_size.Tie as tie
 
 abbrev Inv-loop : tie.InvT-loop
-Inv-loop n includes excludes responses sum₀ e₀ sum e = (e ≤ n) × (sum ≡ completionsSize e includes excludes responses) × (sum ≤ 129 * e)
+Inv-loop n includes excludes responses sum₀ e₀ sum e = (e ≤ n) × (sum ≡ completionsSize e includes excludes responses) × (sum ≤ (2 * maxEvents + 1) * e)
 
 abbrev μ-loop : tie.MeasureT-loop
 μ-loop n includes excludes responses sum₀ e₀ sum e = n - e

@@ -1,5 +1,6 @@
 -- `deriver::texts::put_conditions` meets its contract. Assumes nothing.
-use Prim.Native.Nat.{_-_, _*_, _≤_}
+use Prim.Native.Nat.{_+_, _-_, _*_, _≤_}
+use Rattle.paper.specs.Limits.{maxEvents}
 use Rattle.book.specs.ImageOf.{conditionBytes}
 use Rattle.book.specs.Lists.{total}
 use Rattle.deriver.specs.Loops.{Upto, upto-start, upto-fits, upto-length, upto-more, upto-done}
@@ -13,7 +14,7 @@ use Rattle.deriver.proofs.texts.put_conditions.Statement.{statement}
 use Rattle.deriver.proofs.texts.put_conditions.Tie as tie
 
 abbrev Inv-loop : tie.InvT-loop
-Inv-loop room₀ at n conditions milestones next₀ start₀ e₀ room next start e = Upto conditionBytes (conditionPart n conditions milestones) n room₀ at e next room × (start ≡ textsSize e conditions milestones) × (start ≤ 641 * e)
+Inv-loop room₀ at n conditions milestones next₀ start₀ e₀ room next start e = Upto conditionBytes (conditionPart n conditions milestones) n room₀ at e next room × (start ≡ textsSize e conditions milestones) × (start ≤ (10 * maxEvents + 1) * e)
 
 abbrev μ-loop : tie.MeasureT-loop
 μ-loop room₀ at n conditions milestones next₀ start₀ e₀ room next start e = n - e

@@ -1,5 +1,6 @@
 -- `deriver::texts::texts_size` meets its contract. Assumes nothing.
-use Prim.Native.Nat.{_≤_, _-_, _*_}
+use Prim.Native.Nat.{_≤_, _+_, _-_, _*_}
+use Rattle.paper.specs.Limits.{maxEvents}
 use Rattle.book.specs.Lists.{total}
 use Rattle.deriver.specs.Sizes.{textsSize}
 use Rattle.deriver.specs.Written.{text-small, texts-more, texts-all}
@@ -10,7 +11,7 @@ use Rattle.deriver.proofs.texts.texts_size.Statement.{statement}
 use Rattle.deriver.proofs.texts.texts_size.Tie as tie
 
 abbrev Inv-loop : tie.InvT-loop
-Inv-loop n conditions milestones sum₀ e₀ sum e = (e ≤ n) × (sum ≡ textsSize e conditions milestones) × (sum ≤ 641 * e)
+Inv-loop n conditions milestones sum₀ e₀ sum e = (e ≤ n) × (sum ≡ textsSize e conditions milestones) × (sum ≤ (10 * maxEvents + 1) * e)
 
 abbrev μ-loop : tie.MeasureT-loop
 μ-loop n conditions milestones sum₀ e₀ sum e = n - e
