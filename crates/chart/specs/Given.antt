@@ -179,10 +179,10 @@ module _ (image : List ℕ) where
     pub atom : (a : ℕ) → parent image a i ≡ false
     pub numbered : number image i ≡ e
 
-  is-event : (i : ℕ) → isEvent image i ≡ true → (a : ℕ) → parent image a i ≡ false
+  pub is-event : (i : ℕ) → isEvent image i ≡ true → (a : ℕ) → parent image a i ≡ false
   is-event i h a = not-so (λ e. contra (group-so image i .1 (record { member = a; inside = e })) (not-true (isGroup image i) h))
 
-  event-is : (i : ℕ) → ((a : ℕ) → parent image a i ≡ false) → isEvent image i ≡ true
+  pub event-is : (i : ℕ) → ((a : ℕ) → parent image a i ≡ false) → isEvent image i ≡ true
   event-is i h = rw (not-so (λ g. let t = group-so image i .0 g in contra (t .inside) (h (t .member))))
 
   pub event-node : (e : ℕ) → e < eventCount image → EventAt e (eventNode image e)

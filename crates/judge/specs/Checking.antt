@@ -22,7 +22,7 @@ use Rattle.book.specs.WellFormed.{WellFormed, Judged, short, count, layout, rul
 use Rattle.book.specs.Using.{rule-exists}
 use Rattle.ordering.specs.Rules.{netOf}
 use Rattle.ordering.specs.Nets.{rulesOf}
-use Rattle.judge.specs.Clash.{apart, opposed, NoClash, clash-of, of-clash}
+use Rattle.judge.specs.Clash.{NoClash, Clashes, clashes-so}
 use Rattle.judge.specs.Pairs.{clashFirst, clashSecond, LowestClash, clash-fits, lowest-clash, clash-found, no-clash}
 use Rattle.judge.specs.Places.{loopPlace, loop-fits, loop-place}
 
@@ -53,9 +53,9 @@ pub record LowestLoop (N : Net) (m : ℕ) : Type 0 where
   pub on : OnLoop N m
   pub lowest : (x : ℕ) → x < m → OnLoop N x → ⊥
 
--- two opposed rules that are not apart
+-- two rules that set and clear one mark and are not apart
 abbrev pub Clashing : Book → Type 0
-Clashing b = (p : ℕ) × (q : ℕ) × (p < q) × (q < length (b .rules)) × (opposed (ruleOf b p) (ruleOf b q) ≡ true) × (apart (ruleOf b p) (ruleOf b q) ≡ false)
+Clashing b = (p : ℕ) × (q : ℕ) × (p < q) × (q < length (b .rules)) × Clashes (ruleOf b p) (ruleOf b q)
 
 pub data Checked (s : List ℕ) (room : ℕ) : Answer → Type 0 where
   refused : (a : Answer) → Judged s a → (a .code ≡ 0 → ⊥) → Checked s room a
@@ -226,13 +226,13 @@ module _ (s : List ℕ) where
       -- 26 exactly if there is no loop and two opposed rules are not apart
       pub clash-exactly : (NoLoop (rulesOf s) × Clashing (bookOf s)) ↔ (checking s room .code ≡ clash)
       clash-exactly = (
-        λ l. let (p, q, i, j, o, a) = l .1 in
+        λ l. let (p, q, i, j, c) = l .1 in
             cases (ltb (clashFirst (bookOf s)) (length (bookOf s .rules)))
             (λ e. code-of (answer clash (clashFirst (bookOf s)) (clashSecond (bookOf s) (clashFirst (bookOf s)))) (clashed w (l .0) (clashFirst (bookOf s)) (clashSecond (bookOf s) (clashFirst (bookOf s))) (lowest-clash (bookOf s) (ltb-true (clashFirst (bookOf s)) (length (bookOf s .rules)) e))))
-            (λ e. let f = clash-fits (bookOf s) in contra (clash-of (ruleOf (bookOf s) p) (ruleOf (bookOf s) q) o a) (no-clash (bookOf s) .1 (omega (arith, ltb-false (clashFirst (bookOf s)) (length (bookOf s .rules)) e)) p q i j)),
+            (λ e. let f = clash-fits (bookOf s) in contra (clashes-so (ruleOf (bookOf s) p) (ruleOf (bookOf s) q) .1 c) (no-clash (bookOf s) .1 (omega (arith, ltb-false (clashFirst (bookOf s)) (length (bookOf s .rules)) e)) p q i j)),
         λ e. let (n, l) = clash-named e in
-            let (o, a) = of-clash (ruleOf (bookOf s) (checking s room .place)) (ruleOf (bookOf s) (checking s room .other)) (l .clashes) in
-            (n, (checking s room .place, checking s room .other, l .rising, l .inside, o, a)),
+            let c = clashes-so (ruleOf (bookOf s) (checking s room .place)) (ruleOf (bookOf s) (checking s room .other)) .0 (l .clashes) in
+            (n, (checking s room .place, checking s room .other, l .rising, l .inside, c)),
       )
 
 -- what a granted check leaves in the room: a fit order, and behind it the room as it was

@@ -1,5 +1,6 @@
 -- Which rules are apart, which clash, and that rules which do not clash never fire against each other. Assumes nothing.
 use mathlib.Core.Path.{_≡_, refl, sym, ap, _∙_}
+use mathlib.Core.Logic.{_↔_}
 use mathlib.Core.Bool.{Bool, true, false, not, _&&_, _||_, Bool·beq}
 use mathlib.Core.List.{List}
 use Prim.Native.Nat.{ℕ, _<_}
@@ -8,7 +9,7 @@ use native.Mathlib.Decide.{decLt}
 use lib.Dec.{eqb}
 use lib.ListN.{length}
 use borrow.Author.Tests.{eqb-true, eq-eqb, ne-eqb, not-true}
-use Rattle.sets.specs.Cases.{contra, cases, both, either, or-right}
+use Rattle.sets.specs.Cases.{contra, cases, both, either, or-right, not-so}
 use Rattle.book.specs.Text.{Snap, holds}
 use Rattle.book.specs.Book.{Book, ruleOf, textOf}
 use Rattle.book.specs.Firing.{fires, triggered, allowed}
@@ -98,13 +99,32 @@ opposed p q = eqb (p .target) (q .target) && not (Bool·beq (p .effect) (q .effe
 unfoldable pub clash : Rule → Rule → Bool
 clash p q = opposed p q && not (apart p q)
 
-pub clash-of : (p q : Rule) → opposed p q ≡ true → apart p q ≡ false → clash p q ≡ true
-unfolding clash
-clash-of p q e f = rw (e, f)
+-- the same, for readers
+pub record Clashes (p q : Rule) : Type 0 where
+  pub mark : p .target ≡ q .target
+  pub effects : p .effect ≡ q .effect → ⊥
+  pub close : Apart p q → ⊥
 
-pub of-clash : (p q : Rule) → clash p q ≡ true → (opposed p q ≡ true) × (apart p q ≡ false)
-unfolding clash
-of-clash p q e = let (x, y) = both (opposed p q) (not (apart p q)) e in (x, not-true (apart p q) y)
+pub clashes-so : (p q : Rule) → (clash p q ≡ true) ↔ Clashes p q
+unfolding clash opposed
+clashes-so p q = (
+  λ e. let (x, y) = both (opposed p q) (not (apart p q)) e in
+      let (t, d) = both (eqb (p .target) (q .target)) (not (Bool·beq (p .effect) (q .effect))) x in
+      record { mark = eqb-true (p .target) (q .target) t; effects = differ (p .effect) (q .effect) d; close = λ a. contra (apart-of p q a) (not-true (apart p q) y) },
+  λ c. rw (eq-eqb (p .target) (q .target) (c .mark), opposite (p .effect) (q .effect) (c .effects), not-so (λ a. c .close (of-apart p q a))),
+)
+  where
+    differ : (d e : Bool) → not (Bool·beq d e) ≡ true → d ≡ e → ⊥
+    differ true true n z = contra n refl
+    differ true false n z = contra refl z
+    differ false true n z = contra z refl
+    differ false false n z = contra n refl
+
+    opposite : (d e : Bool) → (d ≡ e → ⊥) → Bool·beq d e ≡ false
+    opposite true true n = absurd (n refl)
+    opposite true false n = refl
+    opposite false true n = refl
+    opposite false false n = absurd (n refl)
 
 -- no two rules of the book clash
 abbrev pub NoClash : Book → Type 0

@@ -24,10 +24,18 @@ flips true false = 1
 flips false true = 1
 flips false false = 0
 
-flips-same : (a b : Bool) → b ≡ a → flips a b ≡ 0
+pub flips-same : (a b : Bool) → b ≡ a → flips a b ≡ 0
 unfolding flips
 flips-same true b e = rw e
 flips-same false b e = rw e
+
+-- a change counts 1
+pub flips-differ : (a b : Bool) → (a ≡ b → ⊥) → flips a b ≡ 1
+unfolding flips
+flips-differ true true n = absurd (n refl)
+flips-differ true false n = refl
+flips-differ false true n = refl
+flips-differ false false n = absurd (n refl)
 
 flips-le : (a b : Bool) → flips a b ≤ 1
 unfolding flips

@@ -1,50 +1,70 @@
 -- Demand 1: every call answers every input with the refusal that the paper names, in the paper's order; a refused call returns the marking
 -- or snapshot it was given and leaves lent room as it was. Assumes nothing.
-use Prim.Native.Nat.{ℕ, _≤_}
-use mathlib.Core.Path.{_≡_, refl}
-use mathlib.Core.Bool.{Bool, false}
-use mathlib.Core.List.{List}
-use lib.ListN.{length, replicate}
+use Prim.Native.Nat.{ℕ}
+use mathlib.Core.Path.{_≡_, refl, sym, ap}
+use mathlib.Core.Bool.{false}
+use mathlib.Core.List.{List, _++_}
+use native.Mathlib.Omega.{arith}
+use lib.ListN.{length, drop, replicate}
 use lib.Dec.{leb}
-use Rattle.paper.specs.Limits.{maxMarks, unfit, bookRoom}
-use Rattle.paper.specs.Answers.{answer, granted, refusal}
+use Rattle.paper.specs.Limits.{maxEvents, maxMarks, unfit}
+use Rattle.paper.specs.Answers.{granted, refusal}
 use Rattle.paper.specs.declared.Answer.{Answer}
-use Rattle.sets.specs.Cases.{cases, contra, coincide, not-so}
+use Rattle.sets.specs.Cases.{cases, coincide}
 use Rattle.graph.specs.Chart.{Fit, FitMarking}
-use Rattle.graph.specs.Tests.{fit, fitChart}
-use Rattle.graph.specs.Fitness.{fit-chart, fit-both}
-use Rattle.graph.specs.Steps.{executing}
-use Rattle.graph.specs.Execution.{Executes, executes, refused-kept}
+use Rattle.graph.specs.Tests.{fitChart}
+use Rattle.graph.specs.Steps.{executing, counting, finishing}
+use Rattle.graph.specs.Execution.{Executes, executes, executes-only, refused-kept, counts, count-refused, finish-refused}
 use Rattle.graph.specs.declared.FlatChart.{FlatChart}
 use Rattle.graph.specs.declared.Marking.{Marking}
+use Rattle.graph.specs.declared.steps.Step.{Step}
+use Rattle.graph.specs.declared.steps.OpenCount.{OpenCount}
+use Rattle.graph.specs.declared.steps.Finished.{Finished}
 use Rattle.chart.specs.Reading.{reading, refused}
 use Rattle.chart.specs.declared.Reading.{Reading}
-use Rattle.deriver.specs.declared.Matched.{Matched}
-use borrow.Author.Tests.{le-leb, leb-true}
-use Rattle.chart.specs.Outcome.{Outcome, outcome}
+use Rattle.chart.specs.Outcome.{Outcome, outcome, judged}
 use Rattle.chart.specs.Given.{refused-empty}
+use Rattle.orders.specs.Running.{runningOrder}
+use Rattle.book.specs.Image.{rulesIn}
 use Rattle.book.specs.declared.Snapshot.{Snapshot}
-use Rattle.judge.specs.Checking.{Checked, checked, checking, checkedRoom, refused-room}
+use Rattle.ordering.specs.Nets.{rulesOf}
+use Rattle.judge.specs.Checking.{Checked, checked, checked-is, checking, checkedRoom, granted-room, refused-room}
 use Rattle.deriver.specs.Deriving.{derivedImage, derivingAnswer, derivedRoom}
 use Rattle.deriver.specs.Matching.{matchingOf}
-use Rattle.runner.specs.Table.{Answered, answered}
-use Rattle.runner.specs.Completing.{completing, completionAnswer}
+use Rattle.deriver.specs.declared.Matched.{Matched}
+use Rattle.runner.specs.Table.{Answered, answered, answered-is}
+use Rattle.runner.specs.Completing.{completing}
 use Rattle.runner.specs.Completion.{refusal-hands-back}
+use Rattle.promises.specs.Tables as table
+use Rattle.promises.specs.Tables.{Unfit, CountsOpen, counts-open, counts-only, Finishes, finishes, finishes-only, Derives, derives, derives-only}
+use Rattle.promises.specs.Matching as matching
+use Rattle.promises.specs.Matching.{Matches, matches, matches-only, matched, matching-refused}
 
--- deriving gives 14, then 15 with the bytes needed
-pub data Derives (c : FlatChart) (room : ℕ) : Answer → Type 0 where
-  isUnfit : (Fit c → ⊥) → Derives c room (refusal unfit)
-  isNarrow : Fit c → (length (derivedImage c) ≤ room → ⊥) → Derives c room (answer bookRoom (length (derivedImage c)) 0)
-  isDerived : Fit c → length (derivedImage c) ≤ room → Derives c room granted
+-- ---- what a refused call gives
 
-pub derives : (c : FlatChart) (room : ℕ) → Derives c room (derivingAnswer c room)
-unfolding derivingAnswer
-derives c room =
-    cases (fitChart c)
-    (λ t. cases (leb (length (derivedImage c)) room)
-    (λ l. rw (t, l) (isDerived (fit-chart c .0 t) (leb-true _ room l)))
-    (λ l. rw (t, l) (isNarrow (fit-chart c .0 t) (λ h. contra (le-leb _ room h) l))))
-    (λ t. rw t (isUnfit (λ f. contra (fit-chart c .1 f) t)))
+module _ (c : FlatChart) (m : Marking) where
+  refused-unfit : {r : OpenCount} → CountsOpen c m r → (r .answer .code ≡ 0 → ⊥) → Unfit c m
+  refused-unfit (table.CountsOpen.isUnfit n) z = n
+  refused-unfit (table.CountsOpen.isNone f t n) z = absurd (z refl)
+  refused-unfit (table.CountsOpen.isSome f t n l) z = absurd (z refl)
+
+  finish-unfit : {r : Finished} → Finishes c m r → (r .answer .code ≡ 0 → ⊥) → Unfit c m
+  finish-unfit (table.Finishes.isUnfit n) z = n
+  finish-unfit (table.Finishes.isFinished f t n) z = absurd (z refl)
+  finish-unfit (table.Finishes.isWaiting e f t i p) z = absurd (z refl)
+
+  match-unfit : {r : Matched} → Matches c m r → (r .answer .code ≡ 0 → ⊥) → Unfit c m
+  match-unfit (matching.Matches.isUnfit n) z = n
+  match-unfit (matching.Matches.isMatched f t x) z = absurd (z refl)
+
+  -- the finished test of a fit chart and marking is granted
+  pub finish-granted : Fit c → FitMarking (c .count) m → finishing c m .answer ≡ granted
+  finish-granted f t = go (finishes c m)
+    where
+      go : {r : Finished} → Finishes c m r → r .answer ≡ granted
+      go (table.Finishes.isUnfit n) = absurd (n f t)
+      go (table.Finishes.isFinished f t n) = refl
+      go (table.Finishes.isWaiting e f t i p) = refl
 
 pub derive-refused : (c : FlatChart) (room : List ℕ) → (derivingAnswer c (length room) .code ≡ 0 → ⊥) → derivedRoom c room ≡ room
 unfolding derivingAnswer derivedRoom
@@ -53,45 +73,90 @@ derive-refused c room n =
     (λ t. cases (leb (length (derivedImage c)) (length room)) (λ l. absurd (rw (t, l) at n refl)) (λ l. rw (t, l)))
     (λ t. rw t)
 
-pub matching-refused : (c : FlatChart) (m : Marking) → (Fit c → FitMarking (c .count) m → ⊥) → matchingOf c m ≡ record { answer = refusal unfit; snapshot = record { marks = replicate maxMarks false } }
-unfolding matchingOf
-matching-refused c m n = let no : fit c m ≡ false = not-so (λ ok. let t = fit-both c m ok in n (t .0) (t .1)) in rw no
+-- what a granted one writes, and the room behind it as it was
+pub derive-granted : (c : FlatChart) (room : List ℕ) → derivingAnswer c (length room) .code ≡ 0 → derivedRoom c room ≡ derivedImage c ++ drop (length (derivedImage c)) room
+unfolding derivingAnswer derivedRoom
+derive-granted c room e =
+    cases (fitChart c)
+    (λ t. cases (leb (length (derivedImage c)) (length room)) (λ l. rw (t, l)) (λ l. let z = rw (t, l) at e in absurd (omega arith)))
+    (λ t. let z = rw t at e in absurd (omega arith))
 
--- ---- the demand, call by call
+-- ---- the demand, call by call: the answer is a row of the paper's table, no other answer is one, and what a refusal gives
 
 pub record Demand1 : Type 0 where
-  -- reading: 1 to 9 as the paper's table, else the chart; a refused reading is empty
+  -- reading: 1 to 9, else the chart; a refused reading is empty
   pub read : (image : List ℕ) → Outcome image (reading image .answer)
+  pub readOnly : (image : List ℕ) (a : Answer) → Outcome image a → a ≡ reading image .answer
   pub readRefused : (image : List ℕ) → (reading image .answer .code ≡ 0 → ⊥) → reading image ≡ refused (reading image .answer)
   -- executing: 14, 10, 11, 12, 13; a refused step returns its marking
   pub execute : (c : FlatChart) (m : Marking) (e : ℕ) → Executes c m e (executing c m e)
+  pub executeOnly : (c : FlatChart) (m : Marking) (e : ℕ) (s : Step) → Executes c m e s → s ≡ executing c m e
   pub executeRefused : (c : FlatChart) (m : Marking) (e : ℕ) → (executing c m e .answer .code ≡ 0 → ⊥) → executing c m e .marking ≡ m
-  -- deriving: 14, 15; a refusal leaves the room as it was
+  -- counting: 14; a refused count is 0 and 64
+  pub count : (c : FlatChart) (m : Marking) → CountsOpen c m (counting c m)
+  pub countOnly : (c : FlatChart) (m : Marking) (r : OpenCount) → CountsOpen c m r → r ≡ counting c m
+  pub countGranted : (c : FlatChart) (m : Marking) → Fit c → FitMarking (c .count) m → counting c m .answer ≡ granted
+  pub countRefused : (c : FlatChart) (m : Marking) → (counting c m .answer .code ≡ 0 → ⊥) → counting c m ≡ record { answer = refusal unfit; count = 0; lowest = maxEvents }
+  -- the finished test: 14; a refused one says no
+  pub finished : (c : FlatChart) (m : Marking) → Finishes c m (finishing c m)
+  pub finishedOnly : (c : FlatChart) (m : Marking) (r : Finished) → Finishes c m r → r ≡ finishing c m
+  pub finishedGranted : (c : FlatChart) (m : Marking) → Fit c → FitMarking (c .count) m → finishing c m .answer ≡ granted
+  pub finishedRefused : (c : FlatChart) (m : Marking) → (finishing c m .answer .code ≡ 0 → ⊥) → finishing c m ≡ record { answer = refusal unfit; yes = false }
+  -- the matching snapshot: 14; a refused one has every mark no
+  pub matching : (c : FlatChart) (m : Marking) → Matches c m (matchingOf c m)
+  pub matchingOnly : (c : FlatChart) (m : Marking) (r : Matched) → Matches c m r → r ≡ matchingOf c m
+  pub matchingGranted : (c : FlatChart) (m : Marking) → Fit c → FitMarking (c .count) m → matchingOf c m .answer ≡ granted
+  pub matchingRefused : (c : FlatChart) (m : Marking) → (matchingOf c m .answer .code ≡ 0 → ⊥)
+      → matchingOf c m ≡ record { answer = refusal unfit; snapshot = record { marks = replicate maxMarks false } }
+  -- deriving: 14, 15; the book is written, and room past it stays as it was; a refusal leaves the room as it was
   pub derive : (c : FlatChart) (room : ℕ) → Derives c room (derivingAnswer c room)
+  pub deriveOnly : (c : FlatChart) (room : ℕ) (a : Answer) → Derives c room a → a ≡ derivingAnswer c room
+  pub deriveGranted : (c : FlatChart) (room : List ℕ) → derivingAnswer c (length room) .code ≡ 0 → derivedRoom c room ≡ derivedImage c ++ drop (length (derivedImage c)) room
   pub deriveRefused : (c : FlatChart) (room : List ℕ) → (derivingAnswer c (length room) .code ≡ 0 → ⊥) → derivedRoom c room ≡ room
-  -- the check: 20 to 26, 31; a refusal leaves the room as it was
+  -- the check: 20 to 26, 31; the running order is written, and room past it stays as it was; a refusal leaves the room as it was
   pub check : (book : List ℕ) (room : ℕ) → Checked book room (checking book room)
+  pub checkOnly : (book : List ℕ) (room : ℕ) (a : Answer) → Checked book room a → a ≡ checking book room
+  pub checkGranted : (book room : List ℕ) → checking book (length room) .code ≡ 0 → checkedRoom book room ≡ runningOrder (rulesOf book) ++ drop (rulesIn book) room
   pub checkRefused : (book room : List ℕ) → (checking book (length room) .code ≡ 0 → ⊥) → checkedRoom book room ≡ room
   -- completing: 20 to 30; a refusal hands back the snapshot it was given
-  pub complete : (book order : List ℕ) (marks : List Bool) (stage : ℕ) → Answered book order marks stage (completionAnswer book order marks stage)
+  pub complete : (book order : List ℕ) (s : Snapshot) (stage : ℕ) → Answered book order (s .marks) stage (completing book order s stage .answer)
+  pub completeOnly : (book order : List ℕ) (s : Snapshot) (stage : ℕ) (a : Answer) → Answered book order (s .marks) stage a → a ≡ completing book order s stage .answer
   pub completeRefused : (book order : List ℕ) (s : Snapshot) (stage : ℕ) → (completing book order s stage .answer .code ≡ 0 → ⊥) → completing book order s stage .snapshot ≡ s
 
 pub demand-1 : Demand1
+unfolding completing
 demand-1 =
     record {
       read = outcome;
+      readOnly = λ image a o. sym (judged image a .0 o);
       readRefused = refused-empty;
       execute = executes;
+      executeOnly = λ c m e s x. executes-only c m e x;
       executeRefused = refused-kept;
+      count = counts-open;
+      countOnly = λ c m r x. counts-only c m x;
+      countGranted = λ c m f t. counts c m f t .granting;
+      countRefused = λ c m z. count-refused c m (refused-unfit c m (counts-open c m) z);
+      finished = finishes;
+      finishedOnly = λ c m r x. finishes-only c m x;
+      finishedGranted = finish-granted;
+      finishedRefused = λ c m z. finish-refused c m (finish-unfit c m (finishes c m) z);
+      matching = matches;
+      matchingOnly = λ c m r x. matches-only c m x;
+      matchingGranted = λ c m f t. ap (λ (r : Matched). r .answer) (matched c m f t);
+      matchingRefused = λ c m z. matching-refused c m (match-unfit c m (matches c m) z);
       derive = derives;
+      deriveOnly = λ c room a x. derives-only c room x;
+      deriveGranted = derive-granted;
       deriveRefused = derive-refused;
       check = checked;
+      checkOnly = checked-is;
+      checkGranted = λ book room e. granted-room book room e .0;
       checkRefused = refused-room;
-      complete = answered;
+      complete = λ book order s stage. answered book order (s .marks) stage;
+      completeOnly = λ book order s stage. answered-is book order (s .marks) stage;
       completeRefused = refusal-hands-back;
     }
-
--- 14 of counting, the finished test and the matching snapshot: `count-refused`, `finish-refused`, `matching-refused`
 
 -- ---- two results that meet a contract coincide: the calls whose lemma stands here; the others' stand beside their definitions
 

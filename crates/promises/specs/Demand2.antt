@@ -1,29 +1,27 @@
 -- Demand 2: from a marking and its matching snapshot, chart and derived book grant exactly the same events, and they match again after every
 -- step of every sequence. Stated of what the calls give: derive, check, matching, execute and complete. Assumes nothing.
-use Prim.Native.Nat.{ℕ, _-_, _*_, _≤_, _<_}
+use Prim.Native.Nat.{ℕ, _*_, _≤_, _<_}
 use mathlib.Core.Path.{_≡_, refl, sym, ap, subst, fun-ext, _∙_}
-use mathlib.Core.Bool.{Bool, true, false, not}
+use mathlib.Core.Bool.{Bool, true}
 use mathlib.Core.Logic.{_↔_}
 use mathlib.Core.List.{List, [], _∷_}
 use native.Mathlib.Omega.{arith}
-use lib.ListN.{length, take, drop, replicate, length-append, length-replicate}
+use lib.ListN.{length, take, drop}
 use lib.Dec.{eqb}
 use lib.Seq.{take-at}
 use borrow.Author.Tests.{le-leb, eqb-true, eqb-false}
-use Rattle.paper.specs.Limits.{maxEvents, maxMarks}
+use Rattle.paper.specs.Limits.{maxMarks}
 use Rattle.paper.specs.Answers.{granted}
 use Rattle.paper.specs.declared.Answer.{Answer}
 use Rattle.sets.specs.Cases.{cases}
 use Rattle.graph.specs.Chart.{Fit, FitMarking}
-use Rattle.graph.specs.Fitness.{fit-tested, both-fit}
+use Rattle.graph.specs.Fitness.{fit-tested}
 use Rattle.graph.specs.Steps.{isOpen, after, executing, granting}
 use Rattle.graph.specs.Execution.{Enabled, isDone, open-enabled, granted-enabled, after-executed, executes-only, refused-kept, after-fit, step-fit}
 use Rattle.graph.specs.declared.FlatChart.{FlatChart}
 use Rattle.graph.specs.declared.Marking.{Marking}
 use Rattle.book.specs.Text.{Snap, snapOf}
 use Rattle.book.specs.Book.{Book}
-use Rattle.book.specs.Lists.{each, length-each}
-use Rattle.sets.specs.Set.{has}
 use Rattle.book.specs.Image.{bookOf, stagesIn, marksIn, rulesIn}
 use Rattle.book.specs.ImageOf.{book-of-image}
 use Rattle.book.specs.declared.Snapshot.{Snapshot}
@@ -43,22 +41,7 @@ use Rattle.runner.specs.Completion.{Open, completes, completed-is, granted-only
 use Rattle.agreement.specs.Matching.{match-stage, match-past}
 use Rattle.agreement.specs.Settling.{derived-settled}
 use Rattle.agreement.specs.Passing.{derived-calm, derived-no-loop}
-
-pub matched : (c : FlatChart) → Fit c → (m : Marking) → FitMarking (c .count) m → matchingOf c m ≡ record { answer = granted; snapshot = record { marks = matchingMarks c m } }
-unfolding matchingOf
-matched c t m k = rw (both-fit c m t k)
-
--- a matching snapshot has every mark
-long : (c : FlatChart) → c .count ≤ maxEvents → (m : Marking) → length (matchingMarks c m) ≡ maxMarks
-unfolding matchingMarks
-long c few m =
-    let n : ℕ = c .count in
-    let s : length (each n (isOpen c m)) ≡ n = length-each n (isOpen c m) in
-    let x : length (each n (has (m .executed))) ≡ n = length-each n (has (m .executed)) in
-    let i : length (each n (has (m .included))) ≡ n = length-each n (has (m .included)) in
-    let a : length (each n (λ e. not (has (m .pending) e))) ≡ n = length-each n (λ e. not (has (m .pending) e)) in
-    let r : length (replicate (maxMarks - 4 * n) false) ≡ maxMarks - 4 * n = length-replicate (maxMarks - 4 * n) false in
-    simp length-append (omega arith)
+use Rattle.promises.specs.Matching.{matched, marks-whole}
 
 -- a granted derivation writes the image and leaves the room behind it as it was
 granted-bytes : (c : FlatChart) → Fit c → (bytes : List ℕ) → length (derivedImage c) ≤ length bytes
@@ -91,12 +74,12 @@ module _ (c : FlatChart) (fit : Fit c) where
 
   module _ (m : Marking) (marked : FitMarking (c .count) m) where
     matches : matchingOf c m ≡ record { answer = granted; snapshot = record { marks = matchingMarks c m } }
-    matches = matched c fit m marked
+    matches = matched c m fit marked
 
     matching-long : length (matchingMarks c m) ≡ maxMarks
-    matching-long = long c (fit .few) m
+    matching-long = marks-whole c (fit .few) m
 
-    stages-are : stagesIn (derivedImage c) ≡ c .count
+    pub stages-are : stagesIn (derivedImage c) ≡ c .count
     unfolding bookOf derivedBook
     stages-are = ap (λ (b : Book). b .stages) said
 
@@ -153,9 +136,10 @@ module _ (c : FlatChart) (fit : Fit c) where
           (λ x. completed-is (derivedImage c) passes (matchingOf c m .snapshot) e o l fitOrder (markOf c (after c m e)) (settles h) x ∙ sym (marks-at c (after c m e) x))
         where
           matching-long-after : e < c .count → length (matchingMarks c (after c m e)) ≡ maxMarks
-          matching-long-after h = long c (fit .few) (after c m e)
+          matching-long-after h = marks-whole c (fit .few) (after c m e)
 
-          settles : e < c .count → Settled (rulesOf (derivedImage c)) (actsOf (bookOf (derivedImage c)) (snapOf (matchingOf c m .snapshot .marks)) e) (snapOf (matchingOf c m .snapshot .marks)) (markOf c (after c m e))
+          settles : e < c .count
+              → Settled (rulesOf (derivedImage c)) (actsOf (bookOf (derivedImage c)) (snapOf (matchingOf c m .snapshot .marks)) e) (snapOf (matchingOf c m .snapshot .marks)) (markOf c (after c m e))
           settles h =
               let D : Book = derivedBook c in
               let F : Snap = markOf c (after c m e) in
@@ -184,7 +168,7 @@ module _ (c : FlatChart) (fit : Fit c) where
           whole k = record { marks = k }
 
           matches-after : e < c .count → matchingOf c (after c m e) ≡ record { answer = granted; snapshot = record { marks = matchingMarks c (after c m e) } }
-          matches-after h = matched c fit (after c m e) (after-fit c m e fit marked h)
+          matches-after h = matched c (after c m e) fit (after-fit c m e fit marked h)
 
 -- ---- every step of every sequence
 

@@ -1,4 +1,7 @@
 -- The root of the crate's specs.
+pub mod Numbers
+pub mod Tables
+pub mod Matching
 pub mod Demand2
 pub mod Demand1
 pub mod Demand3

@@ -1,46 +1,103 @@
 -- The settled examples P1 to P12 as rows under one theorem. Assumes nothing.
-use Prim.Native.Nat.{ℕ, _<_}
-use mathlib.Core.Path.{_≡_, refl}
-use mathlib.Core.Bool.{true}
+use Prim.Native.Nat.{ℕ, _≤_, _<_}
+use mathlib.Core.Path.{_≡_, refl, sym, ap, ap₂, subst, _∙_}
+use mathlib.Core.Bool.{true, false}
 use mathlib.Core.List.{List, [], _∷_}
+use native.Mathlib.Omega.{arith}
 use lib.ListN.{length, getD, set, replicate}
 use lib.Count.{trailingZeros}
-use Rattle.paper.specs.Limits.{conditionWanting, includeExclude, loopFound, orderUnfit}
+use Rattle.paper.specs.Limits.{maxMarks, conditionWanting, includeExclude, loopFound, orderUnfit, stageClosed}
 use Rattle.paper.specs.Limits as limit
 use Rattle.paper.specs.Answers.{answer, granted, refusal}
+use Rattle.paper.specs.declared.Answer.{Answer}
 use Rattle.sets.specs.Set.{has}
+use Rattle.graph.specs.Chart.{Fit, FitMarking}
 use Rattle.graph.specs.Tests.{rowSpill, spillAt, spillOf, fitTables, fitChart, fitMarking, fit}
-use Rattle.graph.specs.Steps.{unmetOf, awaitedOf, afterWith, after, stepping, executing, refusing, granting, finishing}
+use Rattle.graph.specs.Steps.{openWith, unmetOf, awaitedOf, afterWith, stepping, executing, refusing, granting, finishing}
 use Rattle.graph.specs.Rows.{none, pair, marking}
 use Rattle.graph.specs.Rows as graph
+use Rattle.graph.specs.declared.FlatChart.{FlatChart}
+use Rattle.graph.specs.declared.Marking.{Marking}
 use Rattle.chart.specs.Reading.{reading, refused}
+use Rattle.chart.specs.Given.{reading-fit}
+use Rattle.chart.specs.declared.Reading.{Reading}
 use Rattle.chart.specs.Examples.{wholeChart, groupChart, conflictChart}
-use Rattle.chart.specs.Examples as chart
-use Rattle.book.specs.Image.{rulesIn}
+use Rattle.chart.specs.Examples as examples
+use Rattle.book.specs.Text.{snapOf}
+use Rattle.book.specs.Lists.{flat}
+use Rattle.book.specs.Image.{stagesIn, rulesIn}
+use Rattle.book.specs.ImageOf.{image-length, book-of-image}
 use Rattle.book.specs.declared.Snapshot.{Snapshot}
+use Rattle.ordering.specs.Rules.{netOf}
+use Rattle.ordering.specs.Nets.{count-is}
 use Rattle.deriver.specs.Derived.{derivedBook}
-use Rattle.deriver.specs.Matching.{matchingMarks}
+use Rattle.deriver.specs.Deriving.{derivedImage, derivingAnswer}
+use Rattle.deriver.specs.Matching.{matchingMarks, matchingOf}
 use Rattle.deriver.specs.Rows.{paperChart, paperStart, paperBook, worth}
 use Rattle.deriver.specs.Rows as deriver
 use Rattle.judge.specs.Checking.{checking}
 use Rattle.judge.specs.Examples.{p9, p10, p9-loop, p10-pass, p10-clash}
-use Rattle.runner.specs.Table.{Passes}
+use Rattle.runner.specs.Table.{Passes, Answered}
+use Rattle.runner.specs.Table as table
 use Rattle.runner.specs.Completing.{completing}
-use Rattle.runner.specs.Completion.{Open}
+use Rattle.runner.specs.Completion.{Open, granted-only}
 use Rattle.runner.specs.Examples as runner
+use Rattle.runner.specs.declared.Completion.{Completion}
+use Rattle.promises.specs.Matching.{matched, marks-whole}
+use Rattle.promises.specs.Demand2.{stages-are, Alike, written, ordered, Demand2, demand-2}
+use Rattle.promises.specs.Demand1.{demand-1}
+
+-- ---- P1 to P3, of what reading the paper's chart gives
+
+module _ (r : Reading) where
+  -- the markings after event 0, and then 1
+  abbrev pub after0 : Marking
+  after0 = executing (r .chart) (r .marking) 0 .marking
+
+  abbrev pub after1 : Marking
+  after1 = executing (r .chart) after0 1 .marking
+
+  -- the matching snapshot is granted, and worth so much
+  abbrev pub Worth : Marking → ℕ → Type 0
+  Worth m n = (matchingOf (r .chart) m .answer ≡ granted) × (worth (matchingOf (r .chart) m .snapshot .marks) ≡ n)
+
+  pub record OnChart : Type 0 where
+    -- "P1: the chart's start matches 113. Executing 1 gives 12, place 0."
+    pub p1 : Worth (r .marking) 113 × (executing (r .chart) (r .marking) 1 ≡ refusing conditionWanting 0 (r .marking))
+    -- "P2: after 0: 119."
+    pub p2 : (executing (r .chart) (r .marking) 0 .answer ≡ granted) × Worth after0 119
+    -- "P3: then 1: 238, finished."
+    pub p3 : (executing (r .chart) after0 1 .answer ≡ granted) × Worth after1 238 × (finishing (r .chart) after1 ≡ record { answer = granted; yes = true })
+
+  -- the same by completions of a book along an order, from the snapshot that matching gives
+  module _ (book order : List ℕ) where
+    abbrev pub snapshot0 : Snapshot
+    snapshot0 = matchingOf (r .chart) (r .marking) .snapshot
+
+    abbrev pub snapshot1 : Snapshot
+    snapshot1 = completing book order snapshot0 0 .snapshot
+
+    pub record OnBook : Type 0 where
+      -- P1: stage 1 is closed
+      pub p1 : completing book order snapshot0 1 ≡ record { answer = refusal stageClosed; snapshot = snapshot0 }
+      -- P2: completing stage 0
+      pub p2 : (completing book order snapshot0 0 .answer ≡ granted) × (worth (snapshot1 .marks) ≡ 119)
+      -- P3: then stage 1
+      pub p3 : (completing book order snapshot1 1 .answer ≡ granted) × (worth (completing book order snapshot1 1 .snapshot .marks) ≡ 238)
+
+  -- the book that derive writes into `bytes`, in the order that check writes into `room`
+  pub record ByBook (bytes room : List ℕ) : Type 0 where
+    pub derives : derivingAnswer (r .chart) (length bytes) ≡ granted
+    pub passes : checking (written (r .chart) bytes) (length room) ≡ granted
+    pub runs : OnBook (written (r .chart) bytes) (ordered (written (r .chart) bytes) room)
 
 pub record Rows : Type 0 where
-  -- the chart of the paper, byte for byte, is the one below, and its derived book is the paper's listing
+  -- the chart of the paper, byte for byte, is the one that it describes, and its derived book is the paper's listing
   pub whole : reading wholeChart ≡ record { answer = granted; chart = paperChart; marking = paperStart }
   pub book : derivedBook paperChart ≡ paperBook
-  -- "P1: the chart's start matches 113. Executing 1 gives 12, place 0."
-  pub p1 : (worth (matchingMarks paperChart paperStart) ≡ 113) × (executing paperChart paperStart 1 ≡ refusing conditionWanting 0 paperStart)
-  -- "P2: after 0: 119."
-  pub p2 : (executing paperChart paperStart 0 ≡ granting (after paperChart paperStart 0)) × (worth (matchingMarks paperChart (after paperChart paperStart 0)) ≡ 119)
-  -- "P3: then 1: 238, finished."
-  pub p3 : (executing paperChart (after paperChart paperStart 0) 1 ≡ granting (after paperChart (after paperChart paperStart 0) 1))
-      × (worth (matchingMarks paperChart (after paperChart (after paperChart paperStart 0) 1)) ≡ 238)
-      × (finishing paperChart (after paperChart (after paperChart paperStart 0) 1) .yes ≡ true)
+  -- P1 to P3 of the chart, and of the book, given room for its 162 bytes and its 10 rules
+  pub onChart : OnChart (reading wholeChart)
+  pub byBook : (bytes room : List ℕ) → 162 ≤ length bytes → 10 ≤ length room → ByBook (reading wholeChart) bytes room
   -- "P4: an event that is its own response is pending after it ran."
   pub p4 : executing (pair none (set none 0 1) none) (marking 0 0 1) 0 ≡ granting (marking 1 1 1)
   -- "P5: an excluded, unexecuted condition doesn't block. P6: nor an excluded pending milestone."
@@ -61,20 +118,111 @@ pub record Rows : Type 0 where
   pub p12 : (s order : List ℕ) (i j : ℕ) → Passes s → i < j → j < length order → getD order i 0 ≡ getD order j 0 → (snapshot : Snapshot) (stage : ℕ)
       → completing s order snapshot stage ≡ record { answer = refusal orderUnfit; snapshot = snapshot }
 
+-- ---- P1 to P3, computed on the chart that the bytes give
+
+whole-is : reading wholeChart ≡ record { answer = granted; chart = paperChart; marking = paperStart }
+whole-is = examples.rows .whole
+
+-- and stage 1 is closed at the start
+on-chart : OnChart (reading wholeChart) × (snapOf (matchingOf (reading wholeChart .chart) (reading wholeChart .marking) .snapshot .marks) 1 ≡ false)
+unfolding matchingOf matchingMarks openWith worth executing stepping fit fitChart fitMarking fitTables spillOf spillAt rowSpill has unmetOf awaitedOf afterWith trailingZeros finishing flat
+on-chart =
+    subst (λ (r : Reading). OnChart r × (snapOf (matchingOf (r .chart) (r .marking) .snapshot .marks) 1 ≡ false)) (sym whole-is)
+    (record { p1 = ((refl, refl), refl); p2 = (refl, (refl, refl)); p3 = (refl, (refl, refl), refl) }, refl)
+
+-- ---- and on the book's side by demand 2
+
+book-is : derivedBook (reading wholeChart .chart) ≡ paperBook
+book-is = ap (λ (r : Reading). derivedBook (r .chart)) whole-is ∙ deriver.rows .book
+
+-- 0 is granted
+zero-granted : (s l : List ℕ) (snapshot : Snapshot) (stage : ℕ) → completing s l snapshot stage .answer .code ≡ 0 → completing s l snapshot stage .answer ≡ granted
+zero-granted s l snapshot stage e = go (completing s l snapshot stage .answer) (demand-1 .complete s l snapshot stage) e
+  where
+    go : (a : Answer) → Answered s l (snapshot .marks) stage a → a .code ≡ 0 → a ≡ granted
+    go a (table.refused b c n) z = absurd (n z)
+    go a (table.unfit p n) z = absurd (omega arith)
+    go a (table.above p f m i h x) z = absurd (omega arith)
+    go a (table.nowhere p f b h) z = absurd (omega arith)
+    go a (table.closed p f b h x) z = absurd (omega arith)
+    go a (table.completed p f b h x) z = refl
+
+-- a closed stage, whole
+closed-kept : (s l : List ℕ) (snapshot : Snapshot) (stage : ℕ) → Answered s l (snapshot .marks) stage (refusal stageClosed)
+    → completing s l snapshot stage ≡ record { answer = refusal stageClosed; snapshot = snapshot }
+closed-kept s l snapshot stage row =
+    let a : refusal stageClosed ≡ completing s l snapshot stage .answer = demand-1 .completeOnly s l snapshot stage (refusal stageClosed) row in
+    ap₂ made (sym a) (demand-1 .completeRefused s l snapshot stage (λ z. let c = ap (λ (x : Answer). x .code) a in omega arith))
+  where
+    made : Answer → Snapshot → Completion
+    made x y = record { answer = x; snapshot = y }
+
+module _ (bytes room : List ℕ) (h : 162 ≤ length bytes) (k : 10 ≤ length room) where
+  abbrev c : FlatChart
+  c = reading wholeChart .chart
+
+  abbrev m : Marking
+  m = reading wholeChart .marking
+
+  abbrev s : List ℕ
+  s = derivedImage c
+
+  fits : Fit c × FitMarking (c .count) m
+  fits = reading-fit wholeChart (ap (λ (r : Reading). r .answer .code) whole-is)
+
+  met : Demand2 c bytes room
+  unfolding netOf
+  met =
+      let b : length s ≡ 162 = image-length (derivedBook c) ∙ rw book-is in
+      let n : rulesIn s ≡ 10 = sym (count-is s) ∙ rw (book-of-image (derivedBook c), book-is) in
+      demand-2 c (fits .0) bytes room (rw b h) (rw n k)
+
+  abbrev l : List ℕ
+  l = ordered (written c bytes) room
+
+  -- along 0 and then 1
+  along : Alike c l m (0 ∷ (1 ∷ []))
+  along = met .agrees m (fits .1) (0 ∷ (1 ∷ []))
+
+  granted0 : completing s l (matchingOf c m .snapshot) 0 .answer .code ≡ 0
+  granted0 = along .0 .0 (ap (λ (a : Answer). a .code) (on-chart .0 .p2 .0))
+
+  granted1 : completing s l (completing s l (matchingOf c m .snapshot) 0 .snapshot) 1 .answer .code ≡ 0
+  granted1 = rw (along .1) (along .2 .0 .0 (ap (λ (a : Answer). a .code) (on-chart .0 .p3 .0)))
+
+  closed : completing s l (matchingOf c m .snapshot) 1 ≡ record { answer = refusal stageClosed; snapshot = matchingOf c m .snapshot }
+  closed =
+      let w : length (matchingOf c m .snapshot .marks) ≡ maxMarks = rw (matched c m (fits .0) (fits .1)) (marks-whole c (fits .0 .few) m) in
+      let (p, f, o) = granted-only s l (matchingOf c m .snapshot) 0 w granted0 in
+      let two : c .count ≡ 2 = ap (λ (r : Reading). r .chart .count) whole-is in
+      let known : 1 < stagesIn s = omega (arith, stages-are c (fits .0) m (fits .1)) in
+      closed-kept s l (matchingOf c m .snapshot) 1 (table.closed p f (o .belongs) known (on-chart .1))
+
+  on-book : OnBook (reading wholeChart) s l
+  on-book =
+      let u : Snapshot = completing s l (matchingOf c m .snapshot) 0 .snapshot in
+      let next : completing s l u 1 .snapshot ≡ matchingOf c (after1 (reading wholeChart)) .snapshot = rw (along .1) (along .2 .1) in
+      record {
+        p1 = closed;
+        p2 = (zero-granted s l (matchingOf c m .snapshot) 0 granted0, ap (λ (x : Snapshot). worth (x .marks)) (along .1) ∙ on-chart .0 .p2 .1 .1);
+        p3 = (zero-granted s l u 1 granted1, ap (λ (x : Snapshot). worth (x .marks)) next ∙ on-chart .0 .p3 .1 .1);
+      }
+
+  by-book : ByBook (reading wholeChart) bytes room
+  by-book = record { derives = met .derives; passes = met .passes; runs = subst (λ (b : List ℕ). OnBook (reading wholeChart) b l) (sym (met .writes)) on-book }
+
 pub rows : Rows
-unfolding executing stepping fit fitChart fitMarking fitTables spillOf spillAt rowSpill has unmetOf awaitedOf afterWith trailingZeros finishing
 rows =
     record {
-      whole = chart.rows .whole;
+      whole = whole-is;
       book = deriver.rows .book;
-      p1 = (deriver.rows .p1, refl);
-      p2 = (refl, deriver.rows .p2);
-      p3 = (refl, deriver.rows .p3, refl);
+      onChart = on-chart .0;
+      byBook = by-book;
       p4 = graph.rows .p4;
       p5 = graph.rows .p5;
       p6 = graph.rows .p6;
-      p7 = (chart.rows .p7-granted, chart.rows .p7-conditions);
-      p8 = chart.rows .p8;
+      p7 = (examples.rows .p7-granted, examples.rows .p7-conditions);
+      p8 = examples.rows .p8;
       p9 = p9-loop;
       p10 = (p10-pass .0, p10-clash);
       p11 = runner.p11;

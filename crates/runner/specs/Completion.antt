@@ -1,59 +1,33 @@
--- Demand 3. For any book that the check passes, any snapshot whose marks belong to it and any open stage: completing is granted along every
+-- What a completion does. For any book that the check passes, any snapshot whose marks belong to it and any open stage: completing is granted along every
 -- order that respects the book's dependencies, fires as the paper defines, leaves the same snapshot whatever the order, and changes no mark
 -- more than once on the way; the order that the check writes is such an order. (That a completion ends is part of its contract.) Assumes nothing.
-use mathlib.Core.Path.{_≡_, refl, sym, ap, subst, _∙_, fun-ext}
-use mathlib.Core.Bool.{true, false, cond}
-use mathlib.Core.List.{List, [], _∷_}
+use mathlib.Core.Path.{_≡_, refl, sym, ap, subst, _∙_}
+use mathlib.Core.Bool.{true}
+use mathlib.Core.List.{List}
 use Prim.Native.Nat.{ℕ, _≤_, _<_}
 use native.Mathlib.Omega.{arith}
-use lib.Dec.{eqb}
 use lib.ListN.{length, take, drop}
 use lib.Seq.{take-at}
 use borrow.Author.Tests.{ne-eqb}
 use Rattle.paper.specs.Limits.{maxMarks}
 use Rattle.paper.specs.Answers.{granted}
 use Rattle.paper.specs.declared.Answer.{Answer}
-use Rattle.sets.specs.Cases.{cases, coincide}
+use Rattle.sets.specs.Cases.{coincide}
 use Rattle.orders.specs.Order.{Fit}
 use Rattle.orders.specs.Running.{runningOrder}
-use Rattle.orders.specs.Settle.{Calm, Settled, run, step, changes, run-settled, settled-unique, confluence, toggle-once}
+use Rattle.orders.specs.Settle.{Calm, Settled, run, run-settled, settled-unique, confluence, toggle-once}
 use Rattle.orders.specs.Snapshots.{at-same, length-runL, at-runL}
 use Rattle.book.specs.Text.{Snap, snapOf}
-use Rattle.book.specs.Book.{Book, ruleOf}
 use Rattle.book.specs.Image.{stagesIn, rulesIn, bookOf}
-use Rattle.book.specs.Firing.{fires}
 use Rattle.book.specs.declared.Snapshot.{Snapshot}
-use Rattle.ordering.specs.Rules.{netOf, actsOf}
+use Rattle.ordering.specs.Rules.{actsOf}
 use Rattle.ordering.specs.Nets.{rulesOf, targets-small}
 use Rattle.judge.specs.Clash.{calm}
 use Rattle.judge.specs.Checking.{checking, checkedRoom, granted-room, marks-many, targets-in}
 use Rattle.runner.specs.Completing.{completionAnswer, through, completing}
-use Rattle.runner.specs.Ordered.{book-passes, passes-book}
+use Rattle.runner.specs.Walks.{Goes, turns, turns-run, goes-run}
 use Rattle.runner.specs.Table.{Passes, Belongs, Answered, refused, unfit, above, nowhere, closed, completed, answered, answered-is}
 use Rattle.runner.specs.declared.Completion.{Completion}
-
--- ---- firing, as the paper defines it
-
--- "A firing rule sets or clears its target."
-unfoldable pub altered : Book → Snap → ℕ → Snap
-altered b now r m = cond (eqb m (ruleOf b r .target)) (ruleOf b r .effect) (now m)
-
--- "Completing an open stage goes through a given order. A rule fires if its trigger holds and its condition holds in the snapshot as it now
--- stands.": from `now` through the order to `end`, where the call began at `start`
-pub data Goes (b : Book) (start : Snap) (stage : ℕ) : Snap → List ℕ → Snap → Type 0 where
-  ended : {now : Snap} → Goes b start stage now [] now
-  fired : {now end : Snap} {r : ℕ} {order : List ℕ} → fires b start stage now r ≡ true → Goes b start stage (altered b now r) order end → Goes b start stage now (r ∷ order) end
-  waited : {now end : Snap} {r : ℕ} {order : List ℕ} → fires b start stage now r ≡ false → Goes b start stage now order end → Goes b start stage now (r ∷ order) end
-
-goes-run : (b : Book) (start : Snap) (stage : ℕ) (order : List ℕ) (now : Snap) → Goes b start stage now order (run (netOf b) (actsOf b start stage) now order)
-unfolding run step netOf actsOf altered
-goes-run b start stage [] now = ended
-goes-run b start stage (r ∷ order) now =
-    cases (fires b start stage now r)
-    (λ e. let z : step (netOf b) (actsOf b start stage) now r ≡ altered b now r = fun-ext (λ m. cases (eqb m (ruleOf b r .target)) (λ x. rw (x, e)) (λ x. rw x)) in
-    fired e (subst (λ (u : Snap). Goes b start stage u order (run (netOf b) (actsOf b start stage) (step (netOf b) (actsOf b start stage) now r) order)) z (goes-run b start stage order (step (netOf b) (actsOf b start stage) now r))))
-    (λ e. let z : step (netOf b) (actsOf b start stage) now r ≡ now = fun-ext (λ m. cases (eqb m (ruleOf b r .target)) (λ x. rw (x, e)) (λ x. rw x)) in
-    waited e (subst (λ (u : Snap). Goes b start stage u order (run (netOf b) (actsOf b start stage) (step (netOf b) (actsOf b start stage) now r) order)) z (goes-run b start stage order (step (netOf b) (actsOf b start stage) now r))))
 
 -- ---- what a completion is made for
 
@@ -72,8 +46,6 @@ pub record Completes (s order : List ℕ) (snapshot : Snapshot) (stage : ℕ) (r
   pub fires : Goes (bookOf s) (snapOf (snapshot .marks)) stage (snapOf (snapshot .marks)) order (snapOf (result .snapshot .marks))
   -- the rules that fire in the end have written the end, and nothing else has
   pub settled : Settled (rulesOf s) (actsOf (bookOf s) (snapOf (snapshot .marks)) stage) (snapOf (snapshot .marks)) (snapOf (result .snapshot .marks))
-  -- no mark changes more than once on the way
-  pub once : (m : ℕ) → changes (rulesOf s) (actsOf (bookOf s) (snapOf (snapshot .marks)) stage) (snapOf (snapshot .marks)) order m ≤ 1
   -- the snapshot is one of 256 marks that belong to the book
   pub whole : length (result .snapshot .marks) ≡ maxMarks
   pub belongs : Belongs s (result .snapshot .marks)
@@ -104,13 +76,18 @@ module _ (s : List ℕ) (p : Passes s) (snapshot : Snapshot) (stage : ℕ) (o : 
     unfolding through
     after-whole = length-runL (rulesOf s) (actsOf (bookOf s) (snapOf (snapshot .marks)) stage) order (snapshot .marks) ∙ o .whole
 
+    -- no mark changes more than once on the way, whatever walk it is
+    pub once : (end : Snap) (walk : Goes (bookOf s) (snapOf (snapshot .marks)) stage (snapOf (snapshot .marks)) order end) (m : ℕ) → turns (bookOf s) (snapOf (snapshot .marks)) stage walk m ≤ 1
+    once end walk m =
+        rw (turns-run (bookOf s) (snapOf (snapshot .marks)) stage walk m)
+        (toggle-once (rulesOf s) (actsOf (bookOf s) (snapOf (snapshot .marks)) stage) order f quiet (snapOf (snapshot .marks)) m)
+
     pub completes : Completes s order snapshot stage (completing s order snapshot stage)
     completes =
         rw completed-marks (record {
           granted = refl;
           fires = rw completed-run (goes-run (bookOf s) (snapOf (snapshot .marks)) stage order (snapOf (snapshot .marks)));
           settled = after-settled;
-          once = toggle-once (rulesOf s) (actsOf (bookOf s) (snapOf (snapshot .marks)) stage) order f quiet (snapOf (snapshot .marks));
           whole = after-whole;
           belongs = λ m l h. after-settled .stayed m (λ r i e. absurd (let j = targets-in s (p .formed) r i in omega (arith, marks-many s))) ∙ o .belongs m l h;
         })
@@ -138,30 +115,6 @@ written-fit s room e =
     let (w, f, l) = granted-room s room e in
     let z : take (rulesIn s) (checkedRoom s room) ≡ runningOrder (rulesOf s) = ap (take (rulesIn s)) w ∙ take-at (runningOrder (rulesOf s)) (drop (rulesIn s) room) (rulesIn s) l in
     subst (λ (k : List ℕ). Fit (rulesOf s) k) (sym z) f
-
--- ---- demand 3, whole
-
--- the check passed the image s with this room; the snapshot and the stage are any that `Open` says
-pub record Demand3 (s room : List ℕ) (snapshot : Snapshot) (stage : ℕ) : Type 0 where
-  -- along every order that respects the book's dependencies a completion is granted, fires as the paper defines and changes no mark more than once
-  pub completes : (order : List ℕ) → Fit (rulesOf s) order → Completes s order snapshot stage (completing s order snapshot stage)
-  -- and every such order leaves the same snapshot
-  pub alike : (k l : List ℕ) → Fit (rulesOf s) k → Fit (rulesOf s) l → completing s k snapshot stage ≡ completing s l snapshot stage
-  -- the order that the check writes is such an order
-  pub written : Fit (rulesOf s) (take (rulesIn s) (checkedRoom s room))
-
-pub demand-3 : (s room : List ℕ) → checking s (length room) .code ≡ 0 → (snapshot : Snapshot) (stage : ℕ) → Open s snapshot stage → Demand3 s room snapshot stage
-demand-3 s room e snapshot stage o =
-    let p : Passes s = book-passes s (passes-book s (length room) e) in
-    record { completes = completes s p snapshot stage o; alike = orders-end-alike s p snapshot stage o; written = written-fit s room e }
-
--- the same of what the calls hand back: a check's answer a and room, a completion along an order k, and one along what the check wrote
-pub calls-end-alike : (s room : List ℕ) (a : Answer) (written : List ℕ) → a ≡ checking s (length room) → written ≡ checkedRoom s room → a .code ≡ 0
-    → (snapshot : Snapshot) (stage : ℕ) → Open s snapshot stage → (k : List ℕ) → Fit (rulesOf s) k → (x y : Completion)
-    → x ≡ completing s k snapshot stage → y ≡ completing s (take (rulesIn s) written) snapshot stage → (x ≡ y) × Completes s k snapshot stage x
-calls-end-alike s room a written e w z snapshot stage o k f x y i j =
-    let d = demand-3 s room (ap (λ (b : Answer). b .code) (sym e) ∙ z) snapshot stage o in
-    (i ∙ d .alike k (take (rulesIn s) (checkedRoom s room)) f (d .written) ∙ sym (j ∙ rw w), rw i (d .completes k f))
 
 -- ---- nothing else is granted, a refusal hands back the snapshot, and two results that meet the contract coincide
 

@@ -3,5 +3,6 @@ pub mod Completing
 pub mod Ordered
 pub mod Going
 pub mod Table
+pub mod Walks
 pub mod Completion
 pub mod Examples
