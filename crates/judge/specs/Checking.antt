@@ -229,7 +229,9 @@ module _ (s : List ℕ) where
         λ l. let (p, q, i, j, c) = l .1 in
             cases (ltb (clashFirst (bookOf s)) (length (bookOf s .rules)))
             (λ e. code-of (answer clash (clashFirst (bookOf s)) (clashSecond (bookOf s) (clashFirst (bookOf s)))) (clashed w (l .0) (clashFirst (bookOf s)) (clashSecond (bookOf s) (clashFirst (bookOf s))) (lowest-clash (bookOf s) (ltb-true (clashFirst (bookOf s)) (length (bookOf s .rules)) e))))
-            (λ e. let f = clash-fits (bookOf s) in contra (clashes-so (ruleOf (bookOf s) p) (ruleOf (bookOf s) q) .1 c) (no-clash (bookOf s) .1 (omega (arith, ltb-false (clashFirst (bookOf s)) (length (bookOf s .rules)) e)) p q i j)),
+            (λ e. let f = clash-fits (bookOf s) in
+            let none : NoClash (bookOf s) = no-clash (bookOf s) .1 (omega (arith, ltb-false (clashFirst (bookOf s)) (length (bookOf s .rules)) e)) in
+            contra (clashes-so (ruleOf (bookOf s) p) (ruleOf (bookOf s) q) .1 c) (none p q i j)),
         λ e. let (n, l) = clash-named e in
             let c = clashes-so (ruleOf (bookOf s) (checking s room .place)) (ruleOf (bookOf s) (checking s room .other)) .0 (l .clashes) in
             (n, (checking s room .place, checking s room .other, l .rising, l .inside, c)),

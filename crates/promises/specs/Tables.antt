@@ -142,4 +142,4 @@ pub derives-only : (c : FlatChart) (room : ℕ) {a : Answer} → Derives c room 
 unfolding derivingAnswer
 derives-only c room (isUnfit n) = rw (not-so (λ t. n (fit-chart c .0 t)))
 derives-only c room (isNarrow f l) = rw (fit-tested c f, lt-leb (length (derivedImage c)) room (omega arith))
-derives-only c room (isDerived f l) = rw (fit-tested c f, le-leb (length (derivedImage c)) room l)
+derives-only c room (isDerived f l) = rw (fit-tested c f, le-leb (length (derivedImage c)) room (omega arith))
