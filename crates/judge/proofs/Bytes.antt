@@ -10,7 +10,6 @@ use borrow.Author.Tests.{eqb-true, eqb-false, ne-eqb, lt-ltb, ltb-true}
 use Rattle.paper.specs.Limits.{maxMarks, maxEvents, ruleSize}
 use Rattle.sets.specs.Cases.{cases}
 use Rattle.sets.specs.Set.{union, inter, only, allBelow}
-use Rattle.sets.specs.Tables.{length-tabulate}
 use Rattle.wire.specs.Wire.{u16At}
 use Rattle.book.specs.Book.{ruleOf}
 use Rattle.book.specs.Image.{rulesIn, rulePlace, triggerFrom, senseFrom, ruleFrom, bookOf}
@@ -20,6 +19,7 @@ use Rattle.book.specs.WellFormed.{WellFormed}
 use Rattle.book.specs.Using.{triggerExists, known-wider, rule-known, rule-inside}
 use Rattle.judge.specs.Clash.{completesOther, otherStages, isWritten, isNegated, oppositeSenses, apart}
 use Rattle.judge.specs.Chains.{side, does, undoes, stagesOf, Chained}
+use Rattle.judge.specs.Checking.{rules-many}
 use Rattle.judge.proofs.Links.{Linked, linked-start, linked-more, linked-end}
 
 -- ---- apart, by bytes
@@ -85,10 +85,6 @@ module _ (p q : Rule) (r : Bool) (e : r ≡ otherStages (p .trigger) (q .trigger
 -- ---- the rules of an image
 
 module _ (s : List ℕ) where
-  pub rules-count : length (bookOf s .rules) ≡ rulesIn s
-  unfolding bookOf
-  rules-count = length-tabulate (rulesIn s) (λ r. ruleFrom s (rulePlace r))
-
   does-bytes : (r t k : ℕ) (on : Bool) → r < rulesIn s → t ≡ u16At s (rulePlace r + 8) → on ≡ eqb (getD s (rulePlace r + 2) 0) 1 → k ≡ side t on → k ≡ does (bookOf s) r
   unfolding ruleFrom
   does-bytes r t k on h e f g = rw (rule-read s r h) (g ∙ rw (e, f))
@@ -112,7 +108,7 @@ module _ (s : List ℕ) (rules : ℕ) (same opposite : List ℕ) where
   linking-start next stages w e i j f k =
       record {
         formed = w;
-        linked = rw (f, k) (linked-start (bookOf s) rules same opposite (e ∙ sym (rules-count s)) (rw e (w .headed .counted .rules))
+        linked = rw (f, k) (linked-start (bookOf s) rules same opposite (e ∙ sym (rules-many s)) (rw e (w .headed .counted .rules))
             (λ y h. let l : y < rulesIn s = omega arith in
             rw (rule-read s y l) (known-wider _ _ _ _ (ruleFrom s (rulePlace y) .trigger) (w .headed .counted .stages) (w .headed .counted .marks) (rule-known s w y l .trigger)))
             i j);
@@ -120,7 +116,7 @@ module _ (s : List ℕ) (rules : ℕ) (same opposite : List ℕ) where
 
   module _ (next stages : List ℕ) (low r : ℕ) (g : Linking s rules same opposite next stages low r) where
     pub linking-known : rules ≡ rulesIn s
-    linking-known = g .linked .count ∙ rules-count s
+    linking-known = g .linked .count ∙ rules-many s
 
     module _ (h : 0 < r) where
       inside : r - 1 < rulesIn s

@@ -18,13 +18,13 @@ use Rattle.book.specs.Book.{ruleOf}
 use Rattle.book.specs.Firing.{refers}
 use Rattle.book.specs.Image.{rulesIn, marksIn, rulePlace, ruleFrom, bookOf}
 use Rattle.book.specs.Read.{rule-read}
-use Rattle.book.specs.Marks.{markWords}
+use Rattle.book.specs.Marks.{wordBits, markWords}
 use Rattle.book.specs.WellFormed.{WellFormed}
 use Rattle.ordering.specs.Rules.{netOf}
 use Rattle.ordering.specs.References.{References, asked-row, awaited-in, refers-bytes}
 use Rattle.judge.specs.Places.{loopPlace}
 use Rattle.judge.specs.Linked.{linkWords, withCondition, withTrigger, LinkedMarks}
-use Rattle.judge.proofs.Bytes.{rules-count}
+use Rattle.judge.specs.Checking.{rules-many}
 
 -- ---- one rule
 
@@ -42,7 +42,7 @@ module _ (s : List ℕ) (w : WellFormed s) (r : ℕ) (h : r < rulesIn s) where
       (omega arith, omega arith)
 
   pub link-bit : (rows : List ℕ) (t m : ℕ) → length rows ≡ linkWords → 2 ≤ getD s (rulePlace r) 0 → t ≡ u16At s (rulePlace r + 8) → m ≡ u16At s (rulePlace r + 4)
-      → t * markWords + m / 64 < length rows
+      → t * markWords + m / wordBits < length rows
   link-bit rows t m l i e g =
       let a = target-low t e in
       let b = awaited-in s r w h m i g in
@@ -164,7 +164,7 @@ pub linking-last : (s refs rows : List ℕ) (r : ℕ) → Linking s refs rows r 
 unfolding leads netOf
 linking-last s refs rows r g h =
     let i = g .within in
-    let z : r ≡ length (bookOf s .rules) = let c = rules-count s in omega arith in
+    let z : r ≡ length (bookOf s .rules) = let c = rules-many s in omega arith in
     record { size = g .size; holds = λ a b i j. g .holds a b i j ∙ ap (λ (k : ℕ). some k (λ q. refers (bookOf s) q a && eqb (ruleOf (bookOf s) q .target) b)) z }
 
 -- ---- the closure of the rows names the place
@@ -175,5 +175,5 @@ unfolding loopPlace netOf ruleFrom bookOf
 place-found s rows next marks p w m g e f =
     let n = w .headed .counted .marks in
     let z = g .size in
-    f ∙ rw (e, m) (loop-rows (netOf (bookOf s)) (marksIn s) (λ r h. let k : r < rulesIn s = rw (rules-count s) at h in rw (rule-read s r k) (w .rules r k .target)) markWords rows (omega arith) (omega arith)
+    f ∙ rw (e, m) (loop-rows (netOf (bookOf s)) (marksIn s) (λ r h. let k : r < rulesIn s = rw (rules-many s) at h in rw (rule-read s r k) (w .rules r k .target)) markWords rows (omega arith) (omega arith)
     (λ a b i j. g .holds a b (omega arith) (omega arith)))

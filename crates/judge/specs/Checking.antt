@@ -12,16 +12,15 @@ use Rattle.paper.specs.Limits.{badCondition, loopFound, clash, orderRoom}
 use Rattle.paper.specs.Answers.{answer, granted}
 use Rattle.paper.specs.declared.Answer.{Answer}
 use Rattle.sets.specs.Cases.{contra, cases, coincide}
-use Rattle.sets.specs.Tables.{length-tabulate}
 use Rattle.orders.specs.Order.{Net, Fit, Loop, OnLoop, NoLoop}
 use Rattle.orders.specs.Running.{runningOrder, running-fit, running-length}
 use Rattle.book.specs.Book.{Book, ruleOf}
-use Rattle.book.specs.Image.{marksIn, rulesIn, rulePlace, ruleFrom, bookOf}
+use Rattle.book.specs.Image.{marksIn, rulesIn, bookOf}
 use Rattle.book.specs.Judging.{imageAnswer}
 use Rattle.book.specs.WellFormed.{WellFormed, Judged, short, count, layout, rule, condition, accepted, judged, judged-is, well-granted, granted-well}
 use Rattle.book.specs.Using.{rule-exists}
 use Rattle.ordering.specs.Rules.{netOf}
-use Rattle.ordering.specs.Nets.{rulesOf}
+use Rattle.ordering.specs.Nets.{rulesOf, count-is}
 use Rattle.judge.specs.Clash.{NoClash, Clashes, clashes-so}
 use Rattle.judge.specs.Pairs.{clashFirst, clashSecond, LowestClash, clash-fits, lowest-clash, clash-found, no-clash}
 use Rattle.judge.specs.Places.{loopPlace, loop-fits, loop-place}
@@ -73,8 +72,8 @@ pub record Passed (s : List ℕ) (room : ℕ) : Type 0 where
 
 module _ (s : List ℕ) where
   pub rules-many : length (bookOf s .rules) ≡ rulesIn s
-  unfolding bookOf
-  rules-many = length-tabulate (rulesIn s) (λ r. ruleFrom s (rulePlace r))
+  unfolding netOf
+  rules-many = count-is s
 
   pub marks-many : bookOf s .marks ≡ marksIn s
   unfolding bookOf

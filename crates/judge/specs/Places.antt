@@ -4,6 +4,7 @@ use mathlib.Core.Logic.{_↔_}
 use Prim.Native.Nat.{ℕ, _≤_, _<_}
 use lib.ListN.{length}
 use Rattle.sets.specs.Below.{first-is}
+use Rattle.reach.specs.Closure.{within}
 use Rattle.orders.specs.Order.{OnLoop, NoLoop}
 use Rattle.orders.specs.Loops.{leads, loopMark, loop-mark}
 use Rattle.book.specs.Book.{Book, ruleOf}
