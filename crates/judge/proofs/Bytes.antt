@@ -10,11 +10,10 @@ use borrow.Author.Tests.{eqb-true, eqb-false, ne-eqb, lt-ltb, ltb-true}
 use Rattle.paper.specs.Limits.{maxMarks, maxEvents, ruleSize}
 use Rattle.sets.specs.Cases.{cases}
 use Rattle.sets.specs.Set.{union, inter, only, allBelow}
-use Rattle.sets.specs.Tables.{length-tabulate}
 use Rattle.wire.specs.Wire.{u16At}
 use Rattle.book.specs.Book.{ruleOf}
 use Rattle.book.specs.Image.{rulesIn, rulePlace, triggerFrom, senseFrom, ruleFrom, bookOf}
-use Rattle.book.specs.Read.{rule-read}
+use Rattle.book.specs.Read.{rules-count, rule-read}
 use Rattle.book.specs.declared.Rule.{Rule}
 use Rattle.book.specs.WellFormed.{WellFormed}
 use Rattle.book.specs.Using.{triggerExists, known-wider, rule-known, rule-inside}
@@ -85,10 +84,6 @@ module _ (p q : Rule) (r : Bool) (e : r ≡ otherStages (p .trigger) (q .trigger
 -- ---- the rules of an image
 
 module _ (s : List ℕ) where
-  pub rules-count : length (bookOf s .rules) ≡ rulesIn s
-  unfolding bookOf
-  rules-count = length-tabulate (rulesIn s) (λ r. ruleFrom s (rulePlace r))
-
   does-bytes : (r t k : ℕ) (on : Bool) → r < rulesIn s → t ≡ u16At s (rulePlace r + 8) → on ≡ eqb (getD s (rulePlace r + 2) 0) 1 → k ≡ side t on → k ≡ does (bookOf s) r
   unfolding ruleFrom
   does-bytes r t k on h e f g = rw (rule-read s r h) (g ∙ rw (e, f))

@@ -17,14 +17,13 @@ use Rattle.orders.specs.Loops.{leads, loopMark, loop-rows}
 use Rattle.book.specs.Book.{ruleOf}
 use Rattle.book.specs.Firing.{refers}
 use Rattle.book.specs.Image.{rulesIn, marksIn, rulePlace, ruleFrom, bookOf}
-use Rattle.book.specs.Read.{rule-read}
+use Rattle.book.specs.Read.{rules-count, rule-read}
 use Rattle.book.specs.Marks.{markWords}
 use Rattle.book.specs.WellFormed.{WellFormed}
 use Rattle.ordering.specs.Rules.{netOf}
 use Rattle.ordering.specs.References.{References, asked-row, awaited-in, refers-bytes}
 use Rattle.judge.specs.Places.{loopPlace}
 use Rattle.judge.specs.Linked.{linkWords, withCondition, withTrigger, LinkedMarks}
-use Rattle.judge.proofs.Bytes.{rules-count}
 
 -- ---- one rule
 

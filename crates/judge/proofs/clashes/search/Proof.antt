@@ -2,7 +2,8 @@
 use Prim.Native.Nat.{_-_}
 use Rattle.book.specs.Image.{bookOf}
 use Rattle.book.specs.Using.{rule-inside}
-use Rattle.judge.proofs.Bytes.{rules-count, apart-read}
+use Rattle.book.specs.Read.{rules-count}
+use Rattle.judge.proofs.Bytes.{apart-read}
 use Rattle.judge.proofs.Links.{Searched, Seeking, search-start, seek-start, seek-on, seek-rises, seek-found, seek-end, search-end}
 use borrow.Author.Needs.{needs}
 use mathlib.Core.Path.{sym, _∙_}
