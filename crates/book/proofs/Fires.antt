@@ -64,9 +64,7 @@ module _ (start : Snap) (stage : ℕ) (now : Snap) (t : Trigger) where
 
 module _ (text : ℕ → List ℕ) (start : Snap) (stage : ℕ) (now : Snap) (r : Rule) (t : Bool) (p : t ≡ triggered start stage (r .trigger) now) where
   pub firing-untriggered : not t ≡ true → false ≡ firing text start stage now r
-  unfolding firing
   firing-untriggered n = rw (← p, not-true t n)
 
   pub firing-triggered : (u : Bool) → not t ≡ false → u ≡ allowed text (r .sense) now → u ≡ firing text start stage now r
-  unfolding firing
   firing-triggered u n e = rw (← p, not-false t n) e

@@ -1,16 +1,13 @@
 -- "A firing rule sets or clears its target." Assumes nothing.
 use mathlib.Core.Path.{_≡_, refl, sym, ap, _∙_}
 use mathlib.Core.Logic.{_↔_}
-use mathlib.Core.Bool.{Bool, true, false, not, cond, Bool·beq}
+use mathlib.Core.Bool.{Bool, true, false, not, Bool·beq}
 use mathlib.Core.List.{List}
-use Prim.Native.Nat.{ℕ, _<_}
+use Prim.Native.Nat.{_<_}
 use lib.ListN.{length, getD, set, length-set, replicate}
-use lib.Seq.{getD-set-same, getD-set-other, set-getD}
-use lib.Dec.{eqb}
-use borrow.Author.Tests.{eqb-true, eqb-false}
+use lib.Seq.{getD-set-same, set-getD}
 use Rattle.paper.specs.Limits.{maxMarks}
 use Rattle.sets.specs.Cases.{contra, cases}
-use Rattle.book.specs.Text.{snapOf}
 use Rattle.book.specs.declared.Rule.{Rule}
 use Rattle.book.specs.declared.Snapshot.{Snapshot}
 
@@ -24,12 +21,6 @@ effectOn marks r = set marks (r .target) (r .effect)
 
 pub length-effect : (marks : List Bool) (r : Rule) → length (effectOn marks r) ≡ length marks
 length-effect marks r = length-set marks (r .target) (r .effect)
-
--- the target has the rule's value, and every other mark is as it was
-pub effect-at : (marks : List Bool) (r : Rule) (m : ℕ) → r .target < length marks → snapOf (effectOn marks r) m ≡ cond (eqb m (r .target)) (r .effect) (snapOf marks m)
-effect-at marks r m h =
-    cases (eqb m (r .target)) (λ e. rw (e, eqb-true m (r .target) e) (getD-set-same marks (r .target) (r .effect) false h))
-    (λ e. rw e (getD-set-other marks (r .target) m (r .effect) false (eqb-false m (r .target) e)))
 
 -- it leaves them as they are exactly if the target has its value
 pub effect-alters : (marks : List Bool) (r : Rule) → r .target < length marks → (not (Bool·beq (getD marks (r .target) false) (r .effect)) ≡ false) ↔ (effectOn marks r ≡ marks)

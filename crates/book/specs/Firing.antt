@@ -28,16 +28,16 @@ allowed text NoCondition now = true
 allowed text (AsWritten c) now = holds now (text c)
 allowed text (Negated c) now = not (holds now (text c))
 
--- a rule as it was read
-unfoldable pub firing : (ℕ → List ℕ) → Snap → ℕ → Snap → Rule → Bool
+-- a rule as it was read, where `text` gives the words of each condition
+abbrev pub firing : (ℕ → List ℕ) → Snap → ℕ → Snap → Rule → Bool
 firing text start stage now r = triggered start stage (r .trigger) now && allowed text (r .sense) now
 
 unfoldable pub fires : Book → Snap → ℕ → Snap → ℕ → Bool
-fires b start stage now r = triggered start stage (ruleOf b r .trigger) now && allowed (textOf b) (ruleOf b r .sense) now
+fires b start stage now r = firing (textOf b) start stage now (ruleOf b r)
 
 pub firing-fires : (b : Book) (start : Snap) (stage : ℕ) (now : Snap) (r : ℕ) (rule : Rule) → rule ≡ ruleOf b r → firing (textOf b) start stage now rule ≡ fires b start stage now r
-unfolding fires firing
-firing-fires b start stage now r rule e = ap (λ (x : Rule). triggered start stage (x .trigger) now && allowed (textOf b) (x .sense) now) e
+unfolding fires
+firing-fires b start stage now r rule e = ap (firing (textOf b) start stage now) e
 
 -- ---- "A rule refers to the marks in its condition and in its become-yes or become-no trigger. A completion trigger refers to nothing."
 

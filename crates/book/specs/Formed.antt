@@ -2,48 +2,32 @@
 use Prim.Native.Nat.{ℕ, _+_, _*_, _/_, _%_, _≤_, _<_}
 use mathlib.Core.Path.{_≡_, refl, sym, ap, subst, _∙_}
 use mathlib.Core.Bool.{Bool, true, false}
-use mathlib.Core.List.{List, [], _∷_, _++_}
+use mathlib.Core.List.{List, [], _++_}
 use native.Mathlib.Nat.{add-assoc}
 use native.Mathlib.Omega.{arith}
-use lib.ListN.{length, getD, List·getD-append}
+use lib.ListN.{length, List·getD-append}
 use lib.Seq.{getD-append-add}
 use lib.Dec.{leb}
 use borrow.Author.Tests.{lt-ltb}
 use Rattle.paper.specs.Limits.{maxEvents, maxMarks, maxRules, maxConditions, maxWords, bookHeader, ruleSize}
-use Rattle.sets.specs.Tables.{tabulate, length-tabulate}
 use Rattle.wire.specs.Wire.{u16At, bytes16}
 use Rattle.wire.specs.Laws.{u16-first, u16-second}
 use Rattle.book.specs.Good.{GoodText}
-use Rattle.book.specs.Book.{Book, Condition, noRule, conditionOf, textOf}
-use Rattle.book.specs.Image.{stagesIn, marksIn, rulesIn, conditionsIn, wordsIn, rulePlace, conditionPlace, conditionFrom, bookOf}
+use Rattle.book.specs.Book.{Book, noRule, conditionOf, textOf}
+use Rattle.book.specs.Image.{stagesIn, marksIn, rulesIn, conditionsIn, wordsIn, rulePlace, conditionPlace, conditionFrom}
 use Rattle.book.specs.Lists.{All, all-at}
-use Rattle.book.specs.ImageOf.{Local, read-behind, kindByte, triggerNumber, senseByte, conditionNumber, effectByte, ruleRecord, ruleBytes, length-rule, number16, heads, ruleRun, conditionRun, wordRun, header-at, length-header, image-length, imageOf, book-of-image}
+use Rattle.book.specs.ImageOf.{Local, read-behind, kindByte, triggerNumber, senseByte, conditionNumber, effectByte, ruleRecord, ruleBytes, length-rule, number16, heads, conditionRun, wordRun, header-at, length-header, image-length, imageOf, book-of-image}
 use Rattle.book.specs.Read.{condition-read, text-read}
-use Rattle.book.specs.Judging.{countsOf, triggerFits, senseFits, ruleFits}
-use Rattle.book.specs.WellFormed.{Counted, LaidOut, GoodCondition, ConditionIn, RuleIn, Headed, WellFormed, rule-says}
+use Rattle.book.specs.Judging.{triggerFits, senseFits, ruleFits}
+use Rattle.book.specs.Using.{triggerExists, senseExists, RuleFormed}
+use Rattle.book.specs.WellFormed.{ConditionIn, RuleIn, Headed, WellFormed, rule-says}
 use Rattle.book.specs.declared.Rule.{Rule}
 use Rattle.book.specs.declared.Trigger.{Trigger}
 use Rattle.book.specs.declared.Trigger.the-variants.{None, Completed, BecomeYes, BecomeNo}
 use Rattle.book.specs.declared.Sense.{Sense}
 use Rattle.book.specs.declared.Sense.the-variants.{NoCondition, AsWritten, Negated}
 
--- ---- "a completed stage below S, other trigger marks and the target below M, a condition below Q"
-
-abbrev pub TriggerIn : ℕ → ℕ → Trigger → Type 0
-TriggerIn S M None = Unit {0}
-TriggerIn S M (Completed n) = n < S
-TriggerIn S M (BecomeYes n) = n < M
-TriggerIn S M (BecomeNo n) = n < M
-
-abbrev pub SenseIn : ℕ → Sense → Type 0
-SenseIn Q NoCondition = Unit {0}
-SenseIn Q (AsWritten c) = c < Q
-SenseIn Q (Negated c) = c < Q
-
-pub record RuleFormed (S M Q : ℕ) (r : Rule) : Type 0 where
-  pub trigger : TriggerIn S M (r .trigger)
-  pub sense : SenseIn Q (r .sense)
-  pub target : r .target < M
+-- ---- a book within the limits
 
 pub record FormedBook (b : Book) : Type 0 where
   pub stages : b .stages ≤ maxEvents
@@ -90,18 +74,18 @@ fits-local S M Q =
     }
 
 module _ (S M Q : ℕ) where
-  trigger-passes : (t : Trigger) → TriggerIn S M t → triggerFits S M (kindByte t) (triggerNumber t % 256 + 256 * (triggerNumber t / 256)) ≡ true
-  unfolding triggerFits
+  trigger-passes : (t : Trigger) → triggerExists S M t ≡ true → triggerFits S M (kindByte t) (triggerNumber t % 256 + 256 * (triggerNumber t / 256)) ≡ true
+  unfolding triggerFits triggerExists
   trigger-passes None h = refl
-  trigger-passes (Completed n) h = rw (number16 n) (lt-ltb n S h)
-  trigger-passes (BecomeYes n) h = rw (number16 n) (lt-ltb n M h)
-  trigger-passes (BecomeNo n) h = rw (number16 n) (lt-ltb n M h)
+  trigger-passes (Completed n) h = rw (number16 n) h
+  trigger-passes (BecomeYes n) h = rw (number16 n) h
+  trigger-passes (BecomeNo n) h = rw (number16 n) h
 
-  sense-passes : (s : Sense) → SenseIn Q s → senseFits Q (senseByte s) (conditionNumber s % 256 + 256 * (conditionNumber s / 256)) ≡ true
-  unfolding senseFits
+  sense-passes : (s : Sense) → senseExists Q s ≡ true → senseFits Q (senseByte s) (conditionNumber s % 256 + 256 * (conditionNumber s / 256)) ≡ true
+  unfolding senseFits senseExists
   sense-passes NoCondition h = refl
-  sense-passes (AsWritten c) h = rw (number16 c) (lt-ltb c Q h)
-  sense-passes (Negated c) h = rw (number16 c) (lt-ltb c Q h)
+  sense-passes (AsWritten c) h = rw (number16 c) h
+  sense-passes (Negated c) h = rw (number16 c) h
 
   effect-passes : (b : Bool) → leb (effectByte b) 1 ≡ true
   effect-passes true = refl

@@ -70,12 +70,3 @@ pub has-marks : (ws : List ℕ) (m : ℕ) → m < maxMarks → hasMark (marksOf 
 unfolding marksOf
 has-marks ws m h =
     has-gather ws (replicate markWords 0) m refl h ∙ ap (λ (b : Bool). b || elem m ws) (ap (λ (x : ℕ). has x (m % wordBits)) (getD-replicate markWords (m / wordBits) 0 0 (omega arith)) ∙ has-empty (m % wordBits))
-
-pub length-gather : (ws row : List ℕ) → length (gather ws row) ≡ length row
-unfolding gather
-length-gather [] row = refl
-length-gather (w ∷ ws) row = length-gather ws (withMark row w) ∙ length-with row w
-
-pub length-marks : (ws : List ℕ) → length (marksOf ws) ≡ markWords
-unfolding marksOf
-length-marks ws = length-gather ws (replicate markWords 0)

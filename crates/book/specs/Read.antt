@@ -50,6 +50,10 @@ words-all s at n = let p : at + wordSize * 0 ≡ at = omega arith in let q : n -
 
 -- ---- the book
 
+pub rules-count : (s : List ℕ) → length (bookOf s .rules) ≡ rulesIn s
+unfolding bookOf
+rules-count s = length-tabulate (rulesIn s) (λ r. ruleFrom s (rulePlace r))
+
 pub rule-read : (s : List ℕ) (r : ℕ) → r < rulesIn s → ruleOf (bookOf s) r ≡ ruleFrom s (rulePlace r)
 unfolding bookOf
 rule-read s r h = getD-tabulate (rulesIn s) (λ r. ruleFrom s (rulePlace r)) r noRule h

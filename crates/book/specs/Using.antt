@@ -15,18 +15,18 @@ use Rattle.book.specs.Good.{good, text-good, good-wider}
 use Rattle.book.specs.Book.{ruleOf, textOf}
 use Rattle.book.specs.Image.{stagesIn, marksIn, rulesIn, conditionsIn, rulePlace, conditionPlace, triggerFrom, senseFrom, ruleFrom, conditionFrom, bookOf}
 use Rattle.book.specs.Read.{wordsFrom, textFrom, rule-read, text-read}
-use Rattle.book.specs.Firing.{firing, fires, firing-fires}
-use Rattle.book.specs.Judging.{countsOf, imageAnswer}
-use Rattle.paper.specs.declared.Answer.{Answer}
+use Rattle.book.specs.Judging.{countsOf}
+use Rattle.book.specs.Reading.{spanFrom}
 use Rattle.book.specs.declared.Counts.{Counts}
-use Rattle.book.specs.WellFormed.{granted-well, WellFormed, GoodRule}
+use Rattle.book.specs.declared.Span.{Span}
+use Rattle.book.specs.WellFormed.{WellFormed, GoodRule}
 use Rattle.book.specs.declared.Rule.{Rule}
 use Rattle.book.specs.declared.Trigger.{Trigger}
 use Rattle.book.specs.declared.Trigger.the-variants.{None, Completed, BecomeYes, BecomeNo}
 use Rattle.book.specs.declared.Sense.{Sense}
 use Rattle.book.specs.declared.Sense.the-variants.{NoCondition, AsWritten, Negated}
 
--- ---- a rule whose numbers exist
+-- ---- a rule whose numbers exist: "a completed stage below S, other trigger marks and the target below M, a condition below Q"
 
 unfoldable pub triggerExists : ℕ → ℕ → Trigger → Bool
 triggerExists S M None = true
@@ -39,7 +39,7 @@ senseExists Q NoCondition = true
 senseExists Q (AsWritten c) = ltb c Q
 senseExists Q (Negated c) = ltb c Q
 
-pub record Known (S M Q : ℕ) (r : Rule) : Type 0 where
+pub record RuleFormed (S M Q : ℕ) (r : Rule) : Type 0 where
   pub trigger : triggerExists S M (r .trigger) ≡ true
   pub sense : senseExists Q (r .sense) ≡ true
   pub target : r .target < M
@@ -67,7 +67,7 @@ module _ (S M Q : ℕ) (s : List ℕ) (at : ℕ) (g : GoodRule S M Q s at) where
       cases (eqb k 0) (λ e. rw e)
       (λ x. let m : 1 ≤ k = omega (arith, eqb-false k 0 x) in cases (eqb k 1) (λ e. rw (x, e) (lt-ltb c Q (a m))) (λ y. rw (x, y) (lt-ltb c Q (a m))))
 
-  good-known : Known S M Q (ruleFrom s at)
+  good-known : RuleFormed S M Q (ruleFrom s at)
   unfolding ruleFrom
   good-known =
       record {
@@ -81,75 +81,46 @@ module _ (s : List ℕ) (w : WellFormed s) where
   pub rule-inside : (r : ℕ) → r < rulesIn s → rulePlace r + ruleSize ≤ length s
   rule-inside r h = let e = w .headed .laidOut .whole in omega arith
 
-  pub rule-known : (r : ℕ) → r < rulesIn s → Known (stagesIn s) (marksIn s) (conditionsIn s) (ruleFrom s (rulePlace r))
+  pub rule-known : (r : ℕ) → r < rulesIn s → RuleFormed (stagesIn s) (marksIn s) (conditionsIn s) (ruleFrom s (rulePlace r))
   rule-known r h = good-known (stagesIn s) (marksIn s) (conditionsIn s) s (rulePlace r) (w .rules r h)
 
-  pub rule-exists : (r : ℕ) → r < rulesIn s → Known (stagesIn s) (marksIn s) (conditionsIn s) (ruleOf (bookOf s) r)
+  pub rule-exists : (r : ℕ) → r < rulesIn s → RuleFormed (stagesIn s) (marksIn s) (conditionsIn s) (ruleOf (bookOf s) r)
   rule-exists r h = rw (rule-read s r h) (rule-known r h)
 
   -- every condition's text is the book's, and good
   pub text-is : (c : ℕ) → c < conditionsIn s → textOf (bookOf s) c ≡ textFrom s (conditionFrom s (conditionPlace (rulesIn s) c))
   text-is c h = text-read s c h (w .conditions c h .inside)
 
-  pub text-good-in : (c : ℕ) → c < conditionsIn s → good (marksIn s) (textOf (bookOf s) c) ≡ true
-  text-good-in c h = rw (text-is c h) (text-good (marksIn s) (textFrom s (conditionFrom s (conditionPlace (rulesIn s) c))) (w .conditions c h .text))
+-- ---- for a reader: the image beside the counts of its header
 
--- ---- with the bytes at which conditions and words begin
-
-pub record Placed (s : List ℕ) (begin from : ℕ) : Type 0 where
+pub record Opened (s : List ℕ) (h : Counts) : Type 0 where
   pub formed : WellFormed s
-  pub conditions : begin ≡ rulePlace (rulesIn s)
-  pub words : from ≡ conditionPlace (rulesIn s) (conditionsIn s)
+  pub counts : h ≡ countsOf s
 
--- a condition record at the byte `at`, and its text
-pub record Spot (s : List ℕ) (from at : ℕ) : Type 0 where
-  pub inside : at + conditionSize ≤ length s
-  pub text : from + wordSize * (u32At s at + u32At s (at + 4)) ≤ length s
-  pub good : good maxMarks (wordsFrom s (from + wordSize * u32At s at) (u32At s (at + 4))) ≡ true
+module _ (s : List ℕ) (h : Counts) (o : Opened s h) (c : ℕ) (l : c < conditionsIn s) where
+  pub span-inside : conditionPlace (h .rules) c + conditionSize ≤ length s
+  span-inside = rw (o .counts) (let e = o .formed .headed .laidOut .whole in omega arith)
 
-module _ (s : List ℕ) (begin from : ℕ) (p : Placed s begin from) (c : ℕ) (h : c < conditionsIn s) where
-  spot-at : Spot s (conditionPlace (rulesIn s) (conditionsIn s)) (conditionPlace (rulesIn s) c)
-  unfolding conditionFrom
-  spot-at =
-      let e = p .formed .headed .laidOut .whole in
-      let g = p .formed .conditions c h in
-      let i = g .inside in
-      record {
-        inside = omega arith;
-        text = omega arith;
-        good = good-wider (marksIn s) maxMarks _ (p .formed .headed .counted .marks) (text-good (marksIn s) _ (g .text));
-      }
+  -- the words that the condition's record names, where the words begin at the byte `from`
+  module _ (span : Span) (from : ℕ) (a : span ≡ spanFrom s (conditionPlace (h .rules) c)) (b : from ≡ conditionPlace (h .rules) (h .conditions)) where
+    abbrev itsWords : List ℕ
+    itsWords = wordsFrom s (from + wordSize * span .start) (span .count)
 
-  pub spot : Spot s from (begin + conditionSize * c)
-  spot = rw (p .words, p .conditions) spot-at
+    as-read : itsWords ≡ textFrom s (conditionFrom s (conditionPlace (rulesIn s) c))
+    unfolding conditionFrom
+    as-read = rw (a, b, o .counts)
 
-  -- what is read of these words is the condition's text
-  pub spot-text : (start count : ℕ) → start ≡ u32At s (begin + conditionSize * c) → count ≡ u32At s (begin + conditionSize * c + 4)
-      → wordsFrom s (from + wordSize * start) count ≡ textOf (bookOf s) c
-  unfolding conditionFrom
-  spot-text start count a b =
-      let z : textOf (bookOf s) c ≡ textFrom s (conditionFrom s (conditionPlace (rulesIn s) c)) = text-is s (p .formed) c h in
-      rw (z, ← p .words, ← p .conditions, ← a, ← b)
+    pub span-text : itsWords ≡ textOf (bookOf s) c
+    span-text = as-read ∙ sym (text-is s (o .formed) c l)
 
-  pub spot-value : (m : Snap) (start count : ℕ) (r : Bool) → start ≡ u32At s (begin + conditionSize * c) → count ≡ u32At s (begin + conditionSize * c + 4)
-      → r ≡ holds m (wordsFrom s (from + wordSize * start) count) → r ≡ holds m (textOf (bookOf s) c)
-  spot-value m start count r a b e = e ∙ ap (holds m) (spot-text start count a b)
+    pub span-value : (m : Snap) (r : Bool) → r ≡ holds m itsWords → r ≡ holds m (textOf (bookOf s) c)
+    span-value m r e = e ∙ ap (holds m) span-text
 
-  pub spot-asks : (start count : ℕ) → start ≡ u32At s (begin + conditionSize * c) → count ≡ u32At s (begin + conditionSize * c + 4)
-      → (from + wordSize * start + wordSize * count ≤ length s) × (good maxMarks (wordsFrom s (from + wordSize * start) count) ≡ true)
-  spot-asks start count a b = let g = spot in let t = g .text in (omega arith, rw (a, b) (g .good))
-
--- ---- for callers: from the answer 0 to what the functions ask, and from a rule that was read to the book's
-
-pub placed-of : (s : List ℕ) (a : Answer) (h : Counts) (begin from : ℕ) → a ≡ imageAnswer s → a .code ≡ 0 → h ≡ countsOf s → begin ≡ rulePlace (h .rules)
-    → from ≡ conditionPlace (h .rules) (h .conditions) → Placed s begin from
-placed-of s a h begin from e z p b f =
-    record {
-      formed = granted-well s a e z;
-      conditions = b ∙ ap (λ (x : Counts). rulePlace (x .rules)) p;
-      words = f ∙ ap (λ (x : Counts). conditionPlace (x .rules) (x .conditions)) p;
-    }
-
-pub fires-read : (s : List ℕ) (start : Snap) (stage : ℕ) (now : Snap) (r : ℕ) (rule : Rule) → r < rulesIn s → rule ≡ ruleFrom s (rulePlace r)
-    → firing (textOf (bookOf s)) start stage now rule ≡ fires (bookOf s) start stage now r
-fires-read s start stage now r rule h e = firing-fires (bookOf s) start stage now r rule (e ∙ sym (rule-read s r h))
+    pub span-asks : (from + wordSize * span .start + wordSize * span .count ≤ length s) × (good maxMarks itsWords ≡ true)
+    unfolding conditionFrom
+    span-asks =
+        let e = o .formed .headed .laidOut .whole in
+        let g = o .formed .conditions c l in
+        let i = g .inside in
+        let k : conditionPlace (rulesIn s) (conditionsIn s) + wordSize * u32At s (conditionPlace (rulesIn s) c) + wordSize * u32At s (conditionPlace (rulesIn s) c + 4) ≤ length s = omega arith in
+        (rw (a, b, o .counts) k, rw as-read (good-wider (marksIn s) maxMarks _ (o .formed .headed .counted .marks) (text-good (marksIn s) _ (g .text))))

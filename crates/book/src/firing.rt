@@ -7,46 +7,40 @@ ghost use Rattle.book.specs.Text.{holds, snapOf};
 ghost use Rattle.book.specs.Book.{textOf};
 ghost use Rattle.book.specs.Image.{stagesIn, marksIn, conditionsIn, bookOf};
 ghost use Rattle.book.specs.Firing.{triggered, allowed, firing};
-ghost use Rattle.book.specs.Using.{triggerExists, senseExists, Known, Placed};
+ghost use Rattle.book.specs.Using.{triggerExists, senseExists, RuleFormed, Opened};
+use crate::Counts;
 use crate::Rule;
 use crate::Sense;
 use crate::Trigger;
 use crate::eval::text_holds;
-use paper::CONDITION_SIZE;
+use crate::header::words_from;
+use crate::reader::condition_in;
 use paper::MAX_MARKS;
 use paper::WORD_SIZE;
 
-// What condition c says. Conditions begin at the byte `begin`, words at the byte `from`.
-pub fn condition_holds(
-    image: &[u8],
-    begin: usize,
-    from: usize,
-    c: usize,
-    marks: &[bool; MAX_MARKS],
-) -> bool
-    requires { ⌜ (Placed (now image) begin from) × (c < conditionsIn (now image)) ⌝ }
+// What condition c says.
+pub fn condition_holds(image: &[u8], counts: Counts, c: usize, marks: &[bool; MAX_MARKS]) -> bool
+    requires { ⌜ (Opened (now image) counts) × (c < conditionsIn (now image)) ⌝ }
     ensures { λ r. ⌜ r ≡ holds (snapOf (now (marks .entry))) (textOf (bookOf (now (image .entry))) c) ⌝ }
 {
-    let at = begin + CONDITION_SIZE * c;
-    let start = wire::u32_at(image, at) as usize;
-    let count = wire::u32_at(image, at + 4) as usize;
-    text_holds(image, from + WORD_SIZE * start, count, marks)
+    let span = condition_in(image, counts, c);
+    let from = words_from(counts.rules, counts.conditions);
+    text_holds(
+        image,
+        from + WORD_SIZE * (span.start as usize),
+        span.count as usize,
+        marks,
+    )
 }
 
-pub fn sense_holds(
-    image: &[u8],
-    begin: usize,
-    from: usize,
-    sense: Sense,
-    marks: &[bool; MAX_MARKS],
-) -> bool
-    requires { ⌜ (Placed (now image) begin from) × (senseExists (conditionsIn (now image)) sense ≡ true) ⌝ }
+pub fn sense_holds(image: &[u8], counts: Counts, sense: Sense, marks: &[bool; MAX_MARKS]) -> bool
+    requires { ⌜ (Opened (now image) counts) × (senseExists (conditionsIn (now image)) sense ≡ true) ⌝ }
     ensures { λ r. ⌜ r ≡ allowed (textOf (bookOf (now (image .entry)))) sense (snapOf (now (marks .entry))) ⌝ }
 {
     match sense {
         Sense::NoCondition => true,
-        Sense::AsWritten(c) => condition_holds(image, begin, from, c as usize, marks),
-        Sense::Negated(c) => !condition_holds(image, begin, from, c as usize, marks),
+        Sense::AsWritten(c) => condition_holds(image, counts, c as usize, marks),
+        Sense::Negated(c) => !condition_holds(image, counts, c as usize, marks),
     }
 }
 
@@ -70,14 +64,13 @@ pub fn trigger_holds<'a>(
 
 pub fn rule_fires<'a>(
     image: &[u8],
-    begin: usize,
-    from: usize,
+    counts: Counts,
     rule: Rule,
     stage: u32,
     start: &'a [bool; MAX_MARKS],
     marks: &'a [bool; MAX_MARKS],
 ) -> bool
-    requires { ⌜ (Placed (now image) begin from) × (Known (stagesIn (now image)) (marksIn (now image)) (conditionsIn (now image)) rule) ⌝ }
+    requires { ⌜ (Opened (now image) counts) × (RuleFormed (stagesIn (now image)) (marksIn (now image)) (conditionsIn (now image)) rule) ⌝ }
     ensures { λ r. ⌜ r ≡ firing (textOf (bookOf (now (image .entry)))) (snapOf (now (start .entry))) stage (snapOf (now (marks .entry))) rule ⌝ }
 {
     let trigger = rule.trigger;
@@ -85,5 +78,5 @@ pub fn rule_fires<'a>(
         return false;
     }
     let sense = rule.sense;
-    sense_holds(image, begin, from, sense, marks)
+    sense_holds(image, counts, sense, marks)
 }

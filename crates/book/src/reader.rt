@@ -47,10 +47,24 @@ impl<'a> BookReader<'a> {
     }
 }
 
-// With plain parameters: whoever calls it needs no walk.
+// With plain parameters: whoever calls these needs no walk.
 pub fn rule_in(image: &[u8], counts: Counts, i: usize) -> Rule
     requires { ⌜ rulePlace i + ruleSize ≤ length (now image) ⌝ }
     ensures { λ r. ⌜ r ≡ ruleFrom (now (image .entry)) (rulePlace i) ⌝ }
 {
     open(image, counts).rule(i)
+}
+
+pub fn condition_in(image: &[u8], counts: Counts, c: usize) -> Span
+    requires { ⌜ conditionPlace (counts .rules) c + conditionSize ≤ length (now image) ⌝ }
+    ensures { λ r. ⌜ r ≡ spanFrom (now (image .entry)) (conditionPlace (counts .rules) c) ⌝ }
+{
+    open(image, counts).condition(c)
+}
+
+pub fn word_in(image: &[u8], counts: Counts, i: usize) -> u16
+    requires { ⌜ wordPlace (counts .rules) (counts .conditions) i + wordSize ≤ length (now image) ⌝ }
+    ensures { λ r. ⌜ r ≡ u16At (now (image .entry)) (wordPlace (counts .rules) (counts .conditions) i) ⌝ }
+{
+    open(image, counts).word(i)
 }

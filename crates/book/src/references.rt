@@ -7,8 +7,10 @@ ghost use Rattle.book.specs.Book.{textOf};
 ghost use Rattle.book.specs.Image.{conditionsIn, bookOf};
 ghost use Rattle.book.specs.Read.{wordsFrom};
 ghost use Rattle.book.specs.Marks.{marksOf};
-ghost use Rattle.book.specs.Using.{Placed};
-use paper::CONDITION_SIZE;
+ghost use Rattle.book.specs.Using.{Opened};
+use crate::Counts;
+use crate::header::words_from;
+use crate::reader::condition_in;
 use paper::MAX_MARKS;
 use paper::WORD_SIZE;
 
@@ -35,13 +37,16 @@ pub fn text_marks(image: &[u8], at: usize, count: usize) -> [u64; MARK_WORDS]
     row
 }
 
-// The marks of condition c. Conditions begin at the byte `begin`, words at the byte `from`.
-pub fn condition_marks(image: &[u8], begin: usize, from: usize, c: usize) -> [u64; MARK_WORDS]
-    requires { ⌜ (Placed (now image) begin from) × (c < conditionsIn (now image)) ⌝ }
+// The marks of condition c.
+pub fn condition_marks(image: &[u8], counts: Counts, c: usize) -> [u64; MARK_WORDS]
+    requires { ⌜ (Opened (now image) counts) × (c < conditionsIn (now image)) ⌝ }
     ensures { λ r. ⌜ r ≡ marksOf (textOf (bookOf (now (image .entry))) c) ⌝ }
 {
-    let at = begin + CONDITION_SIZE * c;
-    let start = wire::u32_at(image, at) as usize;
-    let count = wire::u32_at(image, at + 4) as usize;
-    text_marks(image, from + WORD_SIZE * start, count)
+    let span = condition_in(image, counts, c);
+    let from = words_from(counts.rules, counts.conditions);
+    text_marks(
+        image,
+        from + WORD_SIZE * (span.start as usize),
+        span.count as usize,
+    )
 }

@@ -6,7 +6,7 @@ use mathlib.Core.List.{List, [], _∷_, _++_, append-assoc, append-nil}
 use native.Mathlib.Omega.{arith}
 use lib.Dec.{eqb, leb}
 use lib.ListN.{length, take}
-use borrow.Author.Tests.{ne-eqb, lt-ltb, leb-true}
+use borrow.Author.Tests.{ne-eqb, lt-ltb, leb-true, ltb-true}
 use Rattle.paper.specs.Limits.{maxEvents, maxMarks, andWord, orWord, notWord, maxWords}
 use Rattle.paper.specs.Answers.{granted}
 use Rattle.sets.specs.Cases.{cases, both}
@@ -25,7 +25,8 @@ use Rattle.book.specs.declared.Sense.{Sense}
 use Rattle.book.specs.declared.Sense.the-variants.{NoCondition, AsWritten, Negated}
 use Rattle.book.specs.Judging.{imageAnswer}
 use Rattle.book.specs.WellFormed.{WellFormed, well-granted}
-use Rattle.book.specs.Formed.{TriggerIn, SenseIn, RuleFormed, FormedBook, formed-image}
+use Rattle.book.specs.Using.{triggerExists, senseExists, RuleFormed}
+use Rattle.book.specs.Formed.{FormedBook, formed-image}
 use Rattle.deriver.specs.Derived.{includedMark, executedMark, answeredMark, listed, clause, on, inclusion, responding, answering, textFor, derivedRules, derivedText, derivedCondition, derivedBook, derived-text, join}
 use Rattle.deriver.specs.Sizes.{conditions-length, rules-most, words-most}
 use Rattle.deriver.specs.Deriving.{derivedImage}
@@ -101,23 +102,23 @@ module _ (c : FlatChart) (fit : Fit c) where
   text-depth e h s = depth-says 3 s (derivedText c e) [] (both (goodFrom (4 * n) (derivedText c e) 0) (deepest 3 (derivedText c e) 0) (text-fine e h) .1)
 
   rules-formed : All (RuleFormed n (4 * n) n) (derivedRules c)
-  unfolding inclusion responding answering
+  unfolding inclusion responding answering triggerExists senseExists
   rules-formed =
       join c (RuleFormed n (4 * n) n)
       (record {
         inclusions = λ e h f i.
-            let t : RuleFormed n (4 * n) n (on e true (includedMark n f)) = record { trigger = h; sense = tt; target = omega arith } in
-            let u : RuleFormed n (4 * n) n (on e false (includedMark n f)) = record { trigger = h; sense = tt; target = omega arith } in
+            let t : RuleFormed n (4 * n) n (on e true (includedMark n f)) = record { trigger = lt-ltb e n h; sense = refl; target = omega arith } in
+            let u : RuleFormed n (4 * n) n (on e false (includedMark n f)) = record { trigger = lt-ltb e n h; sense = refl; target = omega arith } in
             cases (has (setOf c include e) f) (λ x. rw x (t, tt)) (λ x. cases (has (setOf c exclude e) f) (λ y. rw (x, y) (u, tt)) (λ y. rw (x, y) tt));
         responses = λ e h f i.
-            let u : RuleFormed n (4 * n) n (on e false (answeredMark n f)) = record { trigger = h; sense = tt; target = omega arith } in
+            let u : RuleFormed n (4 * n) n (on e false (answeredMark n f)) = record { trigger = lt-ltb e n h; sense = refl; target = omega arith } in
             cases (has (setOf c response e) f) (λ x. rw x (u, tt)) (λ x. rw x tt);
         answers = λ e h.
-            let t : RuleFormed n (4 * n) n (on e true (answeredMark n e)) = record { trigger = h; sense = tt; target = omega arith } in
+            let t : RuleFormed n (4 * n) n (on e true (answeredMark n e)) = record { trigger = lt-ltb e n h; sense = refl; target = omega arith } in
             cases (has (setOf c response e) e) (λ x. rw x tt) (λ x. rw x (t, tt));
-        executed = λ e h. record { trigger = h; sense = tt; target = omega arith };
-        opened = λ e h. record { trigger = tt; sense = h; target = omega arith };
-        closed = λ e h. record { trigger = tt; sense = h; target = omega arith };
+        executed = λ e h. record { trigger = lt-ltb e n h; sense = refl; target = omega arith };
+        opened = λ e h. record { trigger = refl; sense = lt-ltb e n h; target = omega arith };
+        closed = λ e h. record { trigger = refl; sense = lt-ltb e n h; target = omega arith };
       })
 
   condition-is : (e : ℕ) → e < n → conditionOf (derivedBook c) e ≡ derivedCondition c e
@@ -194,7 +195,7 @@ module _ (c : FlatChart) (fit : Fit c) where
       ))
 
   pub derived-limits : WithinLimits (derivedBook c)
-  unfolding derivedBook derivedCondition
+  unfolding derivedBook derivedCondition triggerExists senseExists
   derived-limits =
       let m : n ≤ maxEvents = few in
       let q : length (derivedBook c .words) ≤ maxWords = words-most c fit in
@@ -212,16 +213,16 @@ module _ (c : FlatChart) (fit : Fit c) where
       small-rule : (r : Rule) → RuleFormed n (4 * n) n r → SmallRule r
       small-rule r h = let m : n ≤ maxEvents = few in record { number = small-trigger (r .trigger) (h .trigger); condition = small-sense (r .sense) (h .sense); target = let t = h .target in omega arith }
         where
-          small-trigger : (t : Trigger) → TriggerIn n (4 * n) t → triggerNumber t < 65536
+          small-trigger : (t : Trigger) → triggerExists n (4 * n) t ≡ true → triggerNumber t < 65536
           small-trigger None h = omega arith
-          small-trigger (Completed k) h = let m : n ≤ maxEvents = few in omega arith
-          small-trigger (BecomeYes k) h = let m : n ≤ maxEvents = few in omega arith
-          small-trigger (BecomeNo k) h = let m : n ≤ maxEvents = few in omega arith
+          small-trigger (Completed k) h = let m : n ≤ maxEvents = few in omega (arith, ltb-true k n h)
+          small-trigger (BecomeYes k) h = let m : n ≤ maxEvents = few in omega (arith, ltb-true k (4 * n) h)
+          small-trigger (BecomeNo k) h = let m : n ≤ maxEvents = few in omega (arith, ltb-true k (4 * n) h)
 
-          small-sense : (s : Sense) → SenseIn n s → conditionNumber s < 65536
+          small-sense : (s : Sense) → senseExists n s ≡ true → conditionNumber s < 65536
           small-sense NoCondition h = omega arith
-          small-sense (AsWritten k) h = let m : n ≤ maxEvents = few in omega arith
-          small-sense (Negated k) h = let m : n ≤ maxEvents = few in omega arith
+          small-sense (AsWritten k) h = let m : n ≤ maxEvents = few in omega (arith, ltb-true k n h)
+          small-sense (Negated k) h = let m : n ≤ maxEvents = few in omega (arith, ltb-true k n h)
 
       small-condition : (e : ℕ) → e < n → SmallCondition (derivedCondition c e)
       small-condition e h =

@@ -13,13 +13,12 @@ use Rattle.sets.specs.Set.{union, inter, only, allBelow}
 use Rattle.wire.specs.Wire.{u16At}
 use Rattle.book.specs.Book.{ruleOf}
 use Rattle.book.specs.Image.{rulesIn, rulePlace, triggerFrom, senseFrom, ruleFrom, bookOf}
-use Rattle.book.specs.Read.{rule-read}
+use Rattle.book.specs.Read.{rules-count, rule-read}
 use Rattle.book.specs.declared.Rule.{Rule}
 use Rattle.book.specs.WellFormed.{WellFormed}
 use Rattle.book.specs.Using.{triggerExists, known-wider, rule-known, rule-inside}
 use Rattle.judge.specs.Clash.{completesOther, otherStages, isWritten, isNegated, oppositeSenses, apart}
 use Rattle.judge.specs.Chains.{side, does, undoes, stagesOf, Chained}
-use Rattle.judge.specs.Checking.{rules-many}
 use Rattle.judge.proofs.Links.{Linked, linked-start, linked-more, linked-end}
 
 -- ---- apart, by bytes
@@ -108,7 +107,7 @@ module _ (s : List ℕ) (rules : ℕ) (same opposite : List ℕ) where
   linking-start next stages w e i j f k =
       record {
         formed = w;
-        linked = rw (f, k) (linked-start (bookOf s) rules same opposite (e ∙ sym (rules-many s)) (rw e (w .headed .counted .rules))
+        linked = rw (f, k) (linked-start (bookOf s) rules same opposite (e ∙ sym (rules-count s)) (rw e (w .headed .counted .rules))
             (λ y h. let l : y < rulesIn s = omega arith in
             rw (rule-read s y l) (known-wider _ _ _ _ (ruleFrom s (rulePlace y) .trigger) (w .headed .counted .stages) (w .headed .counted .marks) (rule-known s w y l .trigger)))
             i j);
@@ -116,7 +115,7 @@ module _ (s : List ℕ) (rules : ℕ) (same opposite : List ℕ) where
 
   module _ (next stages : List ℕ) (low r : ℕ) (g : Linking s rules same opposite next stages low r) where
     pub linking-known : rules ≡ rulesIn s
-    linking-known = g .linked .count ∙ rules-many s
+    linking-known = g .linked .count ∙ rules-count s
 
     module _ (h : 0 < r) where
       inside : r - 1 < rulesIn s

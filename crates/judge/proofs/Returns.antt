@@ -15,17 +15,18 @@ use Rattle.paper.specs.declared.Answer.{Answer}
 use Rattle.sets.specs.Cases.{cases}
 use Rattle.orders.specs.Order.{NoLoop}
 use Rattle.orders.specs.Running.{runningOrder}
-use Rattle.book.specs.Image.{rulesIn, rulePlace, conditionPlace, bookOf}
+use Rattle.book.specs.Image.{rulesIn, bookOf}
+use Rattle.book.specs.Read.{rules-count}
 use Rattle.book.specs.Judging.{countsOf, imageAnswer}
 use Rattle.book.specs.WellFormed.{WellFormed, granted-well}
-use Rattle.book.specs.Using.{Placed}
+use Rattle.book.specs.Using.{Opened}
 use Rattle.book.specs.declared.Counts.{Counts}
 use Rattle.ordering.specs.Rules.{netOf}
 use Rattle.ordering.specs.Nets.{rulesOf, count-is}
 use Rattle.judge.specs.Whole.{running-few, running-full}
 use Rattle.judge.specs.Places.{loopPlace, loop-fits, loop-place}
 use Rattle.judge.specs.Pairs.{clashFirst, clashSecond, second-fits}
-use Rattle.judge.specs.Checking.{rulesAnswer, bookAnswer, checking, checkedRoom, rules-many, targets, targets-in, book-answer, granted-room, refused-room}
+use Rattle.judge.specs.Checking.{rulesAnswer, bookAnswer, checking, checkedRoom, targets, targets-in, book-answer, granted-room, refused-room}
 
 -- ---- a run copied to the front of a room
 
@@ -49,21 +50,21 @@ module _ (s : List ℕ) (w : WellFormed s) where
   place-small p e = let h = w .headed .counted .marks in omega (arith, loop-fits (bookOf s))
 
   pub second-small : (p q : ℕ) → q ≡ clashSecond (bookOf s) p → q ≤ maxRules
-  second-small p q e = let h = w .headed .counted .rules in omega (arith, second-fits (bookOf s) p, rules-many s)
+  second-small p q e = let h = w .headed .counted .rules in omega (arith, second-fits (bookOf s) p, rules-count s)
 
   module _ (rules written : ℕ) (many : rules ≡ rulesIn s) (n : written ≡ length (runningOrder (rulesOf s))) where
     no-loop : rules ≤ written → NoLoop (rulesOf s)
     unfolding netOf
     no-loop h =
         let f = running-few (rulesOf s) in
-        let c = rules-many s in
+        let c = rules-count s in
         running-full (rulesOf s) (bookOf s .marks) (targets-in s w) .1 (omega arith)
 
     -- fewer rules are written than there are: there is a loop
     pub rules-loop : (entry exit : List ℕ) (p : ℕ) (r : Answer) → written < rules → p ≡ loopPlace (bookOf s) → r ≡ answer loopFound p 0 → Outcome s entry exit r
     unfolding rulesAnswer netOf
     rules-loop entry exit p r h e f =
-        let c = rules-many s in
+        let c = rules-count s in
         let t = loop-place (bookOf s) (targets s w) in
         let l : loopPlace (bookOf s) < bookOf s .marks = cases (ltb (loopPlace (bookOf s)) (bookOf s .marks)) (λ x. ltb-true (loopPlace (bookOf s)) (bookOf s .marks) x)
         (λ x. let i = loop-fits (bookOf s) in
@@ -75,7 +76,7 @@ module _ (s : List ℕ) (w : WellFormed s) where
       none-loops : rulesAnswer (bookOf s) ≡ cond (ltb p rules) (answer clash p q) granted
       unfolding rulesAnswer
       none-loops =
-          let z : length (bookOf s .rules) ≡ rules = rules-many s ∙ sym many in
+          let z : length (bookOf s .rules) ≡ rules = rules-count s ∙ sym many in
           rw (loop-place (bookOf s) (targets s w) .1 .0 (no-loop full), le-ltb (bookOf s .marks) (bookOf s .marks) (omega arith), z, ← first, ← second)
 
       pub rules-clash : (entry exit : List ℕ) (r : Answer) → p < rules → r ≡ answer clash p q → Outcome s entry exit r
@@ -107,8 +108,8 @@ module _ (s room : List ℕ) where
     pub formed : WellFormed s
     formed = granted-well s a e z
 
-    pub placed : (h : Counts) (from to : ℕ) → h ≡ countsOf s → from ≡ rulePlace (h .rules) → to ≡ conditionPlace (h .rules) (h .conditions) → Placed s from to
-    placed h from to f g k = record { formed = formed; conditions = rw f at g; words = rw f at k }
+    pub opened : (h : Counts) → h ≡ countsOf s → Opened s h
+    opened h f = record { formed = formed; counts = f }
 
     module _ (b : Answer) (f : b ≡ rulesAnswer (bookOf s)) where
       judged : bookAnswer s ≡ b

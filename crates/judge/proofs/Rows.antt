@@ -17,14 +17,13 @@ use Rattle.orders.specs.Loops.{leads, loop-rows}
 use Rattle.book.specs.Book.{ruleOf}
 use Rattle.book.specs.Firing.{refers}
 use Rattle.book.specs.Image.{rulesIn, marksIn, rulePlace, ruleFrom, bookOf}
-use Rattle.book.specs.Read.{rule-read}
+use Rattle.book.specs.Read.{rules-count, rule-read}
 use Rattle.book.specs.Marks.{wordBits, markWords}
 use Rattle.book.specs.WellFormed.{WellFormed}
 use Rattle.ordering.specs.Rules.{netOf}
 use Rattle.ordering.specs.References.{References, asked-row, awaited-in, refers-bytes}
 use Rattle.judge.specs.Places.{loopPlace}
 use Rattle.judge.specs.Linked.{linkWords, withCondition, withTrigger, LinkedMarks}
-use Rattle.judge.specs.Checking.{rules-many}
 
 -- ---- one rule
 
@@ -164,7 +163,7 @@ pub linking-last : (s refs rows : List ℕ) (r : ℕ) → Linking s refs rows r 
 unfolding leads netOf
 linking-last s refs rows r g h =
     let i = g .within in
-    let z : r ≡ length (bookOf s .rules) = let c = rules-many s in omega arith in
+    let z : r ≡ length (bookOf s .rules) = let c = rules-count s in omega arith in
     record { size = g .size; holds = λ a b i j. g .holds a b i j ∙ ap (λ (k : ℕ). some k (λ q. refers (bookOf s) q a && eqb (ruleOf (bookOf s) q .target) b)) z }
 
 -- ---- the closure of the rows names the place
@@ -175,5 +174,5 @@ unfolding loopPlace netOf ruleFrom bookOf
 place-found s rows next marks p w m g e f =
     let n = w .headed .counted .marks in
     let z = g .size in
-    f ∙ rw (e, m) (loop-rows (netOf (bookOf s)) (marksIn s) (λ r h. let k : r < rulesIn s = rw (rules-many s) at h in rw (rule-read s r k) (w .rules r k .target)) markWords rows (omega arith) (omega arith)
+    f ∙ rw (e, m) (loop-rows (netOf (bookOf s)) (marksIn s) (λ r h. let k : r < rulesIn s = rw (rules-count s) at h in rw (rule-read s r k) (w .rules r k .target)) markWords rows (omega arith) (omega arith)
     (λ a b i j. g .holds a b (omega arith) (omega arith)))

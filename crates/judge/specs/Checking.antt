@@ -16,11 +16,12 @@ use Rattle.orders.specs.Order.{Net, Fit, Loop, OnLoop, NoLoop}
 use Rattle.orders.specs.Running.{runningOrder, running-fit, running-length}
 use Rattle.book.specs.Book.{Book, ruleOf}
 use Rattle.book.specs.Image.{marksIn, rulesIn, bookOf}
+use Rattle.book.specs.Read.{rules-count}
 use Rattle.book.specs.Judging.{imageAnswer}
 use Rattle.book.specs.WellFormed.{WellFormed, Judged, short, count, layout, rule, condition, accepted, judged, judged-is, well-granted, granted-well}
 use Rattle.book.specs.Using.{rule-exists}
 use Rattle.ordering.specs.Rules.{netOf}
-use Rattle.ordering.specs.Nets.{rulesOf, count-is}
+use Rattle.ordering.specs.Nets.{rulesOf}
 use Rattle.judge.specs.Clash.{NoClash, Clashes, clashes-so}
 use Rattle.judge.specs.Pairs.{clashFirst, clashSecond, LowestClash, clash-fits, lowest-clash, clash-found, no-clash}
 use Rattle.judge.specs.Places.{loopPlace, loop-fits, loop-place}
@@ -71,17 +72,13 @@ pub record Passed (s : List ℕ) (room : ℕ) : Type 0 where
   pub wide : rulesIn s ≤ room
 
 module _ (s : List ℕ) where
-  pub rules-many : length (bookOf s .rules) ≡ rulesIn s
-  unfolding netOf
-  rules-many = count-is s
-
   pub marks-many : bookOf s .marks ≡ marksIn s
   unfolding bookOf
   marks-many = refl
 
   module _ (w : WellFormed s) where
     pub targets : (r : ℕ) → r < length (bookOf s .rules) → ruleOf (bookOf s) r .target < bookOf s .marks
-    targets r h = rw marks-many (rule-exists s w r (rw rules-many at h) .target)
+    targets r h = rw marks-many (rule-exists s w r (rw (rules-count s) at h) .target)
 
     pub targets-in : (r : ℕ) → r < rulesOf s .count → rulesOf s .target r < bookOf s .marks
     unfolding netOf
@@ -242,7 +239,7 @@ pub granted-room : (s room : List ℕ) → checking s (length room) .code ≡ 0
 unfolding checkedRoom netOf
 granted-room s room e =
     let p = passed-is s (length room) e in
-    (rw (eq-eqb (checking s (length room) .code) 0 e), order-fit s (p .formed) (p .acyclic), running-length (rulesOf s) (bookOf s .marks) (targets-in s (p .formed)) (p .acyclic) ∙ rules-many s)
+    (rw (eq-eqb (checking s (length room) .code) 0 e), order-fit s (p .formed) (p .acyclic), running-length (rulesOf s) (bookOf s .marks) (targets-in s (p .formed)) (p .acyclic) ∙ rules-count s)
 
 -- a refusal writes nothing
 pub refused-room : (s room : List ℕ) → (checking s (length room) .code ≡ 0 → ⊥) → checkedRoom s room ≡ room

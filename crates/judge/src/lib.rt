@@ -11,9 +11,7 @@ ghost use Rattle.ordering.specs.References.{References};
 ghost use Rattle.judge.specs.Checking.{rulesAnswer, checking, checkedRoom};
 use crate::clashes::first_clash;
 use crate::loops::loop_place;
-use book::header::conditions_from;
 use book::header::counts_at;
-use book::header::words_from;
 use book::judging::judge_image;
 use ordering::references::REFS;
 use ordering::references::references;
@@ -75,13 +73,7 @@ pub fn check(book: &[u8], room: &mut [u16]) -> Answer
     let h = counts_at(book);
     let rules = h.rules as usize;
     let mut refs = [0u64; REFS];
-    references(
-        book,
-        conditions_from(h.rules),
-        words_from(h.rules, h.conditions),
-        h.conditions as usize,
-        &mut refs,
-    );
+    references(book, h, &mut refs);
     let mut order = [0u16; MAX_RULES];
     let answer = judge_rules(book, rules, h.marks as usize, &refs, &mut order);
     if answer.code != 0 {

@@ -4,10 +4,9 @@ use mathlib.Core.List.{List}
 use Prim.Native.Nat.{ℕ, _+_, _≤_, _<_}
 use native.Mathlib.Omega.{arith}
 use Rattle.paper.specs.Limits.{maxMarks, maxRules}
-use Rattle.sets.specs.Tables.{length-tabulate}
 use Rattle.wire.specs.Wire.{u16At}
 use Rattle.book.specs.Image.{rulesIn, rulePlace, ruleFrom, bookOf}
-use Rattle.book.specs.Read.{rule-read}
+use Rattle.book.specs.Read.{rules-count, rule-read}
 use Rattle.book.specs.WellFormed.{WellFormed}
 use Rattle.orders.specs.Order.{Net}
 use Rattle.ordering.specs.Rules.{netOf}
@@ -18,8 +17,8 @@ rulesOf s = netOf (bookOf s)
 
 module _ (s : List ℕ) where
   pub count-is : rulesOf s .count ≡ rulesIn s
-  unfolding netOf bookOf
-  count-is = length-tabulate (rulesIn s) (λ r. ruleFrom s (rulePlace r))
+  unfolding netOf
+  count-is = rules-count s
 
   pub target-is : (r : ℕ) → r < rulesIn s → rulesOf s .target r ≡ u16At s (rulePlace r + 8)
   unfolding netOf ruleFrom

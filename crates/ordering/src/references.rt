@@ -3,10 +3,11 @@ ghost use mathlib.Core.Path.{_≡_};
 ghost use Prim.Native.Nat.{_<_};
 ghost use lib.ListN.{length};
 ghost use Rattle.paper.specs.Limits.{maxConditions};
-ghost use Rattle.book.specs.Image.{rulesIn, conditionsIn, bookOf};
-ghost use Rattle.book.specs.Using.{Placed};
+ghost use Rattle.book.specs.Image.{rulesIn, bookOf};
+ghost use Rattle.book.specs.Using.{Opened};
 ghost use Rattle.book.specs.WellFormed.{WellFormed};
 ghost use Rattle.ordering.specs.References.{refWords, References, meetWord, meeting, awaitsAny, readsAny, touches};
+use book::Counts;
 use book::references::MARK_WORDS;
 use book::references::condition_marks;
 use paper::BOOK_HEADER;
@@ -16,19 +17,14 @@ use paper::RULE_SIZE;
 // Row c, of MARK_WORDS words, is the set of marks that the text of condition c names: 8 KiB.
 pub const REFS: usize = MAX_CONDITIONS * MARK_WORDS;
 
-// One pass over the texts. Conditions begin at the byte `begin`, words at the byte `from`.
-pub fn references(
-    image: &[u8],
-    begin: usize,
-    from: usize,
-    conditions: usize,
-    refs: &mut [u64; REFS],
-)
-    requires { ⌜ (Placed (now image) begin from) × (conditions ≡ conditionsIn (now image)) × (length (now refs) ≡ refWords) ⌝ }
+// One pass over the texts.
+pub fn references(image: &[u8], counts: Counts, refs: &mut [u64; REFS])
+    requires { ⌜ (Opened (now image) counts) × (length (now refs) ≡ refWords) ⌝ }
     ensures { λ _. ⌜ References (now (image .entry)) (now (refs .exit)) ⌝ }
 {
+    let conditions = counts.conditions as usize;
     for c in 0..conditions {
-        let row = condition_marks(image, begin, from, c);
+        let row = condition_marks(image, counts, c);
         let at = c * MARK_WORDS;
         refs[at] = row[0];
         refs[at + 1] = row[1];

@@ -14,7 +14,7 @@ use Rattle.book.specs.Book.{ruleOf, textOf}
 use Rattle.book.specs.Image.{stagesIn, marksIn, rulesIn, conditionsIn, rulePlace, ruleFrom, bookOf}
 use Rattle.book.specs.Read.{rule-read}
 use Rattle.book.specs.WellFormed.{WellFormed}
-use Rattle.book.specs.Using.{Known, rule-known}
+use Rattle.book.specs.Using.{RuleFormed, rule-known}
 use Rattle.book.specs.Firing.{fires, firing, firing-fires}
 use Rattle.book.specs.Effects.{effectOn, length-effect}
 use Rattle.book.specs.declared.Rule.{Rule}
@@ -68,7 +68,7 @@ pub entry-below : (s order : List ℕ) (j r : ℕ) → ((j : ℕ) → j < length
 entry-below s order j r f h e = rw e (f j h)
 
 -- what the code asks of a rule that it has read
-pub known-so : (s : List ℕ) (r : ℕ) (rule : Rule) → WellFormed s → r < rulesIn s → rule ≡ ruleFrom s (rulePlace r) → Known (stagesIn s) (marksIn s) (conditionsIn s) rule
+pub known-so : (s : List ℕ) (r : ℕ) (rule : Rule) → WellFormed s → r < rulesIn s → rule ≡ ruleFrom s (rulePlace r) → RuleFormed (stagesIn s) (marksIn s) (conditionsIn s) rule
 known-so s r rule w h e = rw e (rule-known s w r h)
 
 pub target-so : (s : List ℕ) (r : ℕ) (rule : Rule) → WellFormed s → r < rulesIn s → rule ≡ ruleFrom s (rulePlace r) → rule .target < maxMarks

@@ -17,17 +17,16 @@ use Rattle.orders.specs.Running.{fit-no-loop}
 use Rattle.orders.specs.Pass.{fitPass, fit-pass}
 use Rattle.orders.specs.Index.{fit-at}
 use Rattle.book.specs.Text.{snapOf}
-use Rattle.book.specs.Image.{stagesIn, marksIn, rulesIn, rulePlace, conditionPlace, bookOf}
-use Rattle.book.specs.Judging.{imageAnswer, countsOf}
-use Rattle.book.specs.Using.{Placed}
-use Rattle.book.specs.declared.Counts.{Counts}
+use Rattle.book.specs.Image.{stagesIn, marksIn, rulesIn, bookOf}
+use Rattle.book.specs.Read.{rules-count}
+use Rattle.book.specs.Judging.{imageAnswer}
 use Rattle.book.specs.WellFormed.{WellFormed, well-granted}
 use Rattle.book.specs.declared.Snapshot.{Snapshot}
 use Rattle.ordering.specs.Nets.{rulesOf, count-is}
 use Rattle.judge.specs.Clash.{NoClash}
 use Rattle.judge.specs.Pairs.{clashFirst, clashSecond, second-fits}
 use Rattle.judge.specs.Places.{loopPlace, loop-place}
-use Rattle.judge.specs.Checking.{rulesAnswer, bookAnswer, checking, Passed, passed-is, rules-many, marks-many, targets}
+use Rattle.judge.specs.Checking.{rulesAnswer, bookAnswer, checking, Passed, passed-is, marks-many, targets}
 use Rattle.runner.specs.Completing.{fitted, orderAnswer, anyFrom, snapshotAnswer, completionAnswer, through, completing}
 
 -- ---- the book and the order
@@ -74,10 +73,6 @@ module _ (s : List ℕ) where
   pub ordered-so : (order : List ℕ) (a : Answer) → a ≡ orderAnswer s order → a .code ≡ 0 → Ordered s order
   ordered-so order a e z = ordered order (rw e at z)
 
-  -- where the conditions and the words begin
-  pub placed-so : (h : Counts) (begin from : ℕ) → WellFormed s → h ≡ countsOf s → begin ≡ rulePlace (h .rules) → from ≡ conditionPlace (h .rules) (h .conditions) → Placed s begin from
-  placed-so h begin from w e b f = record { formed = w; conditions = rw e at b; words = rw e at f }
-
   pub entries-below : (order : List ℕ) → Fit (rulesOf s) order → (j : ℕ) → j < length order → getD order j 0 < rulesIn s
   entries-below order f j h = let i = fit-at (rulesOf s) order .0 f .below j h in omega (arith, count-is s)
 
@@ -91,7 +86,7 @@ module _ (s : List ℕ) where
     acyclic-place marks e n = e ∙ sym (marks-many s) ∙ sym (loop-place (bookOf s) (targets s w) .1 .0 n)
 
     pub second-small : (x y : ℕ) → y ≡ clashSecond (bookOf s) x → y ≤ maxRules
-    second-small x y e = let i = second-fits (bookOf s) x in let j = w .headed .counted .rules in omega (arith, rules-many s)
+    second-small x y e = let i = second-fits (bookOf s) x in let j = w .headed .counted .rules in omega (arith, rules-count s)
 
   module _ (marks m : ℕ) (fits : Bool) (e : marks ≡ marksIn s) (p : m ≡ loopPlace (bookOf s)) where
     pub looped-answer : (a : Answer) → m < marks → a ≡ answer loopFound m 0 → a ≡ fitted (rulesAnswer (bookOf s)) fits
@@ -101,7 +96,7 @@ module _ (s : List ℕ) where
     module _ (rules x y : ℕ) (l : marks ≤ m) (n : rules ≡ rulesIn s) (f : x ≡ clashFirst (bookOf s)) (g : y ≡ clashSecond (bookOf s) x) where
       rest : rulesAnswer (bookOf s) ≡ cond (ltb x rules) (answer clash x y) granted
       unfolding rulesAnswer
-      rest = rw (← p, le-ltb m (bookOf s .marks) (rw (marks-many s, ← e) l), ← f, ← g, rules-many s, ← n)
+      rest = rw (← p, le-ltb m (bookOf s .marks) (rw (marks-many s, ← e) l), ← f, ← g, rules-count s, ← n)
 
       pub clashed-answer : (a : Answer) → x < rules → a ≡ answer clash x y → a ≡ fitted (rulesAnswer (bookOf s)) fits
       unfolding fitted

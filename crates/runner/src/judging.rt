@@ -12,9 +12,7 @@ ghost use Rattle.ordering.specs.References.{References};
 ghost use Rattle.judge.specs.Places.{loopPlace};
 ghost use Rattle.judge.specs.Checking.{rulesAnswer};
 ghost use Rattle.runner.specs.Completing.{fitted, orderAnswer, anyFrom, snapshotAnswer};
-use book::header::conditions_from;
 use book::header::counts_at;
-use book::header::words_from;
 use book::judging::judge_image;
 use judge::clashes::first_clash;
 use judge::loops::loop_place;
@@ -70,10 +68,8 @@ pub fn judge_order(book: &[u8], order: &[u16]) -> Answer
         return judged;
     }
     let h = counts_at(book);
-    let begin = conditions_from(h.rules);
-    let from = words_from(h.rules, h.conditions);
     let mut refs = [0u64; REFS];
-    references(book, begin, from, h.conditions as usize, &mut refs);
+    references(book, h, &mut refs);
     judge_rules(book, h.rules as usize, h.marks as usize, &refs, order)
 }
 

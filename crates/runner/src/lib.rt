@@ -2,9 +2,7 @@
 ghost use mathlib.Core.Path.{_≡_};
 ghost use Rattle.runner.specs.Completing.{completing};
 use book::Snapshot;
-use book::header::conditions_from;
 use book::header::counts_at;
-use book::header::words_from;
 use paper::Answer;
 
 pub mod judging;
@@ -36,9 +34,7 @@ pub fn complete(book: &[u8], order: &[u16], snapshot: Snapshot, stage: u32) -> C
     if answer.code != 0 {
         return Completion { answer, snapshot };
     }
-    let begin = conditions_from(h.rules);
-    let from = words_from(h.rules, h.conditions);
-    let after = running::go_through(book, begin, from, order, snapshot, stage);
+    let after = running::go_through(book, h, order, snapshot, stage);
     Completion {
         answer,
         snapshot: after,

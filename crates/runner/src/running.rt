@@ -3,36 +3,36 @@ ghost use mathlib.Core.Path.{_≡_};
 ghost use Prim.Native.Nat.{ℕ, _<_};
 ghost use lib.ListN.{length, getD};
 ghost use Rattle.book.specs.Image.{rulesIn};
-ghost use Rattle.book.specs.Using.{Placed};
+ghost use Rattle.book.specs.Using.{Opened};
 ghost use Rattle.runner.specs.Completing.{through};
+use book::Counts;
 use book::Snapshot;
 use book::applying::alters;
 use book::applying::applied;
 use book::firing::rule_fires;
-use book::rules::rule_at;
+use book::reader::rule_in;
 use ordering::fit::entry_of;
 
-// The snapshot after the turns. Conditions begin at the byte `begin`, words at the byte `from`. A rule whose target has its value already
+// The snapshot after the turns. A rule whose target has its value already
 // cannot alter it, so its condition is not evaluated; one that fires goes through `applied`, whose one store is in place and which copies
 // the 256 marks.
 pub fn go_through(
     book: &[u8],
-    begin: usize,
-    from: usize,
+    counts: Counts,
     order: &[u16],
     snapshot: Snapshot,
     stage: u32,
 ) -> Snapshot
-    requires { ⌜ (Placed (now book) begin from) × ((j : ℕ) → j < length (now order) → getD (now order) j 0 < rulesIn (now book)) ⌝ }
+    requires { ⌜ (Opened (now book) counts) × ((j : ℕ) → j < length (now order) → getD (now order) j 0 < rulesIn (now book)) ⌝ }
     ensures { λ r. ⌜ r .marks ≡ through (now (book .entry)) (snapshot .marks) stage (snapshot .marks) (now (order .entry)) ⌝ }
 {
     let start = snapshot.marks;
     let mut held = snapshot;
     let mut j = 0;
     while j < order.len() {
-        let rule = rule_at(book, entry_of(order, j));
+        let rule = rule_in(book, counts, entry_of(order, j));
         if alters(&held.marks, rule) {
-            if rule_fires(book, begin, from, rule, stage, &start, &held.marks) {
+            if rule_fires(book, counts, rule, stage, &start, &held.marks) {
                 let next = applied(held, rule);
                 held = next;
             }

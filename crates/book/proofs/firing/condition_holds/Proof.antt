@@ -1,5 +1,5 @@
 -- `book::firing::condition_holds` meets its contract. Assumes nothing.
-use Rattle.book.specs.Using.{spot-asks, spot-value}
+use Rattle.book.specs.Using.{span-inside, span-asks, span-value}
 use borrow.Author.Needs.{needs}
 use Rattle.book.proofs.firing.condition_holds.Statement.{statement}
 use Rattle.book.proofs.firing.condition_holds.Tie as tie
@@ -8,14 +8,13 @@ pub condition-holds-spec : {M : Type 1} → statement M
 condition-holds-spec =
     tie.close
     (tie.spec
-    (λ c. search needs)
-    (λ c. search needs)
-    (λ c κs. search needs)
-    (λ c. search needs)
-    (λ c. search needs)
+    (λ c κs. span-inside _ _ (c .before .pre .0) _ (c .before .pre .1))
     (λ c κs. search needs)
     (λ c. search needs)
     (λ c. search needs)
     (λ c. search needs)
-    (λ c κs. spot-asks _ _ _ (c .before .before .before .pre .0) _ (c .before .before .before .pre .1) _ _ (c .before .u32-at .ensures) (c .u32-at2 .ensures))
-    (λ c. spot-value _ _ _ (c .before .before .before .before .pre .0) _ (c .before .before .before .before .pre .1) _ _ _ _ (c .before .before .u32-at .ensures) (c .before .u32-at2 .ensures) (c .text-holds .ensures)))
+    (λ c. search needs)
+    (λ c κs. let k = c .before .before .before in
+    span-asks _ _ (k .before .before .pre .0) _ (k .before .before .pre .1) _ _ (k .condition-in .ensures) (c .before .before .words-from .ensures))
+    (λ c. let k = c .before .before .before .before in
+    span-value _ _ (k .before .before .pre .0) _ (k .before .before .pre .1) _ _ (k .condition-in .ensures) (c .before .before .before .words-from .ensures) _ _ (c .text-holds .ensures)))

@@ -2,7 +2,7 @@
 use Prim.Native.Nat.{_-_}
 use Rattle.book.specs.Image.{bookOf}
 use Rattle.book.specs.Using.{rule-inside}
-use Rattle.judge.specs.Checking.{rules-many}
+use Rattle.book.specs.Read.{rules-count}
 use Rattle.judge.proofs.Bytes.{apart-read}
 use Rattle.judge.proofs.Links.{Searched, Seeking, search-start, seek-start, seek-on, seek-rises, seek-found, seek-end, search-end}
 use borrow.Author.Needs.{needs}
@@ -31,7 +31,7 @@ search-spec =
     μ-loop
     Inv-search
     μ-search
-    (λ c. search-start _ _ _ _ _ (c .before .before .before .pre .2) (c .before .before .before .pre .1 ∙ sym (rules-many _)))
+    (λ c. search-start _ _ _ _ _ (c .before .before .before .pre .2) (c .before .before .before .pre .1 ∙ sym (rules-count _)))
     (λ c. search needs)
     (λ c. search needs)
     (λ c. omega (arith, c .shared-slice-known4 .given (c .before .before .search .p)))

@@ -1,5 +1,4 @@
 -- `runner::judging::judge_order` meets its contract. Assumes nothing.
-use Rattle.runner.specs.Ordered.{placed-so}
 use Rattle.book.specs.declared.Counts.{Counts}
 use Rattle.book.specs.WellFormed.{granted-well}
 use mathlib.Core.Path.{refl, ap}
@@ -15,11 +14,8 @@ judge-order-spec =
     (λ c κs. search needs)
     (λ c. image-refused _ _ _ (c .before .before .judge-image .ensures) (c .if1 .taken))
     (λ c κs. (granted-well _ _ (c .before .before .judge-image .ensures) (c .if1 .left)) .headed .long)
-    (λ c κs. search needs)
-    (λ c κs. search needs)
-    (λ c. search needs)
-    (λ c κs. (placed-so _ _ _ _ (granted-well _ _ (c .before .before .before .before .before .before .before .judge-image .ensures) (c .before .before .before .before .before .if1 .left)) (c .before .before .before .before .counts-at .ensures) (c .before .before .before .conditions-from .ensures) (c .before .before .words-from .ensures), ap (λ (h : Counts). h .conditions) (c .before .before .before .before .counts-at .ensures), refl))
+    (λ c κs. (record { formed = granted-well _ _ (c .before .before .before .before .judge-image .ensures) (c .before .before .if1 .left); counts = c .before .counts-at .ensures }, refl))
     (λ c. search needs)
     (λ c. search needs)
-    (λ c κs. ((granted-well _ _ (c .before .before .before .before .before .before .before .before .before .before .before .judge-image .ensures) (c .before .before .before .before .before .before .before .before .before .if1 .left)), (c .before .before .before .references .ensures), ap (λ (h : Counts). h .rules) (c .before .before .before .before .before .before .before .before .counts-at .ensures), ap (λ (h : Counts). h .marks) (c .before .before .before .before .before .before .before .before .counts-at .ensures)))
-    (λ c. rules-judged _ _ _ (granted-well _ _ (c .before .before .before .before .before .before .before .before .before .before .before .before .judge-image .ensures) (c .before .before .before .before .before .before .before .before .before .before .if1 .left)) (c .judge-rules .ensures)))
+    (λ c κs. ((granted-well _ _ (c .before .before .before .before .before .before .before .before .judge-image .ensures) (c .before .before .before .before .before .before .if1 .left)), (c .before .before .before .references .ensures), ap (λ (h : Counts). h .rules) (c .before .before .before .before .before .counts-at .ensures), ap (λ (h : Counts). h .marks) (c .before .before .before .before .before .counts-at .ensures)))
+    (λ c. rules-judged _ _ _ (granted-well _ _ (c .before .before .before .before .before .before .before .before .before .judge-image .ensures) (c .before .before .before .before .before .before .before .if1 .left)) (c .judge-rules .ensures)))
