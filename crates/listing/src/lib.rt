@@ -1,0 +1,3 @@
+// The listing of a chart's rule book, as text in lent room.
+mod lines;
+mod out;
