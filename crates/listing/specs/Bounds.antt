@@ -7,18 +7,18 @@ use native.Mathlib.Omega.{arith}
 use lib.Dec.{eqb, ltb, leb}
 use lib.ListN.{length, getD, take, length-append}
 use borrow.Author.Tests.{lt-ltb, ltb-true, ltb-false, leb-true}
-use Rattle.paper.specs.Limits.{andWord, orWord, notWord, maxEvents, maxMarks, maxRules, maxWords, maxNodes, maxRelations}
+use Rattle.paper.specs.Limits.{andWord, orWord, notWord, maxEvents, maxMarks, maxRules, maxWords, maxNodes, maxRelations, chartHeader}
 use Rattle.paper.specs.declared.Answer.{Answer}
 use Rattle.sets.specs.Cases.{cases, either, neither}
-use Rattle.sets.specs.Below.{first, first-is, tally, tally-le}
+use Rattle.sets.specs.Below.{some, first, first-is, tally, tally-le}
 use Rattle.graph.specs.declared.FlatChart.{FlatChart}
 use Rattle.graph.specs.Chart.{Fit}
 use Rattle.graph.specs.Tests.{fitChart}
 use Rattle.graph.specs.Fitness.{tested-fit}
-use Rattle.chart.specs.Image.{nodes, relations, outOfRange, badNodeAt, badRelationAt}
-use Rattle.chart.specs.Nesting.{eventCount, isEvent}
+use Rattle.chart.specs.Image.{nodes, relations, outOfRange, misplaced, badNodeAt, badRelationAt}
+use Rattle.chart.specs.Nesting.{eventCount, isEvent, onLoopAt, flaggedGroupAt}
+use Rattle.chart.specs.Flattening.{conflict, conflictAt}
 use Rattle.chart.specs.Reading.{conflictFrom, conflictTo, readingRelations, readingNodes, reading}
-use Rattle.chart.specs.declared.Reading.{Reading}
 use Rattle.book.specs.Book.{Book, noRule, ruleOf, textOf}
 use Rattle.book.specs.Good.{GoodText, isOperator}
 use Rattle.book.specs.Formed.{TriggerIn, SenseIn, RuleFormed, FormedBook}
@@ -162,9 +162,15 @@ module _ (c : FlatChart) (fit : Fit c) where
   conditions-size =
       let q : Q ≡ c .count = conditions-length c fit in
       let n : Q ≤ maxEvents = few in
-      rw (length-flat Q (λ e. conditionLine e (textOf b e)), words-are, ← q)
-      (lines-most Q (λ e. length (conditionLine e (textOf b e))) (derivedText c)
-      (λ e h. rw (← derived-text c e (rw q at h)) (condition-most (b .marks) e (textOf b e) (formed .marks) (omega arith) (formed .texts e h))))
+      let w : length (flat Q (derivedText c)) ≡ length (b .words) = ap (λ (k : ℕ). length (flat k (derivedText c))) q ∙ ap length (sym words-are) in
+      let l : length (flat Q (λ e. conditionLine e (textOf b e))) ≡ total Q (λ e. length (conditionLine e (textOf b e))) = length-flat Q _ in
+      let t : total Q (λ e. length (conditionLine e (textOf b e))) ≤ 9 * Q + 4 * length (flat Q (derivedText c)) =
+      lines-most Q (λ e. length (conditionLine e (textOf b e))) (derivedText c) (λ e h.
+      let x : textOf b e ≡ derivedText c e = derived-text c e (rw q at h) in
+      let y : length (conditionLine e (textOf b e)) ≤ 9 + 4 * length (textOf b e) = condition-most (b .marks) e (textOf b e) (formed .marks) (omega arith) (formed .texts e h) in
+      let z : length (textOf b e) ≡ length (derivedText c e) = ap length x in
+      omega arith) in
+      omega arith
 
   -- at most 13 bytes of text for 4 bytes of book
   pub book-most : 4 * length (bookText (derivedBook c)) ≤ 13 * length (derivedImage c)
@@ -216,11 +222,6 @@ chart-most c =
     (λ l. rw (f, l) (refusal-most _ (record { code = omega arith; place = image-most c fit; other = omega arith }))))
     (λ f. rw f (refusal-most _ (record { code = omega arith; place = omega arith; other = omega arith })))
 
--- of two readings
-choose : (t : Bool) (x y : Reading) → Short (x .answer) → Short (y .answer) → Short (cond t x y .answer)
-choose true x y p q = p
-choose false x y p q = q
-
 -- a reader's refusal names a node, a relation or an event
 module _ (image : List ℕ) where
   first-short : (code n : ℕ) (test : ℕ → Bool) → code ≤ 9 → n ≤ maxRelations → Short (record { code = code; place = first n test; other = 0 })
@@ -235,22 +236,31 @@ module _ (image : List ℕ) where
     events-few : eventCount image ≤ maxNodes
     events-few = let t : tally (nodes image) (isEvent image) ≤ nodes image = tally-le (nodes image) (isEvent image) in omega arith
 
-    relations-short : Short (readingRelations image .answer)
-    unfolding readingRelations conflictFrom conflictTo tens
-    relations-short =
+    conflicts-few : (conflictFrom image ≤ maxNodes) × (conflictTo image ≤ maxNodes)
+    unfolding conflictFrom conflictTo
+    conflicts-few =
         let e : eventCount image ≤ maxNodes = events-few in
-        let f : (test : ℕ → Bool) → first (eventCount image) test ≤ eventCount image = λ test. first-is (eventCount image) test .fits in
-        choose _ _ _ (first-short 8 (relations image) (badRelationAt image) (omega arith) k)
-        (choose _ _ _ (record { code = omega arith; place = omega (arith, f _); other = omega (arith, f _) }) (plain-short 0 0 (omega arith) (omega arith)))
+        let p : first (eventCount image) (conflictAt image) ≤ eventCount image = first-is (eventCount image) (conflictAt image) .fits in
+        let o : first (eventCount image) (conflict image (conflictFrom image)) ≤ eventCount image = first-is (eventCount image) (conflict image (conflictFrom image)) .fits in
+        (omega arith, omega arith)
+
+    relations-short : Short (readingRelations image .answer)
+    unfolding readingRelations tens
+    relations-short =
+        let f = conflicts-few in
+        cases (some (relations image) (badRelationAt image)) (λ a. rw a (first-short 8 (relations image) (badRelationAt image) (omega arith) k))
+        (λ a. cases (some (eventCount image) (conflictAt image)) (λ d. rw (a, d) (record { code = omega arith; place = omega arith; other = omega arith }))
+        (λ d. rw (a, d) (plain-short 0 0 (omega arith) (omega arith))))
 
     nodes-short : Short (readingNodes image .answer)
     unfolding readingNodes
     nodes-short =
         let e : eventCount image ≤ maxNodes = events-few in
-        choose _ _ _ (first-short 4 (nodes image) _ (omega arith) (omega arith))
-        (choose _ _ _ (first-short 5 (nodes image) _ (omega arith) (omega arith))
-        (choose _ _ _ (first-short 6 (nodes image) _ (omega arith) (omega arith))
-        (choose _ _ _ (plain-short 7 (eventCount image) (omega arith) (omega arith)) relations-short)))
+        cases (some (nodes image) (badNodeAt image)) (λ a. rw a (first-short 4 (nodes image) (badNodeAt image) (omega arith) (omega arith)))
+        (λ a. cases (some (nodes image) (onLoopAt image)) (λ d. rw (a, d) (first-short 5 (nodes image) (onLoopAt image) (omega arith) (omega arith)))
+        (λ d. cases (some (nodes image) (flaggedGroupAt image)) (λ f. rw (a, d, f) (first-short 6 (nodes image) (flaggedGroupAt image) (omega arith) (omega arith)))
+        (λ f. cases (ltb maxEvents (eventCount image)) (λ g. rw (a, d, f, g) (plain-short 7 (eventCount image) (omega arith) (omega arith)))
+        (λ g. rw (a, d, f, g) relations-short))))
 
   in-range : outOfRange image ≡ false → (nodes image ≤ maxNodes) × (relations image ≤ maxRelations)
   unfolding outOfRange
@@ -262,9 +272,10 @@ module _ (image : List ℕ) where
   pub reading-short : Short (reading image .answer)
   unfolding reading
   reading-short =
-      choose _ _ _ (plain-short 1 0 (omega arith) (omega arith))
-      (cases (outOfRange image) (λ t. rw t (plain-short 2 0 (omega arith) (omega arith)))
-      (λ t. let r = in-range t in rw t (choose _ _ _ (plain-short 3 0 (omega arith) (omega arith)) (nodes-short (r .0) (r .1)))))
+      cases (ltb (length image) chartHeader) (λ a. rw a (plain-short 1 0 (omega arith) (omega arith)))
+      (λ a. cases (outOfRange image) (λ d. rw (a, d) (plain-short 2 0 (omega arith) (omega arith)))
+      (λ d. let r = in-range d in
+      cases (misplaced image) (λ f. rw (a, d, f) (plain-short 3 0 (omega arith) (omega arith))) (λ f. rw (a, d, f) (nodes-short (r .0) (r .1)))))
 
 -- ---- every text
 

@@ -4,4 +4,5 @@ pub mod Text
 pub mod Lines
 pub mod Writers
 pub mod Bounds
+pub mod Listing
 pub mod Rows

@@ -6,9 +6,10 @@ ghost use Rattle.book.specs.Image.{rulePlace, bookOf};
 ghost use Rattle.book.specs.Lists.{flat, packed};
 ghost use Rattle.book.specs.Read.{wordsFrom};
 ghost use Rattle.book.specs.WellFormed.{WellFormed};
-ghost use Rattle.deriver.specs.Writing.{Fits, Wrote};
+ghost use Rattle.deriver.specs.Writing.{Wrote};
 ghost use Rattle.listing.specs.Text.{countsLine, triggerText, senseText, effectText, ruleLine, wordText, conditionLine, bookText};
 ghost use Rattle.listing.specs.Lines.{ruleLineAt, conditionLineAt, ConditionsIn};
+ghost use Rattle.listing.specs.Writers.{Space};
 use crate::out;
 use book::Counts;
 use book::Rule;
@@ -20,7 +21,7 @@ use paper::OR;
 use paper::WORD_SIZE;
 
 fn counts_line(room: &mut [u8], at: usize, h: Counts) -> usize
-    requires { ⌜ Fits (now room) at (countsLine (h .stages) (h .marks) (h .rules) (h .conditions) (h .words)) ⌝ }
+    requires { ⌜ Space (now room) at (countsLine (h .stages) (h .marks) (h .rules) (h .conditions) (h .words)) ⌝ }
     ensures { λ r. ⌜ Wrote (now (room .entry)) at (countsLine (h .stages) (h .marks) (h .rules) (h .conditions) (h .words)) r (now (room .exit)) ⌝ }
 {
     let a = out::named(room, at, b"stages ", h.stages);
@@ -33,7 +34,7 @@ fn counts_line(room: &mut [u8], at: usize, h: Counts) -> usize
 
 // A derived book's rules wait for a completion or for nothing.
 fn trigger_text(room: &mut [u8], at: usize, trigger: Trigger) -> usize
-    requires { ⌜ Fits (now room) at (triggerText trigger) ⌝ }
+    requires { ⌜ Space (now room) at (triggerText trigger) ⌝ }
     ensures { λ r. ⌜ Wrote (now (room .entry)) at (triggerText trigger) r (now (room .exit)) ⌝ }
 {
     match trigger {
@@ -45,7 +46,7 @@ fn trigger_text(room: &mut [u8], at: usize, trigger: Trigger) -> usize
 }
 
 fn sense_text(room: &mut [u8], at: usize, sense: Sense) -> usize
-    requires { ⌜ Fits (now room) at (senseText sense) ⌝ }
+    requires { ⌜ Space (now room) at (senseText sense) ⌝ }
     ensures { λ r. ⌜ Wrote (now (room .entry)) at (senseText sense) r (now (room .exit)) ⌝ }
 {
     match sense {
@@ -56,7 +57,7 @@ fn sense_text(room: &mut [u8], at: usize, sense: Sense) -> usize
 }
 
 fn effect_text(room: &mut [u8], at: usize, effect: bool, target: u16) -> usize
-    requires { ⌜ Fits (now room) at (effectText effect target) ⌝ }
+    requires { ⌜ Space (now room) at (effectText effect target) ⌝ }
     ensures { λ r. ⌜ Wrote (now (room .entry)) at (effectText effect target) r (now (room .exit)) ⌝ }
 {
     if effect {
@@ -66,7 +67,7 @@ fn effect_text(room: &mut [u8], at: usize, effect: bool, target: u16) -> usize
 }
 
 fn rule_line(room: &mut [u8], at: usize, i: u32, rule: Rule) -> usize
-    requires { ⌜ Fits (now room) at (ruleLine i rule) ⌝ }
+    requires { ⌜ Space (now room) at (ruleLine i rule) ⌝ }
     ensures { λ r. ⌜ Wrote (now (room .entry)) at (ruleLine i rule) r (now (room .exit)) ⌝ }
 {
     let a = out::number(room, at, i);
@@ -79,7 +80,7 @@ fn rule_line(room: &mut [u8], at: usize, i: u32, rule: Rule) -> usize
 }
 
 fn rule_lines(room: &mut [u8], at: usize, image: &[u8], rules: u32) -> usize
-    requires { ⌜ (rulePlace rules ≤ length (now image)) × Fits (now room) at (flat rules (ruleLineAt (now image))) ⌝ }
+    requires { ⌜ (rulePlace rules ≤ length (now image)) × Space (now room) at (flat rules (ruleLineAt (now image))) ⌝ }
     ensures { λ r. ⌜ Wrote (now (room .entry)) at (flat rules (ruleLineAt (now (image .entry)))) r (now (room .exit)) ⌝ }
 {
     let mut next = at;
@@ -93,7 +94,7 @@ fn rule_lines(room: &mut [u8], at: usize, image: &[u8], rules: u32) -> usize
 
 // The three operators by name, a mark by its number.
 fn word_text(room: &mut [u8], at: usize, word: u16) -> usize
-    requires { ⌜ Fits (now room) at (wordText word) ⌝ }
+    requires { ⌜ Space (now room) at (wordText word) ⌝ }
     ensures { λ r. ⌜ Wrote (now (room .entry)) at (wordText word) r (now (room .exit)) ⌝ }
 {
     match word {
@@ -106,7 +107,7 @@ fn word_text(room: &mut [u8], at: usize, word: u16) -> usize
 
 // So many words from the byte `from`.
 fn words_text(room: &mut [u8], at: usize, image: &[u8], from: usize, count: u32) -> usize
-    requires { ⌜ (from + wordSize * count ≤ length (now image)) × Fits (now room) at (packed wordText (wordsFrom (now image) from count)) ⌝ }
+    requires { ⌜ (from + wordSize * count ≤ length (now image)) × Space (now room) at (packed wordText (wordsFrom (now image) from count)) ⌝ }
     ensures { λ r. ⌜ Wrote (now (room .entry)) at (packed wordText (wordsFrom (now (image .entry)) from count)) r (now (room .exit)) ⌝ }
 {
     let mut next = at;
@@ -119,7 +120,7 @@ fn words_text(room: &mut [u8], at: usize, image: &[u8], from: usize, count: u32)
 }
 
 fn condition_line(room: &mut [u8], at: usize, image: &[u8], c: u32, from: usize, count: u32) -> usize
-    requires { ⌜ (from + wordSize * count ≤ length (now image)) × Fits (now room) at (conditionLine c (wordsFrom (now image) from count)) ⌝ }
+    requires { ⌜ (from + wordSize * count ≤ length (now image)) × Space (now room) at (conditionLine c (wordsFrom (now image) from count)) ⌝ }
     ensures { λ r. ⌜ Wrote (now (room .entry)) at (conditionLine c (wordsFrom (now (image .entry)) from count)) r (now (room .exit)) ⌝ }
 {
     let a = out::named(room, at, b"cond ", c);
@@ -129,7 +130,7 @@ fn condition_line(room: &mut [u8], at: usize, image: &[u8], c: u32, from: usize,
 }
 
 fn condition_lines(room: &mut [u8], at: usize, image: &[u8], rules: u32, conditions: u32) -> usize
-    requires { ⌜ ConditionsIn (now image) rules conditions × Fits (now room) at (flat conditions (conditionLineAt (now image) rules conditions)) ⌝ }
+    requires { ⌜ ConditionsIn (now image) rules conditions × Space (now room) at (flat conditions (conditionLineAt (now image) rules conditions)) ⌝ }
     ensures { λ r. ⌜ Wrote (now (room .entry)) at (flat conditions (conditionLineAt (now (image .entry)) rules conditions)) r (now (room .exit)) ⌝ }
 {
     let words = book::header::words_from(rules, conditions);
@@ -146,7 +147,7 @@ fn condition_lines(room: &mut [u8], at: usize, image: &[u8], rules: u32, conditi
 
 // The whole book, from the start of the room.
 pub fn book_text(room: &mut [u8], image: &[u8]) -> usize
-    requires { ⌜ WellFormed (now image) × Fits (now room) 0 (bookText (bookOf (now image))) ⌝ }
+    requires { ⌜ WellFormed (now image) × Space (now room) 0 (bookText (bookOf (now image))) ⌝ }
     ensures { λ r. ⌜ Wrote (now (room .entry)) 0 (bookText (bookOf (now (image .entry)))) r (now (room .exit)) ⌝ }
 {
     let h = book::header::counts_at(image);

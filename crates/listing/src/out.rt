@@ -2,8 +2,9 @@
 ghost use mathlib.Core.List.{[], _∷_, _++_};
 ghost use Prim.Native.Nat.{_<_};
 ghost use lib.ListN.{length};
-ghost use Rattle.deriver.specs.Writing.{Fits, Wrote};
-ghost use Rattle.listing.specs.Text.{digit, decimal};
+ghost use Rattle.deriver.specs.Writing.{Wrote};
+ghost use Rattle.listing.specs.Text.{decimal};
+ghost use Rattle.listing.specs.Writers.{Space};
 
 fn byte(room: &mut [u8], at: usize, b: u8) -> usize
     requires { ⌜ at < length (now room) ⌝ }
@@ -14,7 +15,7 @@ fn byte(room: &mut [u8], at: usize, b: u8) -> usize
 }
 
 pub fn text(room: &mut [u8], at: usize, s: &[u8]) -> usize
-    requires { ⌜ Fits (now room) at (now s) ⌝ }
+    requires { ⌜ Space (now room) at (now s) ⌝ }
     ensures { λ r. ⌜ Wrote (now (room .entry)) at (now (s .entry)) r (now (room .exit)) ⌝ }
 {
     let mut i = 0;
@@ -27,7 +28,7 @@ pub fn text(room: &mut [u8], at: usize, s: &[u8]) -> usize
 
 // A number in decimal.
 pub fn number(room: &mut [u8], at: usize, n: u32) -> usize
-    requires { ⌜ Fits (now room) at (decimal n) ⌝ }
+    requires { ⌜ Space (now room) at (decimal n) ⌝ }
     ensures { λ r. ⌜ Wrote (now (room .entry)) at (decimal n) r (now (room .exit)) ⌝ }
 {
     if n < 10 {
@@ -39,7 +40,7 @@ pub fn number(room: &mut [u8], at: usize, n: u32) -> usize
 
 // A word, and a number behind it.
 pub fn named(room: &mut [u8], at: usize, name: &[u8], n: u32) -> usize
-    requires { ⌜ Fits (now room) at (now name ++ decimal n) ⌝ }
+    requires { ⌜ Space (now room) at (now name ++ decimal n) ⌝ }
     ensures { λ r. ⌜ Wrote (now (room .entry)) at (now (name .entry) ++ decimal n) r (now (room .exit)) ⌝ }
 {
     let next = text(room, at, name);
