@@ -1,0 +1,33 @@
+-- `listing::lines::condition_lines` meets its contract. Assumes nothing.
+use Prim.Native.Nat.{_-_}
+use borrow.Author.Needs.{needs}
+use Rattle.listing.specs.Lines.{conditionLineAt}
+use Rattle.listing.specs.Writers.{Lines, lines-start, lines-length, lines-done, condition-fits, condition-more}
+use Rattle.listing.proofs.lines.condition_lines.Statement.{statement}
+use Rattle.listing.proofs.lines.condition_lines.Tie as tie
+
+abbrev Inv-loop : tie.InvT-loop
+Inv-loop room₀ at image rules conditions words next₀ c₀ room next c = Lines (conditionLineAt image rules conditions) conditions room₀ at c next room
+
+abbrev μ-loop : tie.MeasureT-loop
+μ-loop room₀ at image rules conditions words next₀ c₀ room next c = conditions - c
+
+pub condition-lines-spec : {M : Type 1} → statement M
+condition-lines-spec =
+    tie.close
+    (tie.spec
+    Inv-loop
+    μ-loop
+    (λ c κs. search needs)
+    (λ c. lines-start _ _ _ _)
+    (λ c. search needs)
+    (λ c κs. search needs)
+    (λ c. search needs)
+    (λ c. search needs)
+    (λ c. search needs)
+    (λ c κs. condition-fits _ _ _ (c .before .before .before .before .before .before .before .before .pre .0) _ (c .before .before .before .loop-test .taken) _ (c .before .before .before .before .before .words-from .ensures) _ (c .before .before .condition-at .ensures) _ _ _ _ (c .before .before .before .before .loop .inv) (c .before .before .before .before .before .before .before .before .pre .1))
+    (λ c. search needs)
+    (λ c. search needs)
+    (λ c. condition-more _ _ _ (c .before .before .before .before .before .before .before .before .before .before .before .pre .0) _ (c .before .before .before .before .before .before .loop-test .taken) _ (c .before .before .before .before .before .before .before .before .words-from .ensures) _ (c .before .before .before .before .before .condition-at .ensures) _ _ _ _ (c .before .before .before .before .before .before .before .loop .inv) _ _ (c .before .before .condition-line .ensures))
+    (λ c. lines-length _ _ _ _ _ _ _ (c .before .loop .inv))
+    (λ c. search lines-done))

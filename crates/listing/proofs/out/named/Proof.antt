@@ -1,0 +1,15 @@
+-- `listing::out::named` meets its contract. Assumes nothing.
+use borrow.Author.Needs.{needs}
+use Rattle.deriver.specs.Writing.{then}
+use Rattle.listing.specs.Writers.{fits₁, last₂}
+use Rattle.listing.proofs.out.named.Statement.{statement}
+use Rattle.listing.proofs.out.named.Tie as tie
+
+pub named-spec : {M : Type 1} → statement M
+named-spec =
+    tie.close
+    (tie.spec
+    (λ c κs. search fits₁)
+    (λ c κs. search last₂)
+    (λ c. search needs)
+    (λ c. search then))

@@ -1,0 +1,8 @@
+-- The root of the crate's specs.
+pub mod Limits
+pub mod Text
+pub mod Lines
+pub mod Writers
+pub mod Bounds
+pub mod Listing
+pub mod Rows

@@ -1,0 +1,44 @@
+-- The paper's chart, whole: its 34 bytes give exactly the paper's text. Assumes nothing.
+use mathlib.Core.Path.{_≡_, refl, ap, _∙_}
+use mathlib.Core.List.{List}
+use Prim.Native.Nat.{ℕ}
+use lib.ListN.{length}
+use Rattle.paper.specs.Answers.{granted}
+use Rattle.paper.specs.declared.Answer.{Answer}
+use Rattle.sets.specs.Set.{has}
+use Rattle.graph.specs.Tests.{rowSpill, spillAt, spillOf, fitTables, fitChart}
+use Rattle.chart.specs.declared.Reading.{Reading}
+use Rattle.chart.specs.Examples.{wholeChart}
+use Rattle.chart.specs.Examples as chart
+use Rattle.book.specs.Book.{Book, textOf}
+use Rattle.book.specs.Lists.{flat, packed}
+use Rattle.book.specs.ImageOf.{imageOf, image-length}
+use Rattle.deriver.specs.Derived.{derivedBook}
+use Rattle.deriver.specs.Deriving.{derivedImage, derivingAnswer}
+use Rattle.deriver.specs.Rows.{paperChart, paperBook}
+use Rattle.deriver.specs.Rows as deriver
+use Rattle.listing.specs.Limits.{listingBook}
+use Rattle.listing.specs.Text.{ascii, decimalIn, decimal, countsLine, triggerText, senseText, effectText, ruleLine, wordText, conditionLine, bookText, unlessRefused, chartText, imageText, listingText}
+
+abbrev pub paperText : List ℕ
+paperText =
+    ascii "stages 2 marks 8 rules 10 conditions 2 words 7\n0 on 0 clear 7\n1 on 0 set 6\n2 on 0 set 2\n3 on 1 clear 4\n4 on 1 set 7\n5 on 1 set 3\n6 if 0 set 0\n7 unless 0 clear 0\n8 if 1 set 1\n9 unless 1 clear 1\ncond 0: 4\ncond 1: 5 4 not 2 or and\n"
+
+book-text : bookText paperBook ≡ paperText
+unfolding bookText conditionLine wordText ruleLine effectText senseText triggerText countsLine decimal decimalIn textOf flat packed
+book-text = refl
+
+image-size : length (derivedImage paperChart) ≡ 162
+image-size = ap (λ (b : Book). length (imageOf b)) (deriver.rows .book) ∙ image-length paperBook
+
+derived : derivingAnswer paperChart listingBook ≡ granted
+unfolding derivingAnswer fitChart fitTables spillOf spillAt rowSpill has
+derived = rw image-size
+
+pub paper-listing : listingText wholeChart ≡ paperText
+unfolding imageText chartText
+paper-listing =
+    ap (λ (r : Reading). unlessRefused (r .answer) (chartText (r .chart))) (chart.rows .whole)
+    ∙ ap (λ (a : Answer). unlessRefused a (bookText (derivedBook paperChart))) derived
+    ∙ ap bookText (deriver.rows .book)
+    ∙ book-text

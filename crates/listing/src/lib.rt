@@ -1,0 +1,80 @@
+// The listing of a chart's rule book, as text in lent room.
+ghost use mathlib.Core.Path.{_≡_};
+ghost use Prim.Native.Nat.{_≤_};
+ghost use lib.ListN.{length};
+ghost use Rattle.deriver.specs.Writing.{Wrote};
+ghost use Rattle.listing.specs.Limits.{maxListing};
+ghost use Rattle.listing.specs.Text.{refusalLine, chartText, imageText};
+ghost use Rattle.listing.specs.Listing.{listedLength, listedRoom};
+ghost use Rattle.listing.specs.Writers.{Space};
+use graph::FlatChart;
+use paper::Answer;
+use paper::WORD_SIZE;
+
+mod lines;
+mod out;
+
+// How many bytes of a chart the listing reads: the longest image, and one byte more, which shows a longer input for what it is.
+pub const LISTING_INPUT: usize = 25097;
+
+// Into how many bytes it derives.
+pub const LISTING_BOOK: usize = 49152;
+
+// How many bytes its text has at most.
+pub const MAX_LISTING: usize = 159744;
+
+// "A refusal of the reader or the deriver prints one line only"
+fn refusal_line(room: &mut [u8], answer: Answer) -> usize
+    requires { ⌜ Space (now room) 0 (refusalLine answer) ⌝ }
+    ensures { λ r. ⌜ Wrote (now (room .entry)) 0 (refusalLine answer) r (now (room .exit)) ⌝ }
+{
+    let a = out::named(room, 0, b"refused ", answer.code);
+    let b = out::named(room, a, b" ", answer.place);
+    let c = out::named(room, b, b" ", answer.other);
+    out::text(room, c, b"\n")
+}
+
+// The derived book's text, or the deriver's refusal.
+fn chart_text(room: &mut [u8], chart: FlatChart) -> usize
+    requires { ⌜ maxListing ≤ length (now room) ⌝ }
+    ensures { λ r. ⌜ Wrote (now (room .entry)) 0 (chartText chart) r (now (room .exit)) ⌝ }
+{
+    let mut bytes = [0u8; LISTING_BOOK];
+    let answer = deriver::derive(chart, &mut bytes);
+    if answer.code != 0 {
+        return refusal_line(room, answer);
+    }
+    let h = book::header::counts_at(&bytes);
+    let words = book::header::words_from(h.rules, h.conditions);
+    let end = words + WORD_SIZE * h.words as usize;
+    lines::book_text(room, &bytes[..end])
+}
+
+// What the chart's image gives, or the reader's refusal.
+fn image_text(room: &mut [u8], image: &[u8]) -> usize
+    requires { ⌜ maxListing ≤ length (now room) ⌝ }
+    ensures { λ r. ⌜ Wrote (now (room .entry)) 0 (imageText (now (image .entry))) r (now (room .exit)) ⌝ }
+{
+    let reading = chart::read(image);
+    let answer = reading.answer;
+    if answer.code != 0 {
+        return refusal_line(room, answer);
+    }
+    let chart = reading.chart;
+    chart_text(room, chart)
+}
+
+// The listing of a chart from the start of the room, and its length in bytes, which is never 0.
+// A room of under `MAX_LISTING` bytes is left as it was, and the length is then 0.
+// Stack: about 70 KiB, of which the derived book takes 48.
+pub fn list(input: &[u8], room: &mut [u8]) -> usize
+    ensures { λ r. ⌜ (r ≡ listedLength (now (input .entry)) (now (room .entry))) × (now (room .exit) ≡ listedRoom (now (input .entry)) (now (room .entry))) ⌝ }
+{
+    if room.len() < MAX_LISTING {
+        return 0;
+    }
+    if input.len() <= LISTING_INPUT {
+        return image_text(room, input);
+    }
+    image_text(room, &input[..LISTING_INPUT])
+}
