@@ -9,7 +9,7 @@ use Rattle.graph.specs.Steps.{isOpen}
 use Rattle.graph.specs.declared.FlatChart.{FlatChart}
 use Rattle.graph.specs.declared.Marking.{Marking}
 use Rattle.deriver.specs.Matching.{markOf}
-use Rattle.deriver.specs.Derived.{executedMark, includedMark, answeredMark}
+use Rattle.derived.specs.Derived.{executedMark, includedMark, answeredMark}
 
 module _ (c : FlatChart) (m : Marking) (f : ℕ) (h : f < c .count) where
   pub match-stage : markOf c m f ≡ isOpen c m f

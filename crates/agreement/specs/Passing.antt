@@ -20,8 +20,8 @@ use Rattle.book.specs.declared.Rule.{Rule}
 use Rattle.orders.specs.Order.{NoLoop}
 use Rattle.orders.specs.Running.{turn}
 use Rattle.ordering.specs.Rules.{netOf}
-use Rattle.judge.specs.Clash.{clash, opposed, apart, otherStages, completesOther, oppositeSenses, isWritten, isNegated, NoClash}
-use Rattle.deriver.specs.Derived.{executedMark, includedMark, answeredMark, on, opens, closes, listed, clause, textFor, inclusion, responding, answering, executing, derivedText, derivedBook, derivedRules, derived-text, join}
+use Rattle.clashes.specs.Clash.{clash, opposed, apart, otherStages, completesOther, oppositeSenses, isWritten, isNegated, NoClash}
+use Rattle.derived.specs.Derived.{executedMark, includedMark, answeredMark, on, opens, closes, listed, clause, textFor, inclusion, responding, answering, executing, derivedText, derivedBook, derivedRules, derived-text, join}
 
 all-elem : (P : ℕ → Type 0) (l : List ℕ) → All P l → (k : ℕ) → elem k l ≡ true → P k
 unfolding elem

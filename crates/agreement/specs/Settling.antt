@@ -20,7 +20,7 @@ use Rattle.book.specs.declared.Rule.{Rule}
 use Rattle.orders.specs.Settle.{Settled}
 use Rattle.ordering.specs.Rules.{netOf, actsOf}
 use Rattle.deriver.specs.Matching.{markOf}
-use Rattle.deriver.specs.Derived.{executedMark, includedMark, answeredMark, on, inclusion, responding, answering, derivedText, derivedBook, derivedRules, derived-text, Parts, join, parts}
+use Rattle.derived.specs.Derived.{executedMark, includedMark, answeredMark, on, inclusion, responding, answering, derivedText, derivedBook, derivedRules, derived-text, Parts, join, parts}
 use Rattle.agreement.specs.Matching.{match-stage, match-executed, match-included, match-answered, match-past}
 use Rattle.agreement.specs.Texts.{text-open}
 

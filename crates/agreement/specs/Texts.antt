@@ -18,7 +18,7 @@ use Rattle.graph.specs.declared.Marking.{Marking}
 use Rattle.book.specs.Text.{Snap, push, top1, top2, eval, top, holds}
 use Rattle.book.specs.Lists.{flat}
 use Rattle.deriver.specs.Matching.{markOf}
-use Rattle.deriver.specs.Derived.{executedMark, includedMark, answeredMark, listed, clause, textFor, derivedText}
+use Rattle.derived.specs.Derived.{executedMark, includedMark, answeredMark, listed, clause, textFor, derivedText}
 use Rattle.agreement.specs.Matching.{match-executed, match-included, match-answered}
 
 -- ---- what the words do

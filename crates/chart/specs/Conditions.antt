@@ -12,9 +12,9 @@ use Rattle.paper.specs.Limits.{maxNodes, maxRelations, chartHeader, noParent, m
 use Rattle.sets.specs.Cases.{contra, cases, both, either, neither, all3, or-left, or-right, not-so}
 use Rattle.sets.specs.Below.{some, some-of, some-at, some-none, first, first-is, first-found, Lowest}
 use Rattle.graph.specs.Chart.{Kind, include, exclude}
-use Rattle.chart.specs.Image.{nodes, relations, nodesOffset, relationsOffset, nodeAt, relationAt, parentOf, flagsOf, fromOf, toOf, kindOf, outOfRange, misplaced, badNodeAt, badRelationAt}
-use Rattle.chart.specs.Nesting.{parent, Nested, AtOrAbove, OnLoop, nested, atOrAbove, onLoopAt, isGroup, eventCount, eventNode, flaggedGroupAt, nested-so}
-use Rattle.chart.specs.Flattening.{kindNumber, Flattened, leads, related, conflict, conflictAt}
+use Rattle.records.specs.Image.{nodes, relations, nodesOffset, relationsOffset, nodeAt, relationAt, parentOf, flagsOf, fromOf, toOf, kindOf, outOfRange, misplaced, badNodeAt, badRelationAt}
+use Rattle.nesting.specs.Nesting.{parent, Nested, AtOrAbove, OnLoop, nested, atOrAbove, onLoopAt, isGroup, eventCount, eventNode, flaggedGroupAt, nested-so}
+use Rattle.flattening.specs.Flattening.{kindNumber, Flattened, leads, related, conflict, conflictAt}
 
 -- P holds of no number below n
 abbrev pub Never : ℕ → (ℕ → Type 0) → Type 0

@@ -11,9 +11,9 @@ use Rattle.sets.specs.Tables.{tabulate}
 use Rattle.wire.specs.Wire.{u16At}
 use Rattle.reach.specs.Closure.{within}
 use Rattle.chart.specs.declared.Reading.{Reading}
-use Rattle.chart.specs.Image.{outOfRange, misplaced, badNodeAt, badRelationAt}
-use Rattle.chart.specs.Nesting.{parent, nested, atOrAbove, onLoopAt, isGroup, eventNode, flaggedGroupAt}
-use Rattle.chart.specs.Flattening.{leads, related, entered, flatSet, flatTable, flatChart, flagged, startMarking, conflict, conflictAt}
+use Rattle.records.specs.Image.{outOfRange, misplaced, badNodeAt, badRelationAt}
+use Rattle.nesting.specs.Nesting.{parent, nested, atOrAbove, onLoopAt, isGroup, eventNode, flaggedGroupAt}
+use Rattle.flattening.specs.Flattening.{leads, related, entered, flatSet, flatTable, flatChart, flagged, startMarking, conflict, conflictAt}
 use Rattle.chart.specs.Reading.{refused, conflictFrom, conflictTo, readingRelations, readingNodes, reading}
 
 -- "One chart, whole": event 0 is a condition of 1 and has 1 as response; 1 excludes 0 and is pending

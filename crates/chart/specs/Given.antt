@@ -20,11 +20,11 @@ use Rattle.sets.specs.Tables.{tabulate, length-tabulate, getD-tabulate}
 use Rattle.reach.specs.Closure.{hop, join}
 use Rattle.graph.specs.Chart.{Kind, condition, response, milestone, include, exclude, table, setOf, In, Fit, FitMarking}
 use Rattle.chart.specs.declared.Reading.{Reading}
-use Rattle.chart.specs.Numbering.{tally-lt, tally-find, first-numbered, tally-grows}
-use Rattle.chart.specs.Image.{nodes, flagsOf}
-use Rattle.chart.specs.Nesting.{parent, OnLoop, nested, isGroup, isEvent, number, eventCount, eventNode, nested-so}
-use Rattle.chart.specs.Flattening.{kindNumber, Flattened, entered, flatSet, flatTable, flatChart, flagged, startMarking}
-use Rattle.chart.specs.Meaning.{flat-has}
+use Rattle.nesting.specs.Numbering.{tally-lt, tally-find, first-numbered, tally-grows}
+use Rattle.records.specs.Image.{nodes, flagsOf}
+use Rattle.nesting.specs.Nesting.{parent, OnLoop, nested, isGroup, isEvent, number, eventCount, eventNode, nested-so}
+use Rattle.flattening.specs.Flattening.{kindNumber, Flattened, entered, flatSet, flatTable, flatChart, flagged, startMarking}
+use Rattle.flattening.specs.Meaning.{flat-has}
 use Rattle.chart.specs.Reading.{refused, grantedReading, reading}
 use Rattle.chart.specs.Conditions.{Never, member-in, group-so, related-so}
 use Rattle.chart.specs.Outcome.{AllRight, Refused, Granted, ends, outcome}

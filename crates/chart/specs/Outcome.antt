@@ -14,9 +14,9 @@ use Rattle.paper.specs.declared.Answer.{Answer}
 use Rattle.sets.specs.Cases.{contra, cases}
 use Rattle.sets.specs.Below.{some, first, Lowest}
 use Rattle.chart.specs.declared.Reading.{Reading}
-use Rattle.chart.specs.Image.{nodes, relations, outOfRange, misplaced, badNodeAt, badRelationAt}
-use Rattle.chart.specs.Nesting.{OnLoop, onLoopAt, flaggedGroupAt, eventCount}
-use Rattle.chart.specs.Flattening.{conflictAt}
+use Rattle.records.specs.Image.{nodes, relations, outOfRange, misplaced, badNodeAt, badRelationAt}
+use Rattle.nesting.specs.Nesting.{OnLoop, onLoopAt, flaggedGroupAt, eventCount}
+use Rattle.flattening.specs.Flattening.{conflictAt}
 use Rattle.chart.specs.Reading.{refused, grantedReading, conflictFrom, conflictTo, readingRelations, readingNodes, reading}
 use Rattle.chart.specs.Conditions.{Never, InRange, Laid, BadNode, FlaggedGroup, BadRelation, Conflict, Conflicting, range-right, laid-right, node-bad, relation-bad, loop-so, flagged-so, conflict-so, conflicting-so, lowest-of, never-of, lowest-some, lowest-first, never-none}
 

@@ -10,9 +10,9 @@ use Rattle.paper.specs.declared.Answer.{Answer}
 use Rattle.sets.specs.Below.{some, first}
 use Rattle.graph.specs.Chart.{emptyChart, emptyMarking}
 use Rattle.chart.specs.declared.Reading.{Reading}
-use Rattle.chart.specs.Image.{nodes, relations, outOfRange, misplaced, badNodeAt, badRelationAt}
-use Rattle.chart.specs.Nesting.{onLoopAt, flaggedGroupAt, eventCount}
-use Rattle.chart.specs.Flattening.{flatChart, startMarking, conflict, conflictAt}
+use Rattle.records.specs.Image.{nodes, relations, outOfRange, misplaced, badNodeAt, badRelationAt}
+use Rattle.nesting.specs.Nesting.{onLoopAt, flaggedGroupAt, eventCount}
+use Rattle.flattening.specs.Flattening.{flatChart, startMarking, conflict, conflictAt}
 
 -- "A refused reading gives an empty flat chart with count 0 and an empty marking"
 abbrev pub refused : Answer → Reading

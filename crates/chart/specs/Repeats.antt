@@ -12,10 +12,10 @@ use Rattle.sets.specs.Below.{some, some-of, some-at, some-same, first, first-sa
 use Rattle.sets.specs.Tables.{tabulate-same}
 use Rattle.reach.specs.Closure.{within}
 use Rattle.graph.specs.Chart.{Kind, condition, response, milestone, include, exclude}
-use Rattle.chart.specs.Scan.{collect-same}
-use Rattle.chart.specs.Image.{nodes, relations, parentOf, flagsOf, fromOf, toOf, kindOf, badNodeAt, badRelationAt}
-use Rattle.chart.specs.Nesting.{parent, nested, atOrAbove, onLoopAt, isGroup, isEvent, number, eventCount, eventNode, flaggedGroupAt}
-use Rattle.chart.specs.Flattening.{kindNumber, holdsBack, leads, related, entered, flatSet, flatTable, flatChart, flagged, startMarking, conflict, conflictAt}
+use Rattle.records.specs.Scan.{collect-same}
+use Rattle.records.specs.Image.{nodes, relations, parentOf, flagsOf, fromOf, toOf, kindOf, badNodeAt, badRelationAt}
+use Rattle.nesting.specs.Nesting.{parent, nested, atOrAbove, onLoopAt, isGroup, isEvent, number, eventCount, eventNode, flaggedGroupAt}
+use Rattle.flattening.specs.Flattening.{kindNumber, holdsBack, leads, related, entered, flatSet, flatTable, flatChart, flagged, startMarking, conflict, conflictAt}
 use Rattle.paper.specs.Limits.{maxEvents, badNode, parentsLoop, groupFlags}
 use Rattle.chart.specs.declared.Reading.{Reading}
 use Rattle.chart.specs.Reading.{refuseFirst, conflictFrom, conflictTo, readingRelations, readingNodes, reading}

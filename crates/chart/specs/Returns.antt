@@ -16,13 +16,13 @@ use Rattle.sets.specs.Below.{some, some-of, some-none, first, first-is, tally}
 use Rattle.graph.specs.declared.FlatChart.{FlatChart}
 use Rattle.graph.specs.declared.Marking.{Marking}
 use Rattle.chart.specs.declared.Reading.{Reading}
-use Rattle.chart.specs.Image.{nodes, relations, nodesOffset, relationsOffset, nodeAt, relationAt, outOfRange, misplaced, badNodeAt, badRelationAt, Whole}
-use Rattle.chart.specs.Nesting.{isEvent, onLoopAt, flaggedGroupAt, eventCount}
-use Rattle.chart.specs.Flattening.{conflict, conflictAt}
-use Rattle.chart.specs.Tables.{Groups, isEventIn, flaggedIn, EventNodes}
-use Rattle.chart.specs.Climbing.{straight-is}
-use Rattle.chart.specs.Cells.{Members, Good, good-of, Gathered, Flat, bothAt, conflictIn, chartOf, markingBy}
-use Rattle.chart.specs.Meaning.{Ground, flags-are, count-is, from-is, to-is, chart-is, marking-is}
+use Rattle.records.specs.Image.{nodes, relations, nodesOffset, relationsOffset, nodeAt, relationAt, outOfRange, misplaced, badNodeAt, badRelationAt, Whole}
+use Rattle.nesting.specs.Nesting.{isEvent, onLoopAt, flaggedGroupAt, eventCount}
+use Rattle.flattening.specs.Flattening.{conflict, conflictAt}
+use Rattle.nesting.specs.Tables.{Groups, isEventIn, flaggedIn, EventNodes}
+use Rattle.nesting.specs.Climbing.{straight-is}
+use Rattle.flattening.specs.Cells.{Members, Good, good-of, Gathered, Flat, bothAt, conflictIn, chartOf, markingBy}
+use Rattle.flattening.specs.Meaning.{Ground, flags-are, count-is, from-is, to-is, chart-is, marking-is}
 use Rattle.chart.specs.Reading.{refused, refuseIf, refuseFirst, conflictFrom, conflictTo, readingRelations, readingNodes, reading}
 
 -- ---- a scan that stops before n has found one, and one that comes to n has not

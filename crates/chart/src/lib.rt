@@ -1,24 +1,20 @@
 // Reading a chart image: the flat chart and the start marking, or a refusal.
-mod flatten;
-mod image;
-mod nesting;
-
 ghost use mathlib.Core.Path.{_≡_};
 ghost use Prim.Native.Nat.{ℕ, _+_, _≤_, _<_};
 ghost use lib.ListN.{length, getD};
 ghost use Rattle.paper.specs.Limits.{maxEvents, nodeSize};
 ghost use Rattle.paper.specs.Answers.{answer};
-ghost use Rattle.chart.specs.Image.{nodeAt, Whole};
-ghost use Rattle.chart.specs.Cells.{chartOf, markingBy};
-ghost use Rattle.chart.specs.Meaning.{Ground};
+ghost use Rattle.records.specs.Image.{nodeAt, Whole};
+ghost use Rattle.flattening.specs.Cells.{chartOf, markingBy};
+ghost use Rattle.flattening.specs.Meaning.{Ground};
 ghost use Rattle.chart.specs.Reading.{refused, readingRelations, readingNodes, reading};
-use flatten::CELLS;
-use flatten::CONDITION;
-use flatten::EXCLUDE;
-use flatten::GATHERED;
-use flatten::INCLUDE;
-use flatten::MILESTONE;
-use flatten::RESPONSE;
+use flattening::CELLS;
+use flattening::CONDITION;
+use flattening::EXCLUDE;
+use flattening::GATHERED;
+use flattening::INCLUDE;
+use flattening::MILESTONE;
+use flattening::RESPONSE;
 use graph::FlatChart;
 use graph::Marking;
 use paper::Answer;
@@ -58,11 +54,11 @@ fn flat_chart(events: usize, tables: &[u64; CELLS]) -> FlatChart
 {
     FlatChart {
         count: events as u32,
-        conditions: flatten::table(tables, CONDITION),
-        responses: flatten::table(tables, RESPONSE),
-        milestones: flatten::table(tables, MILESTONE),
-        includes: flatten::table(tables, INCLUDE),
-        excludes: flatten::table(tables, EXCLUDE),
+        conditions: flattening::table(tables, CONDITION),
+        responses: flattening::table(tables, RESPONSE),
+        milestones: flattening::table(tables, MILESTONE),
+        includes: flattening::table(tables, INCLUDE),
+        excludes: flattening::table(tables, EXCLUDE),
     }
 }
 
@@ -71,9 +67,9 @@ fn start_marking(image: &[u8], nodes: &[usize; MAX_EVENTS], events: usize) -> Ma
     ensures { λ r. ⌜ r ≡ markingBy (now (image .entry)) (now (nodes .entry)) events ⌝ }
 {
     Marking {
-        executed: flatten::flagged(image, nodes, events, 0),
-        pending: flatten::flagged(image, nodes, events, 1),
-        included: flatten::flagged(image, nodes, events, 2),
+        executed: flattening::flagged(image, nodes, events, 0),
+        pending: flattening::flagged(image, nodes, events, 1),
+        included: flattening::flagged(image, nodes, events, 2),
     }
 }
 
@@ -89,16 +85,16 @@ fn read_relations(
     ensures { λ r. ⌜ r ≡ readingRelations (now (image .entry)) ⌝ }
 {
     let nodes = nesting::event_nodes(groups, n);
-    let members = flatten::members(image, n, k, &nodes, events);
+    let members = flattening::members(image, n, k, &nodes, events);
     let mut gathered = [0u64; GATHERED];
-    let bad = flatten::gather(image, n, k, &members, &mut gathered);
+    let bad = flattening::gather(image, n, k, &members, &mut gathered);
     if bad < k {
         return refuse(BAD_RELATION, bad as u32, 0);
     }
-    let tables = flatten::flatten(image, n, k, &gathered, &nodes, events);
-    let from = flatten::first_conflict(&tables, events);
+    let tables = flattening::flatten(image, n, k, &gathered, &nodes, events);
+    let from = flattening::first_conflict(&tables, events);
     if from < events {
-        let to = sets::least(flatten::both_at(&tables, from));
+        let to = sets::least(flattening::both_at(&tables, from));
         return refuse(INCLUDE_EXCLUDE, from as u32, to);
     }
     Reading {
@@ -113,7 +109,7 @@ fn read_nodes(image: &[u8], n: usize, k: usize) -> Reading
     requires { ⌜ Whole (now image) n k ⌝ }
     ensures { λ r. ⌜ r ≡ readingNodes (now (image .entry)) ⌝ }
 {
-    let bad = image::first_bad_node(image, n, k);
+    let bad = records::first_bad_node(image, n, k);
     if bad < n {
         return refuse(BAD_NODE, bad as u32, 0);
     }
@@ -142,12 +138,12 @@ pub fn read(image: &[u8]) -> Reading
     if image.len() < CHART_HEADER {
         return refuse(CHART_SHORT, 0, 0);
     }
-    let n = image::node_count(image);
-    let k = image::relation_count(image);
-    if image::out_of_range(image) {
+    let n = records::node_count(image);
+    let k = records::relation_count(image);
+    if records::out_of_range(image) {
         return refuse(CHART_COUNT, 0, 0);
     }
-    if image::misplaced(image, n, k) {
+    if records::misplaced(image, n, k) {
         return refuse(CHART_LENGTH, 0, 0);
     }
     read_nodes(image, n, k)

@@ -27,8 +27,8 @@ use Rattle.book.specs.Judging.{imageAnswer}
 use Rattle.book.specs.WellFormed.{WellFormed, well-granted}
 use Rattle.book.specs.Using.{triggerExists, senseExists, RuleFormed}
 use Rattle.book.specs.Formed.{FormedBook, formed-image}
-use Rattle.deriver.specs.Derived.{includedMark, executedMark, answeredMark, listed, clause, on, inclusion, responding, answering, textFor, derivedRules, derivedText, derivedCondition, derivedBook, derived-text, join}
-use Rattle.deriver.specs.Sizes.{conditions-length, rules-most, words-most}
+use Rattle.derived.specs.Derived.{includedMark, executedMark, answeredMark, listed, clause, on, inclusion, responding, answering, textFor, derivedRules, derivedText, derivedCondition, derivedBook, derived-text, join}
+use Rattle.derived.specs.Sizes.{conditions-length, rules-most, words-most}
 use Rattle.deriver.specs.Deriving.{derivedImage}
 
 -- ---- how deep the stack gets

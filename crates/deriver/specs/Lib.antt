@@ -1,11 +1,4 @@
 -- The root of the crate's specs.
-pub mod Derived
-pub mod Members
-pub mod Writing
-pub mod Sizes
-pub mod Loops
-pub mod Tables
-pub mod Written
 pub mod Deriving
 pub mod Formed
 pub mod Matching

@@ -23,7 +23,7 @@ use Rattle.graph.specs.declared.Marking.{Marking}
 use Rattle.book.specs.Text.{Snap, snapOf}
 use Rattle.book.specs.Lists.{flat-step, flat-same, each, length-each, getD-each}
 use Rattle.deriver.specs.declared.Matched.{Matched}
-use Rattle.deriver.specs.Writing.{sets-append}
+use Rattle.derived.specs.Writing.{sets-append}
 
 module _ (c : FlatChart) (m : Marking) where
   unfoldable pub matchingMarks : List Bool

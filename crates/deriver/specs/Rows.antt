@@ -12,7 +12,7 @@ use Rattle.graph.specs.declared.FlatChart.{FlatChart}
 use Rattle.graph.specs.declared.Marking.{Marking}
 use Rattle.book.specs.Book.{Book, Condition}
 use Rattle.book.specs.Lists.{flat}
-use Rattle.deriver.specs.Derived.{on, opens, closes, inclusion, responding, answering, completion, textFor, eventRules, derivedRules, derivedText, derivedCondition, derivedBook}
+use Rattle.derived.specs.Derived.{on, opens, closes, inclusion, responding, answering, completion, textFor, eventRules, derivedRules, derivedText, derivedCondition, derivedBook}
 use Rattle.deriver.specs.Matching.{matchingMarks}
 
 -- "Event 0 is a condition of 1 and has 1 as response; 1 excludes 0 and is pending."

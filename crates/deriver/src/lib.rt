@@ -5,7 +5,7 @@ ghost use lib.ListN.{length};
 ghost use Rattle.paper.specs.Limits.{maxEvents, maxRules, bookHeader};
 ghost use Rattle.graph.specs.Chart.{chartOf};
 ghost use Rattle.book.specs.ImageOf.{headerBytes};
-ghost use Rattle.deriver.specs.Writing.{Wrote};
+ghost use Rattle.derived.specs.Writing.{Wrote};
 ghost use Rattle.deriver.specs.Deriving.{derivingAnswer, derivedRoom, bookRuns, BookReady};
 ghost use Rattle.deriver.specs.Matching.{matchingOf};
 use book::Snapshot;
@@ -21,8 +21,6 @@ use paper::UNFIT;
 use paper::WORD_SIZE;
 
 pub mod marks;
-mod rules;
-mod texts;
 
 // What matching gives: the snapshot, or every mark no beside the refusal.
 #[repr(C)]
@@ -66,10 +64,10 @@ fn put_book<'a>(
 {
     let a = put_header(room, n, rules, words);
     let n = n as usize;
-    let b = rules::put_completions(room, a, n, includes, excludes, responses);
-    let c = rules::put_stages(room, b, n);
-    let d = texts::put_conditions(room, c, n, conditions, milestones);
-    texts::put_texts(room, d, n, conditions, milestones)
+    let b = rule_writer::put_completions(room, a, n, includes, excludes, responses);
+    let c = rule_writer::put_stages(room, b, n);
+    let d = text_writer::put_conditions(room, c, n, conditions, milestones);
+    text_writer::put_texts(room, d, n, conditions, milestones)
 }
 
 // Deriving over lent tables: what `derive` does, with no copy of the chart.
@@ -88,8 +86,8 @@ pub fn derive_in<'a>(
         return paper::refused(UNFIT, 0, 0);
     }
     let n = count as usize;
-    let rules = rules::completions_size(n, includes, excludes, responses) + 2 * n;
-    let words = texts::texts_size(n, conditions, milestones);
+    let rules = rule_writer::completions_size(n, includes, excludes, responses) + 2 * n;
+    let words = text_writer::texts_size(n, conditions, milestones);
     let need = BOOK_HEADER + RULE_SIZE * rules + CONDITION_SIZE * n + WORD_SIZE * words;
     if room.len() < need {
         return paper::refused(BOOK_ROOM, need as u32, 0);

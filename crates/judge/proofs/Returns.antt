@@ -24,8 +24,8 @@ use Rattle.book.specs.declared.Counts.{Counts}
 use Rattle.ordering.specs.Rules.{netOf}
 use Rattle.ordering.specs.Nets.{rulesOf, count-is}
 use Rattle.judge.specs.Whole.{running-few, running-full}
-use Rattle.judge.specs.Places.{loopPlace, loop-fits, loop-place}
-use Rattle.judge.specs.Pairs.{clashFirst, clashSecond, second-fits}
+use Rattle.loops.specs.Places.{loopPlace, loop-fits, loop-place}
+use Rattle.clashes.specs.Pairs.{clashFirst, clashSecond, second-fits}
 use Rattle.judge.specs.Checking.{rulesAnswer, bookAnswer, checking, checkedRoom, targets, targets-in, book-answer, granted-room, refused-room}
 
 -- ---- a run copied to the front of a room

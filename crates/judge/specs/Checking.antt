@@ -22,9 +22,9 @@ use Rattle.book.specs.WellFormed.{WellFormed, Judged, short, count, layout, rul
 use Rattle.book.specs.Using.{rule-exists}
 use Rattle.ordering.specs.Rules.{netOf}
 use Rattle.ordering.specs.Nets.{rulesOf}
-use Rattle.judge.specs.Clash.{NoClash, Clashes, clashes-so}
-use Rattle.judge.specs.Pairs.{clashFirst, clashSecond, LowestClash, clash-fits, lowest-clash, clash-found, no-clash}
-use Rattle.judge.specs.Places.{loopPlace, loop-fits, loop-place}
+use Rattle.clashes.specs.Clash.{NoClash, Clashes, clashes-so}
+use Rattle.clashes.specs.Pairs.{clashFirst, clashSecond, LowestClash, clash-fits, lowest-clash, clash-found, no-clash}
+use Rattle.loops.specs.Places.{loopPlace, loop-fits, loop-place}
 
 -- ---- the answer
 

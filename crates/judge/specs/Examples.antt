@@ -18,9 +18,9 @@ use Rattle.book.specs.Read.{wordsFrom}
 use Rattle.book.specs.Judging.{countsFit, layoutFits, triggerFits, senseFits, ruleFits, conditionFits, firstBadRule, firstBadCondition, bodyAnswer, imageAnswer}
 use Rattle.book.specs.Firing.{awaits, reads, refers}
 use Rattle.ordering.specs.Rules.{netOf}
-use Rattle.judge.specs.Clash.{completesOther, otherStages, isWritten, isNegated, oppositeSenses, apart, opposed, clash}
-use Rattle.judge.specs.Pairs.{clashing, clashFirst, clashSecond}
-use Rattle.judge.specs.Places.{loopPlace}
+use Rattle.clashes.specs.Clash.{completesOther, otherStages, isWritten, isNegated, oppositeSenses, apart, opposed, clash}
+use Rattle.clashes.specs.Pairs.{clashing, clashFirst, clashSecond}
+use Rattle.loops.specs.Places.{loopPlace}
 use Rattle.judge.specs.Checking.{rulesAnswer, bookAnswer, checking, checkedRoom}
 
 -- a header of five counts and three offsets

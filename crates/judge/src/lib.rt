@@ -9,8 +9,8 @@ ghost use Rattle.orders.specs.Running.{runningOrder};
 ghost use Rattle.ordering.specs.Nets.{rulesOf};
 ghost use Rattle.ordering.specs.References.{References};
 ghost use Rattle.judge.specs.Checking.{rulesAnswer, checking, checkedRoom};
-use crate::clashes::first_clash;
-use crate::loops::loop_place;
+use clashes::first_clash;
+use loops::loop_place;
 use book::header::counts_at;
 use book::judging::judge_image;
 use ordering::references::REFS;
@@ -21,9 +21,6 @@ use paper::CLASH;
 use paper::LOOP;
 use paper::MAX_RULES;
 use paper::ORDER_ROOM;
-
-pub mod clashes;
-pub mod loops;
 
 fn copy(from: &[u16], n: usize, room: &mut [u16])
     requires { ⌜ (n ≤ length (now from)) × (n ≤ length (now room)) ⌝ }

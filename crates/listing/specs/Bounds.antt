@@ -15,9 +15,9 @@ use Rattle.graph.specs.declared.FlatChart.{FlatChart}
 use Rattle.graph.specs.Chart.{Fit}
 use Rattle.graph.specs.Tests.{fitChart}
 use Rattle.graph.specs.Fitness.{tested-fit}
-use Rattle.chart.specs.Image.{nodes, relations, outOfRange, misplaced, badNodeAt, badRelationAt}
-use Rattle.chart.specs.Nesting.{eventCount, isEvent, onLoopAt, flaggedGroupAt}
-use Rattle.chart.specs.Flattening.{conflict, conflictAt}
+use Rattle.records.specs.Image.{nodes, relations, outOfRange, misplaced, badNodeAt, badRelationAt}
+use Rattle.nesting.specs.Nesting.{eventCount, isEvent, onLoopAt, flaggedGroupAt}
+use Rattle.flattening.specs.Flattening.{conflict, conflictAt}
 use Rattle.chart.specs.Reading.{conflictFrom, conflictTo, readingRelations, readingNodes, reading}
 use Rattle.book.specs.Book.{Book, noRule, ruleOf, textOf}
 use Rattle.book.specs.Good.{GoodText, isOperator}
@@ -29,8 +29,8 @@ use Rattle.book.specs.declared.Trigger.{Trigger}
 use Rattle.book.specs.declared.Trigger.the-variants.{None, Completed, BecomeYes, BecomeNo}
 use Rattle.book.specs.declared.Sense.{Sense}
 use Rattle.book.specs.declared.Sense.the-variants.{NoCondition, AsWritten, Negated}
-use Rattle.deriver.specs.Derived.{derivedText, derivedBook, derived-text}
-use Rattle.deriver.specs.Sizes.{conditions-length, rules-most, words-most}
+use Rattle.derived.specs.Derived.{derivedText, derivedBook, derived-text}
+use Rattle.derived.specs.Sizes.{conditions-length, rules-most, words-most}
 use Rattle.deriver.specs.Formed.{derived-formed}
 use Rattle.deriver.specs.Deriving.{derivedImage, derivingAnswer}
 use Rattle.listing.specs.Limits.{listingInput, listingBook, maxListing}

@@ -24,10 +24,10 @@ use Rattle.book.specs.ImageOf.{book-of-image}
 use Rattle.book.specs.Judging.{countsOf}
 use Rattle.book.specs.WellFormed.{WellFormed}
 use Rattle.book.specs.declared.Counts.{Counts}
-use Rattle.deriver.specs.Derived.{derivedBook}
+use Rattle.derived.specs.Derived.{derivedBook}
 use Rattle.deriver.specs.Formed.{derived-well}
 use Rattle.deriver.specs.Deriving.{derivedImage, derivingAnswer, derivedRoom}
-use Rattle.deriver.specs.Writing.{Wrote, wrote-whole}
+use Rattle.derived.specs.Writing.{Wrote, wrote-whole}
 use Rattle.listing.specs.Limits.{listingInput, listingBook, maxListing}
 use Rattle.listing.specs.Text.{bookText, refusalLine, unlessRefused, chartText, imageText, listingText}
 use Rattle.listing.specs.Writers.{Space}

@@ -13,7 +13,7 @@ use Rattle.chart.specs.Examples as chart
 use Rattle.book.specs.Book.{Book, textOf}
 use Rattle.book.specs.Lists.{flat, packed}
 use Rattle.book.specs.ImageOf.{imageOf, image-length}
-use Rattle.deriver.specs.Derived.{derivedBook}
+use Rattle.derived.specs.Derived.{derivedBook}
 use Rattle.deriver.specs.Deriving.{derivedImage, derivingAnswer}
 use Rattle.deriver.specs.Rows.{paperChart, paperBook}
 use Rattle.deriver.specs.Rows as deriver

@@ -17,7 +17,7 @@ use Rattle.book.specs.declared.Trigger.{Trigger}
 use Rattle.book.specs.declared.Trigger.the-variants.{None, Completed, BecomeYes, BecomeNo}
 use Rattle.book.specs.declared.Sense.{Sense}
 use Rattle.book.specs.declared.Sense.the-variants.{NoCondition, AsWritten, Negated}
-use Rattle.deriver.specs.Derived.{derivedBook}
+use Rattle.derived.specs.Derived.{derivedBook}
 use Rattle.deriver.specs.Deriving.{derivingAnswer}
 use Rattle.listing.specs.Limits.{listingInput, listingBook}
 

@@ -26,8 +26,8 @@ use Rattle.book.specs.declared.Sense.the-variants.{NoCondition, AsWritten, Nega
 use Rattle.book.specs.declared.Span.{Span}
 use Rattle.book.specs.declared.Trigger.{Trigger}
 use Rattle.book.specs.declared.Trigger.the-variants.{None, Completed, BecomeYes, BecomeNo}
-use Rattle.deriver.specs.Writing.{Fits, Wrote, wrote-none, then, fits-first, fits-then}
-use Rattle.deriver.specs.Loops.{Upto, upto-start, upto-length, upto-fits, upto-more, upto-done}
+use Rattle.derived.specs.Writing.{Fits, Wrote, wrote-none, then, fits-first, fits-then}
+use Rattle.derived.specs.Loops.{Upto, upto-start, upto-length, upto-fits, upto-more, upto-done}
 use Rattle.listing.specs.Text.{ascii, digit, decimalIn, decimal, named, countsLine, triggerText, senseText, effectText, ruleLine, wordText, conditionLine, bookText}
 use Rattle.listing.specs.Lines.{ruleLineAt, conditionLineAt, ConditionsIn, words-each, rules-in, conditions-in, image-lines}
 

@@ -2,7 +2,7 @@
 ghost use mathlib.Core.Path.{_≡_};
 ghost use Prim.Native.Nat.{_≤_};
 ghost use lib.ListN.{length};
-ghost use Rattle.deriver.specs.Writing.{Wrote};
+ghost use Rattle.derived.specs.Writing.{Wrote};
 ghost use Rattle.listing.specs.Limits.{maxListing};
 ghost use Rattle.listing.specs.Text.{refusalLine, chartText, imageText};
 ghost use Rattle.listing.specs.Listing.{listedLength, listedRoom};

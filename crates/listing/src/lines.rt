@@ -6,7 +6,7 @@ ghost use Rattle.book.specs.Image.{rulePlace, bookOf};
 ghost use Rattle.book.specs.Lists.{flat, packed};
 ghost use Rattle.book.specs.Read.{wordsFrom};
 ghost use Rattle.book.specs.WellFormed.{WellFormed};
-ghost use Rattle.deriver.specs.Writing.{Wrote};
+ghost use Rattle.derived.specs.Writing.{Wrote};
 ghost use Rattle.listing.specs.Text.{countsLine, triggerText, senseText, effectText, ruleLine, wordText, conditionLine, bookText};
 ghost use Rattle.listing.specs.Lines.{ruleLineAt, conditionLineAt, ConditionsIn};
 ghost use Rattle.listing.specs.Writers.{Space};

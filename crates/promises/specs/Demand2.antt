@@ -31,7 +31,7 @@ use Rattle.orders.specs.Snapshots.{at-same}
 use Rattle.ordering.specs.Rules.{netOf, actsOf}
 use Rattle.ordering.specs.Nets.{rulesOf}
 use Rattle.judge.specs.Checking.{Passed, checking, checkedRoom, is-passed}
-use Rattle.deriver.specs.Derived.{derivedBook}
+use Rattle.derived.specs.Derived.{derivedBook}
 use Rattle.deriver.specs.Deriving.{derivedImage, derivingAnswer, derivedRoom}
 use Rattle.deriver.specs.Formed.{derived-well}
 use Rattle.deriver.specs.Matching.{matchingMarks, matchingOf, markOf, marks-at}

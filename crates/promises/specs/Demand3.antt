@@ -15,7 +15,7 @@ use Rattle.book.specs.Image.{rulesIn, bookOf}
 use Rattle.book.specs.WellFormed.{WellFormed}
 use Rattle.book.specs.declared.Snapshot.{Snapshot}
 use Rattle.ordering.specs.Nets.{rulesOf}
-use Rattle.judge.specs.Pairs.{LowestClash}
+use Rattle.clashes.specs.Pairs.{LowestClash}
 use Rattle.judge.specs.Checking.{checking, checkedRoom, Clashing, LowestLoop, loop-exactly, loop-named, clash-exactly, clash-named}
 use Rattle.deriver.specs.Deriving.{derivedImage}
 use Rattle.runner.specs.Walks.{Goes, turns, goes-one}

@@ -23,7 +23,7 @@ use Rattle.graph.specs.declared.Marking.{Marking}
 use Rattle.book.specs.Text.{snapOf}
 use Rattle.book.specs.Lists.{each, length-each}
 use Rattle.book.specs.declared.Snapshot.{Snapshot}
-use Rattle.deriver.specs.Derived.{executedMark, includedMark, answeredMark}
+use Rattle.derived.specs.Derived.{executedMark, includedMark, answeredMark}
 use Rattle.deriver.specs.Matching.{matchingMarks, matchingOf, markOf, marks-at}
 use Rattle.deriver.specs.declared.Matched.{Matched}
 use Rattle.agreement.specs.Matching.{match-stage, match-executed, match-included, match-answered, match-past}

@@ -8,9 +8,9 @@ use mathlib.Core.List.{List}
 use native.Mathlib.Omega.{arith}
 use Rattle.sets.specs.Cases.{cases, contra}
 use Rattle.sets.specs.Below.{tally}
-use Rattle.chart.specs.Image.{nodes}
-use Rattle.chart.specs.Nesting.{parent, isEvent}
-use Rattle.chart.specs.Flattening.{flatChart}
+use Rattle.records.specs.Image.{nodes}
+use Rattle.nesting.specs.Nesting.{parent, isEvent}
+use Rattle.flattening.specs.Flattening.{flatChart}
 use Rattle.chart.specs.Reading.{reading}
 use Rattle.chart.specs.Given.{is-event, event-is, granted-right}
 

@@ -30,7 +30,7 @@ use Rattle.book.specs.ImageOf.{image-length, book-of-image}
 use Rattle.book.specs.declared.Snapshot.{Snapshot}
 use Rattle.ordering.specs.Rules.{netOf}
 use Rattle.ordering.specs.Nets.{count-is}
-use Rattle.deriver.specs.Derived.{derivedBook}
+use Rattle.derived.specs.Derived.{derivedBook}
 use Rattle.deriver.specs.Deriving.{derivedImage, derivingAnswer}
 use Rattle.deriver.specs.Matching.{matchingMarks, matchingOf}
 use Rattle.deriver.specs.Rows.{paperChart, paperStart, paperBook, worth}

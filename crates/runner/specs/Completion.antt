@@ -22,7 +22,7 @@ use Rattle.book.specs.Image.{stagesIn, rulesIn, bookOf}
 use Rattle.book.specs.declared.Snapshot.{Snapshot}
 use Rattle.ordering.specs.Rules.{actsOf}
 use Rattle.ordering.specs.Nets.{rulesOf, targets-small}
-use Rattle.judge.specs.Clash.{calm}
+use Rattle.clashes.specs.Clash.{calm}
 use Rattle.judge.specs.Checking.{checking, checkedRoom, granted-room, marks-many, targets-in}
 use Rattle.runner.specs.Completing.{completionAnswer, through, completing}
 use Rattle.runner.specs.Walks.{Goes, turns, turns-run, goes-run}

@@ -26,9 +26,9 @@ use Rattle.book.specs.Firing.{triggered, allowed, fires, awaits, reads, refers}
 use Rattle.book.specs.declared.Snapshot.{Snapshot}
 use Rattle.ordering.specs.Rules.{netOf, actsOf}
 use Rattle.ordering.specs.Nets.{rulesOf, count-is}
-use Rattle.judge.specs.Clash.{completesOther, otherStages, isWritten, isNegated, oppositeSenses, apart, opposed, clash}
-use Rattle.judge.specs.Pairs.{clashing, clashFirst, clashSecond}
-use Rattle.judge.specs.Places.{loopPlace}
+use Rattle.clashes.specs.Clash.{completesOther, otherStages, isWritten, isNegated, oppositeSenses, apart, opposed, clash}
+use Rattle.clashes.specs.Pairs.{clashing, clashFirst, clashSecond}
+use Rattle.loops.specs.Places.{loopPlace}
 use Rattle.judge.specs.Checking.{rulesAnswer, bookAnswer, checking}
 use Rattle.judge.specs.Examples.{header, rule, p10}
 use Rattle.runner.specs.Completing.{fitted, orderAnswer, anyFrom, snapshotAnswer, completionAnswer, through, completing}

@@ -23,9 +23,9 @@ use Rattle.book.specs.Judging.{imageAnswer}
 use Rattle.book.specs.WellFormed.{WellFormed, well-granted}
 use Rattle.book.specs.declared.Snapshot.{Snapshot}
 use Rattle.ordering.specs.Nets.{rulesOf, count-is}
-use Rattle.judge.specs.Clash.{NoClash}
-use Rattle.judge.specs.Pairs.{clashFirst, clashSecond, second-fits}
-use Rattle.judge.specs.Places.{loopPlace, loop-place}
+use Rattle.clashes.specs.Clash.{NoClash}
+use Rattle.clashes.specs.Pairs.{clashFirst, clashSecond, second-fits}
+use Rattle.loops.specs.Places.{loopPlace, loop-place}
 use Rattle.judge.specs.Checking.{rulesAnswer, bookAnswer, checking, Passed, passed-is, marks-many, targets}
 use Rattle.runner.specs.Completing.{fitted, orderAnswer, anyFrom, snapshotAnswer, completionAnswer, through, completing}
 

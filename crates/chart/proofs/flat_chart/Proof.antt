@@ -1,5 +1,5 @@
 -- `chart::flat_chart` meets its contract. Assumes nothing.
-use Rattle.chart.specs.Cells.{chartOf}
+use Rattle.flattening.specs.Cells.{chartOf}
 use borrow.Author.Needs.{needs}
 use Rattle.chart.proofs.flat_chart.Statement.{statement}
 use Rattle.chart.proofs.flat_chart.Tie as tie

@@ -2,7 +2,7 @@
 use Rattle.chart.specs.Returns.{nodes-bad, nodes-loop, nodes-flags, nodes-many, nodes-on, ground-is}
 use native.Mathlib.Omega.{arith}
 use Rattle.sets.specs.Below.{tally-le}
-use Rattle.chart.specs.Tables.{isEventIn}
+use Rattle.nesting.specs.Tables.{isEventIn}
 use borrow.Author.Needs.{needs}
 use Rattle.chart.proofs.read_nodes.Statement.{statement}
 use Rattle.chart.proofs.read_nodes.Tie as tie

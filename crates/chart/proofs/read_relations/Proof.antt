@@ -1,5 +1,5 @@
 -- `chart::read_relations` meets its contract. Assumes nothing.
-use Rattle.chart.specs.Meaning.{room-for, flags-in}
+use Rattle.flattening.specs.Meaning.{room-for, flags-in}
 use Rattle.chart.specs.Returns.{relations-bad, relations-conflict, relations-on}
 use borrow.Author.Needs.{needs}
 use Rattle.chart.proofs.read_relations.Statement.{statement}

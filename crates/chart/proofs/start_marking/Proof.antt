@@ -1,5 +1,5 @@
 -- `chart::start_marking` meets its contract. Assumes nothing.
-use Rattle.chart.specs.Cells.{markingBy}
+use Rattle.flattening.specs.Cells.{markingBy}
 use borrow.Author.Needs.{needs}
 use Rattle.chart.proofs.start_marking.Statement.{statement}
 use Rattle.chart.proofs.start_marking.Tie as tie

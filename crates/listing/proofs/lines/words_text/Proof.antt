@@ -1,7 +1,7 @@
 -- `listing::lines::words_text` meets its contract. Assumes nothing.
 use Prim.Native.Nat.{_-_}
 use borrow.Author.Needs.{needs}
-use Rattle.deriver.specs.Loops.{Upto, upto-start, upto-length}
+use Rattle.derived.specs.Loops.{Upto, upto-start, upto-length}
 use Rattle.listing.specs.Text.{wordText}
 use Rattle.listing.specs.Writers.{wordIn, words-done, word-fits, word-more}
 use Rattle.listing.proofs.lines.words_text.Statement.{statement}

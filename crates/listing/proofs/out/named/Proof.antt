@@ -1,6 +1,6 @@
 -- `listing::out::named` meets its contract. Assumes nothing.
 use borrow.Author.Needs.{needs}
-use Rattle.deriver.specs.Writing.{then}
+use Rattle.derived.specs.Writing.{then}
 use Rattle.listing.specs.Writers.{fits₁, last₂}
 use Rattle.listing.proofs.out.named.Statement.{statement}
 use Rattle.listing.proofs.out.named.Tie as tie

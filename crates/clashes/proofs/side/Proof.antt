@@ -1,0 +1,16 @@
+-- `clashes::side` meets its contract. Assumes nothing.
+use Rattle.clashes.specs.Chains.{side}
+use borrow.Author.Needs.{needs}
+use native.Mathlib.Omega.{arith}
+use Rattle.clashes.proofs.side.Statement.{statement}
+use Rattle.clashes.proofs.side.Tie as tie
+
+pub side-spec : {M : Type 1} → statement M
+side-spec =
+    tie.close
+    (tie.spec
+    (λ c. search needs)
+    (λ c. search needs)
+    (λ c. search needs)
+    (λ c. (unfold side in rw (c .if1 .taken), omega arith))
+    (λ c. (unfold side in rw (c .if1 .left) (omega arith), omega arith)))

@@ -1,0 +1,27 @@
+-- `flattening::flatten` meets its contract. Assumes nothing.
+use Prim.Native.Nat.{_≤_, _-_}
+use Rattle.flattening.specs.Cells.{Flat, flat-none, flat-more, flat-end}
+use borrow.Author.Needs.{needs}
+use Rattle.flattening.proofs.flatten.Statement.{statement}
+use Rattle.flattening.proofs.flatten.Tie as tie
+
+abbrev Inv-loop : tie.InvT-loop
+Inv-loop image n k gathered nodes events tables₀ e₀ tables e = (e ≤ events) × Flat image gathered nodes e tables
+
+abbrev μ-loop : tie.MeasureT-loop
+μ-loop image n k gathered nodes events tables₀ e₀ tables e = events - e
+
+pub flatten-spec : {M : Type 1} → statement M
+flatten-spec =
+    tie.close
+    (tie.spec
+    Inv-loop
+    μ-loop
+    (λ c. (search needs, search flat-none))
+    (λ c. search needs)
+    (λ c. search needs)
+    (λ c κs. search needs)
+    (λ c. search needs)
+    (λ c. search needs)
+    (λ c. (search needs, search flat-more))
+    (λ c. search flat-end))

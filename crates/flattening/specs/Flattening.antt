@@ -1,0 +1,83 @@
+-- Flattening as document 001's Definition 2 has it: rel♭ is the nesting relation, rel, and the nesting relation turned round. The flat chart and the start marking
+-- that an image names. Assumes nothing.
+use Prim.Native.Nat.{ℕ, _<_}
+use mathlib.Core.Path.{_≡_}
+use mathlib.Core.Bool.{Bool, cond, _&&_, _||_}
+use mathlib.Core.List.{List}
+use lib.Dec.{eqb, ltb}
+use Rattle.paper.specs.Limits.{maxEvents}
+use Rattle.sets.specs.Set.{has, collect}
+use Rattle.sets.specs.Below.{some}
+use Rattle.sets.specs.Tables.{tabulate}
+use Rattle.graph.specs.Chart.{Kind, condition, response, milestone, include, exclude}
+use Rattle.graph.specs.declared.FlatChart.{FlatChart}
+use Rattle.graph.specs.declared.Marking.{Marking}
+use Rattle.records.specs.Image.{relations, fromOf, toOf, kindOf, flagsOf}
+use Rattle.nesting.specs.Nesting.{AtOrAbove, atOrAbove, eventCount, eventNode}
+
+-- "Kinds: 0 condition, 1 response, 2 milestone, 3 include, 4 exclude"
+abbrev pub kindNumber : Kind → ℕ
+kindNumber condition = 0
+kindNumber response = 1
+kindNumber milestone = 2
+kindNumber include = 3
+kindNumber exclude = 4
+
+module _ (image : List ℕ) where
+  -- "Event e has a relation to event f exactly if the image has one of that kind from e or a group above it to f or a group above it."
+  pub record Flattened (κ : Kind) (e f : ℕ) : Type 0 where
+    pub relation : ℕ
+    pub exists : relation < relations image
+    pub kind : kindOf image relation ≡ kindNumber κ
+    pub source : AtOrAbove image (eventNode image e) (fromOf image relation)
+    pub target : AtOrAbove image (eventNode image f) (toOf image relation)
+
+  -- the test of it, record by record
+  unfoldable pub leads : ℕ → ℕ → ℕ → ℕ → Bool
+  leads κ e f k =
+      eqb (kindOf image k) κ && (atOrAbove image (eventNode image e) (fromOf image k) && atOrAbove image (eventNode image f) (toOf image k))
+
+  unfoldable pub related : ℕ → ℕ → ℕ → Bool
+  related κ e f = some (relations image) (leads κ e f)
+
+-- a set of the flat chart holds, for conditions and milestones, who holds the event back, and for the others, what the event reaches
+abbrev pub holdsBack : ℕ → Bool
+holdsBack κ = eqb κ (kindNumber condition) || eqb κ (kindNumber milestone)
+
+module _ (image : List ℕ) where
+  unfoldable pub entered : ℕ → ℕ → ℕ → Bool
+  entered κ e f = cond (holdsBack κ) (related image κ f e) (related image κ e f)
+
+  -- the set of event e, and no set past the count
+  unfoldable pub flatSet : ℕ → ℕ → ℕ
+  flatSet κ e = cond (ltb e (eventCount image)) (collect (eventCount image) (entered κ e)) 0
+
+  unfoldable pub flatTable : Kind → List ℕ
+  flatTable κ = tabulate maxEvents (flatSet (kindNumber κ))
+
+  unfoldable pub flatChart : FlatChart
+  flatChart =
+      record {
+        count = eventCount image;
+        conditions = flatTable condition;
+        responses = flatTable response;
+        milestones = flatTable milestone;
+        includes = flatTable include;
+        excludes = flatTable exclude;
+      }
+
+  -- "flags: 1 executed, 2 pending, 4 included": the events whose flags have the digit
+  unfoldable pub flagged : ℕ → ℕ
+  flagged digit = collect (eventCount image) (λ e. has (flagsOf image (eventNode image e)) digit)
+
+  -- "the start marking, which the events' flags name"
+  unfoldable pub startMarking : Marking
+  startMarking = record { executed = flagged 0; pending = flagged 1; included = flagged 2 }
+
+  -- "No pair may get both include and exclude."
+  unfoldable pub conflict : ℕ → ℕ → Bool
+  conflict e f = related image (kindNumber include) e f && related image (kindNumber exclude) e f
+
+  -- e has a conflict with some event
+  unfoldable pub conflictAt : ℕ → Bool
+  conflictAt e = some (eventCount image) (conflict e)

@@ -1,0 +1,4 @@
+-- The root of the crate's specs.
+pub mod Flattening
+pub mod Cells
+pub mod Meaning

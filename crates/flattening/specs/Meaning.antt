@@ -1,0 +1,244 @@
+-- What the reader's tables say of the image: each is what the definitions name. Assumes nothing.
+use Prim.Native.Nat.{ℕ, _+_, _^_, _≤_, _<_}
+use mathlib.Core.Path.{_≡_, refl, sym, ap, ap₂, _∙_, subst}
+use mathlib.Core.Bool.{Bool, true, false, cond, _&&_, and-false, and-comm}
+use mathlib.Core.List.{List}
+use native.Mathlib.Omega.{arith}
+use lib.ListN.{length, getD}
+use lib.Dec.{eqb, ltb}
+use borrow.Author.Tests.{lt-ltb, ltb-true, eq-eqb, ne-eqb, eqb-true, eqb-false, not-true}
+use Rattle.paper.specs.Limits.{maxEvents, kinds}
+use Rattle.sets.specs.Cases.{contra, cases, both, not-so, same-test}
+use Rattle.sets.specs.Set.{has, lowest, collect}
+use Rattle.sets.specs.Laws.{ext, has-collect, has-inter, has-empty, none-zero, below, lowest-lt, lowest-has, lowest-least}
+use Rattle.sets.specs.Below.{some, some-of, some-at, some-none, some-same, first, first-found, first-same, tally, tally-same}
+use Rattle.sets.specs.Tables.{tabulate, tabulate-same}
+use Rattle.graph.specs.Chart.{Kind, condition, response, milestone, include, exclude}
+use Rattle.graph.specs.declared.FlatChart.{FlatChart}
+use Rattle.graph.specs.declared.Marking.{Marking}
+use Rattle.records.specs.Scan.{collect-same}
+use Rattle.nesting.specs.Numbering.{tally-find, first-numbered}
+use Rattle.records.specs.Image.{nodes as nodes-of, relations, fromOf, toOf, kindOf, flagsOf, nodeAt, Whole}
+use Rattle.nesting.specs.Nesting.{parent, atOrAbove, isGroup, isEvent, number, eventCount, eventNode, flaggedGroupAt}
+use Rattle.nesting.specs.Climbing.{Straight, fromUp}
+use Rattle.nesting.specs.Tables.{Groups, isEventIn, flaggedIn, EventNodes}
+use Rattle.flattening.specs.Flattening.{kindNumber, holdsBack, leads, related, entered, flatSet, flatTable, flatChart, flagged, startMarking, conflict, conflictAt}
+use Rattle.flattening.specs.Cells.{cell, holds, Members, near, nearOf, farOf, near-fits, Good, entersAt, Gathered, aboveHas, Flat, bothAt, conflictIn, flaggedBy, chartOf, markingBy}
+
+-- ---- nodes
+
+module _ {image : List ℕ} {n k : ℕ} (w : Whole image n k) where
+  pub group-is : {groups : List Bool} → Groups image n groups → (i : ℕ) → i < n → getD groups i false ≡ isGroup image i
+  unfolding isGroup
+  group-is m i h = m .each i h ∙ ap (λ (x : ℕ). some x (λ a. parent image a i)) (w .nodes)
+
+  pub flags-are : {groups : List Bool} {r : ℕ} → Groups image n groups → r ≡ first n (flaggedIn image groups) → r ≡ first n (flaggedGroupAt image)
+  unfolding flaggedGroupAt
+  flags-are {groups} m e = e ∙ first-same n (flaggedIn image groups) (flaggedGroupAt image) (λ i h. rw (group-is m i h))
+
+  pub count-is : {groups : List Bool} {r : ℕ} → Groups image n groups → r ≡ tally n (isEventIn groups) → r ≡ eventCount image
+  count-is {groups} m e = e ∙ tally-same n (isEventIn groups) (isEvent image) (λ i h. rw (group-is m i h)) ∙ ap (λ (x : ℕ). tally x (isEvent image)) (w .nodes)
+
+  -- ---- events
+
+  -- the node of an event: it is a node, an event, and its number is the event's
+  pub record NodeOf (e i : ℕ) : Type 0 where
+    pub fits : i < n
+    pub event : isEvent image i ≡ true
+    pub numbered : number image i ≡ e
+    pub node : eventNode image e ≡ i
+
+  pub node-of : (e : ℕ) → e < eventCount image → (i : ℕ) × NodeOf e i
+  unfolding eventNode
+  node-of e h =
+      let t = tally-find (isEvent image) (nodes-of image) e h in
+      let l : t .0 < n = rw (w .nodes) (t .1) in
+      (t .0, record { fits = l; event = t .2; numbered = t .3; node = subst (λ (x : ℕ). first (nodes-of image) (λ j. isEvent image j && eqb (number image j) x) ≡ t .0) (t .3) (first-numbered (isEvent image) (nodes-of image) (t .0) (t .1) (t .2)) })
+
+  pub nodes-are : {groups : List Bool} {events : List ℕ} → Groups image n groups → EventNodes groups n events → (e : ℕ) → e < eventCount image
+      → (getD events e 0 ≡ eventNode image e) × (getD events e 0 < n)
+  nodes-are {groups} {events} m v e h =
+      let t = node-of e h in
+      let i : ℕ = t .0 in
+      let o = t .1 in
+      let same : tally i (isEventIn groups) ≡ e = tally-same i (isEventIn groups) (isEvent image) (λ p l. rw (group-is m p (let f = o .fits in omega arith))) ∙ o .numbered in
+      let at : getD events e 0 ≡ i = rw same at (v .each i (o .fits) (rw (group-is m i (o .fits)) (o .event))) in
+      (at ∙ sym (o .node), rw at (o .fits))
+
+-- ---- tests that go two ways
+
+guarded : (k : ℕ) (x : Bool) (f : ℕ → Bool) → some k (λ r. x && f r) ≡ (x && some k f)
+guarded k true f = refl
+guarded k false f = some-none k (λ r. false) (λ p h. refl)
+
+either-way : (k : ℕ) (h : Bool) (f g : ℕ → Bool) → some k (λ r. cond h (f r) (g r)) ≡ cond h (some k f) (some k g)
+either-way k true f g = refl
+either-way k false f g = refl
+
+-- a set of the flat chart has the events of the chart that are entered there
+pub flat-has : (image : List ℕ) (κ e f : ℕ) → has (flatSet image κ e) f ≡ ((ltb e (eventCount image) && ltb f (eventCount image)) && entered image κ e f)
+unfolding flatSet
+flat-has image κ e f =
+    cases (ltb e (eventCount image)) (λ t. rw t (has-collect (eventCount image) (entered image κ e) f)) (λ t. rw t (has-empty f))
+
+kind-fits : (κ : Kind) → kindNumber κ < kinds
+kind-fits condition = omega arith
+kind-fits response = omega arith
+kind-fits milestone = omega arith
+kind-fits include = omega arith
+kind-fits exclude = omega arith
+
+-- a set that is not empty has a member
+member-of : (n s : ℕ) → ((f : ℕ) → has s f ≡ true → f < n) → (s ≡ 0 → ⊥) → (f : ℕ) × (f < n) × (has s f ≡ true)
+member-of n s h z =
+    cases (some n (has s)) (λ t. some-at n (has s) t)
+    (λ t. absurd (z (none-zero s (λ f. not-so (λ i. contra (some-of n (has s) f (h f i) i) t)))))
+
+-- ---- what the reader has when it comes to the relations
+
+pub record Ground (image : List ℕ) (n k : ℕ) (groups : List Bool) (events : ℕ) : Type 0 where
+  pub whole : Whole image n k
+  pub straight : Straight image
+  pub marked : Groups image n groups
+  pub count : events ≡ eventCount image
+  pub few : events ≤ maxEvents
+
+module _ {image : List ℕ} {n k : ℕ} {groups : List Bool} {events : ℕ} (g : Ground image n k groups events) where
+  -- so many events have room
+  pub room-for : tally n (isEventIn groups) ≤ maxEvents
+  room-for = let e = count-is (g .whole) (g .marked) refl in let c = g .count in let f = g .few in omega arith
+
+  module _ {nodes : List ℕ} (v : EventNodes groups n nodes) where
+    node-at : (e : ℕ) → e < events → (getD nodes e 0 ≡ eventNode image e) × (getD nodes e 0 < n)
+    node-at e h = nodes-are (g .whole) (g .marked) v e (let c = g .count in omega arith)
+
+    pub flags-in : (e : ℕ) → e < events → nodeAt (getD nodes e 0) + 4 ≤ length image
+    flags-in e h = let l = node-at e h .1 in let f = g .whole .whole in omega arith
+
+    pub flagged-is : (digit s : ℕ) → s ≡ flaggedBy image nodes digit events → s ≡ flagged image digit
+    unfolding flagged
+    flagged-is digit s e =
+        e ∙ collect-same events (λ x. has (flagsOf image (getD nodes x 0)) digit) (λ x. has (flagsOf image (eventNode image x)) digit) (λ x h. rw (node-at x h .0))
+        ∙ ap (λ (m : ℕ). collect m (λ x. has (flagsOf image (eventNode image x)) digit)) (g .count)
+
+    pub marking-is : {mark : Marking} → mark ≡ markingBy image nodes events → mark ≡ startMarking image
+    unfolding markingBy startMarking
+    marking-is e = e ∙ rw (flagged-is 0 _ refl, flagged-is 1 _ refl, flagged-is 2 _ refl)
+
+    -- a node is at or above the node of e exactly if the climb from there comes to it
+    up-is : (e x : ℕ) → e < events → fromUp image (getD nodes e 0) x ≡ atOrAbove image (eventNode image e) x
+    unfolding fromUp
+    up-is e x h = let v = node-at e h in let l = v .1 in let w = g .whole .nodes in rw (lt-ltb (getD nodes e 0) (nodes-of image) (omega arith), v .0)
+
+    module _ {members : List ℕ} (m : Members image nodes events members) (s : (r : ℕ) → r < k → Good image n r) where
+      -- relation r is gathered at or above the node of e, and gives it f
+      abbrev gives : ℕ → ℕ → ℕ → ℕ → Bool
+      gives κ e f r = eqb (kindOf image r) κ && (fromUp image (getD nodes e 0) (nearOf image r) && has (getD members (farOf image r) 0) f)
+
+      -- so it leads to or from the event f
+      leads-is : (κ e f r : ℕ) → e < events → gives κ e f r ≡ (ltb f events && cond (holdsBack κ) (leads image κ f e r) (leads image κ e f r))
+      unfolding leads
+      leads-is κ e f r h =
+          rw (up-is e (nearOf image r) h, m .each (farOf image r) f) (cases (eqb (kindOf image r) κ)
+          (λ t. rw (t, eqb-true (kindOf image r) κ t) (cases (ltb f events)
+          (λ i. rw (i, up-is f _ (ltb-true f events i)) (cases (holdsBack κ) (λ b. rw b (and-comm (atOrAbove image (eventNode image e) (toOf image r)) (atOrAbove image (eventNode image f) (fromOf image r)))) (λ b. rw b)))
+          (λ i. rw i (and-false (atOrAbove image (eventNode image e) (near κ (fromOf image r) (toOf image r)))))))
+          (λ t. rw t (sym (nothing (holdsBack κ) (ltb f events)))))
+        where
+          nothing : (h x : Bool) → (x && cond h false false) ≡ false
+          nothing true x = and-false x
+          nothing false x = and-false x
+
+      module _ {gathered : List ℕ} (a : Gathered image members k gathered) where
+        -- what is gathered at or above the node of e is what the relations lead to
+        above-is : (κ e f : ℕ) → κ < kinds → e < events
+            → aboveHas image gathered (getD nodes e 0) κ f ≡ some k (gives κ e f)
+        unfolding aboveHas
+        above-is κ e f l h =
+            same-test _ _
+            (λ t.
+            let (x, i, y) = some-at (nodes-of image) (λ x. fromUp image (getD nodes e 0) x && holds gathered κ x f) t in
+            let z = both (fromUp image (getD nodes e 0) x) (holds gathered κ x f) y in
+            let (r, j, u) = some-at k (entersAt image members κ x f) (sym (a .each κ x f l) ∙ z .1) in
+            let v = both (eqb (kindOf image r) κ) (eqb (nearOf image r) x && has (getD members (farOf image r) 0) f) u in
+            let w = both (eqb (nearOf image r) x) (has (getD members (farOf image r) 0) f) (v .1) in
+            some-of k (gives κ e f) r j (rw (v .0, w .1, eqb-true (nearOf image r) x (w .0), z .0)))
+            (λ t.
+            let (r, j, u) = some-at k (gives κ e f) t in
+            let v = both (eqb (kindOf image r) κ) _ u in
+            let w = both (fromUp image (getD nodes e 0) (nearOf image r)) _ (v .1) in
+            some-of (nodes-of image) (λ x. fromUp image (getD nodes e 0) x && holds gathered κ x f) (nearOf image r) (let o = near-fits (s r j) in let q = g .whole .nodes in omega arith)
+            (rw (w .0, a .each κ (nearOf image r) f l) (some-of k (entersAt image members κ (nearOf image r) f) r j (rw (v .0, eq-eqb (nearOf image r) (nearOf image r) refl, w .1)))))
+
+        module _ {tables : List ℕ} (t : Flat image gathered nodes events tables) where
+          pub cell-is : (κ e : ℕ) → κ < kinds → cell tables κ e ≡ flatSet image κ e
+          unfolding entered related
+          cell-is κ e l =
+              ext (cell tables κ e) (flatSet image κ e)
+              (λ f.
+              let lead : ℕ → Bool = λ r. cond (holdsBack κ) (leads image κ f e r) (leads image κ e f r) in
+              t .each κ e f l
+              ∙ cases (ltb e events)
+              (λ i. rw i (above-is κ e f l (ltb-true e events i)
+              ∙ some-same k (gives κ e f) (λ r. ltb f events && lead r) (λ r j. leads-is κ e f r (ltb-true e events i))
+              ∙ guarded k (ltb f events) lead
+              ∙ ap (λ (b : Bool). ltb f events && b) (either-way k (holdsBack κ) (leads image κ f e) (leads image κ e f))))
+              (λ i. rw i)
+              ∙ ap₂ (λ (x y : ℕ). (ltb e x && ltb f x) && cond (holdsBack κ) (some y (leads image κ f e)) (some y (leads image κ e f))) (g .count) (g .whole .relations)
+              ∙ sym (flat-has image κ e f))
+
+          pub table-is : (κ : Kind) (out : List ℕ) → out ≡ tabulate maxEvents (cell tables (kindNumber κ)) → out ≡ flatTable image κ
+          unfolding flatTable
+          table-is κ out e = e ∙ tabulate-same maxEvents (cell tables (kindNumber κ)) (flatSet image (kindNumber κ)) (λ x h. cell-is (kindNumber κ) x (kind-fits κ))
+
+          -- the events with which e is in conflict
+          both-has : (e f : ℕ) → e < events → has (bothAt tables e) f ≡ (ltb f events && conflict image e f)
+          unfolding conflict entered
+          both-has e f h =
+              let n = g .count in
+              let in-count : ltb e (eventCount image) ≡ true = lt-ltb e (eventCount image) (omega arith) in
+              has-inter (cell tables (kindNumber include) e) (cell tables (kindNumber exclude) e) f
+              ∙ ap₂ _&&_ (in-set include) (in-set exclude)
+              ∙ rw (in-count, n) (twice (ltb f (eventCount image)) (related image (kindNumber include) e f) (related image (kindNumber exclude) e f))
+            where
+              in-set : (κ : Kind) → holds tables (kindNumber κ) e f ≡ ((ltb e (eventCount image) && ltb f (eventCount image)) && entered image (kindNumber κ) e f)
+              in-set κ = ap (λ (x : ℕ). has x f) (cell-is (kindNumber κ) e (kind-fits κ)) ∙ flat-has image (kindNumber κ) e f
+
+              twice : (x a b : Bool) → ((x && a) && (x && b)) ≡ (x && (a && b))
+              twice true a b = refl
+              twice false a b = refl
+
+          conflict-is : (e : ℕ) → e < events → conflictIn tables e ≡ conflictAt image e
+          unfolding conflictAt
+          conflict-is e h =
+              let n = g .count in
+              same-test (conflictIn tables e) (some (eventCount image) (conflict image e))
+              (λ t.
+              let p = member-of events (bothAt tables e) (λ f i. ltb-true f events (both (ltb f events) (conflict image e f) (sym (both-has e f h) ∙ i) .0)) (eqb-false (bothAt tables e) 0 (not-true (eqb (bothAt tables e) 0) t)) in
+              some-of (eventCount image) (conflict image e) (p .0) (let l = p .1 in omega arith) (both (ltb (p .0) events) (conflict image e (p .0)) (sym (both-has e (p .0) h) ∙ p .2) .1))
+              (λ t. let p = some-at (eventCount image) (conflict image e) t in
+              rw (ne-eqb (bothAt tables e) 0 (λ z. contra (both-has e (p .0) h ∙ rw (lt-ltb (p .0) events (let l = p .1 in omega arith), p .2)) (ap (λ (x : ℕ). has x (p .0)) z ∙ has-empty (p .0)))))
+
+          pub from-is : {r : ℕ} → r ≡ first events (conflictIn tables) → r ≡ first (eventCount image) (conflictAt image)
+          from-is e = e ∙ first-same events (conflictIn tables) (conflictAt image) conflict-is ∙ ap (λ (x : ℕ). first x (conflictAt image)) (g .count)
+
+          -- the least event with which e is in conflict
+          pub to-is : (e s r : ℕ) → e < events → conflictIn tables e ≡ true → s ≡ bothAt tables e → r ≡ lowest maxEvents s → r ≡ first (eventCount image) (conflict image e)
+          to-is e s r h t p q =
+              let few = g .few in
+              let z : bothAt tables e ≡ 0 → ⊥ = eqb-false (bothAt tables e) 0 (not-true (eqb (bothAt tables e) 0) t) in
+              let inside : (f : ℕ) → has (bothAt tables e) f ≡ true → f < events = λ f i. ltb-true f events (both (ltb f events) (conflict image e f) (sym (both-has e f h) ∙ i) .0) in
+              let wide : bothAt tables e < 2 ^ maxEvents = below maxEvents (bothAt tables e) (λ f l. not-so (λ i. let o = inside f i in absurd (omega arith))) in
+              let least : has (bothAt tables e) (lowest maxEvents (bothAt tables e)) ≡ true = lowest-has maxEvents (bothAt tables e) (lowest-lt maxEvents (bothAt tables e) (omega arith) wide) in
+              let found = both (ltb (lowest maxEvents (bothAt tables e)) events) (conflict image e (lowest maxEvents (bothAt tables e))) (sym (both-has e (lowest maxEvents (bothAt tables e)) h) ∙ least) in
+              let l : lowest maxEvents (bothAt tables e) < events = ltb-true (lowest maxEvents (bothAt tables e)) events (found .0) in
+              q ∙ ap (lowest maxEvents) p
+              ∙ first-found events (conflict image e) (lowest maxEvents (bothAt tables e)) l
+              (λ f i. not-so (λ o. contra (both-has e f h ∙ rw (lt-ltb f events (omega arith), o)) (lowest-least maxEvents (bothAt tables e) f i)))
+              (found .1)
+              ∙ ap (λ (x : ℕ). first x (conflict image e)) (g .count)
+
+          pub chart-is : {c : FlatChart} → c ≡ chartOf events tables → c ≡ flatChart image
+          unfolding chartOf flatChart
+          chart-is e =
+              e ∙ rw (g .count, table-is condition _ refl, table-is response _ refl, table-is milestone _ refl, table-is include _ refl, table-is exclude _ refl)

@@ -1,0 +1,17 @@
+-- `loops::loop_place` meets its contract. Assumes nothing.
+use Rattle.loops.proofs.Rows.{place-found}
+use borrow.Author.Needs.{needs}
+use Rattle.loops.proofs.loop_place.Statement.{statement}
+use Rattle.loops.proofs.loop_place.Tie as tie
+
+pub loop-place-spec : {M : Type 1} → statement M
+loop-place-spec =
+    tie.close
+    (tie.spec
+    (λ c. search needs)
+    (λ c κs. search needs)
+    (λ c. search needs)
+    (λ c κs. search needs)
+    (λ c. search needs)
+    (λ c κs. search needs)
+    (λ c. search place-found))

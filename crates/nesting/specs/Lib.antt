@@ -1,0 +1,5 @@
+-- The root of the crate's specs.
+pub mod Numbering
+pub mod Nesting
+pub mod Tables
+pub mod Climbing

@@ -1,0 +1,180 @@
+// The rules of a derived book, written into lent room one record after another.
+ghost use mathlib.Core.Path.{_≡_};
+ghost use mathlib.Core.Bool.{true};
+ghost use mathlib.Core.List.{[], _∷_};
+ghost use Prim.Native.Nat.{_+_, _*_, _<_, _≤_};
+ghost use lib.ListN.{length};
+ghost use Rattle.paper.specs.Limits.{maxEvents, maxRules, ruleSize};
+ghost use Rattle.sets.specs.Set.{union, within};
+ghost use Rattle.book.specs.Lists.{flat, packed};
+ghost use Rattle.book.specs.ImageOf.{effectByte, ruleRecord, ruleBytes};
+ghost use Rattle.derived.specs.Derived.{on, answering, completion, stageRules};
+ghost use Rattle.derived.specs.Sizes.{effects, completionSize, completionsSize};
+ghost use Rattle.derived.specs.Writing.{Fits, Wrote};
+ghost use Rattle.derived.specs.Tables.{completionAt, CompletionsIn};
+use paper::MAX_EVENTS;
+use paper::RULE_SIZE;
+
+fn flag(b: bool) -> u8
+    ensures { λ r. ⌜ r ≡ effectByte b ⌝ }
+{
+    if b {
+        return 1;
+    }
+    0
+}
+
+// One record. Every writer here hands back the place behind what it wrote.
+fn put_rule(
+    room: &mut [u8],
+    at: usize,
+    kind: u8,
+    sense: u8,
+    effect: u8,
+    number: u16,
+    condition: u16,
+    target: u16,
+) -> usize
+    requires { ⌜ at + ruleSize ≤ length (now room) ⌝ }
+    ensures { λ r. ⌜ Wrote (now (room .entry)) at (ruleRecord kind sense effect number condition target) r (now (room .exit)) ⌝ }
+{
+    room[at] = kind;
+    room[at + 1] = sense;
+    room[at + 2] = effect;
+    room[at + 3] = 0;
+    wire::put16(room, at + 4, number);
+    wire::put16(room, at + 6, condition);
+    wire::put16(room, at + 8, target);
+    at + RULE_SIZE
+}
+
+// On completion of e, set the mark or clear it.
+fn put_on(room: &mut [u8], at: usize, e: usize, effect: bool, mark: usize) -> usize
+    requires { ⌜ (e < 65536) × (mark < 65536) × (at + ruleSize ≤ length (now room)) ⌝ }
+    ensures { λ r. ⌜ Wrote (now (room .entry)) at (packed ruleBytes (on e effect mark ∷ [])) r (now (room .exit)) ⌝ }
+{
+    put_rule(room, at, 1, 0, flag(effect), e as u16, 0, mark as u16)
+}
+
+// On completion of e, for each f of among, rising: set the mark base + f where f is in raise, and else clear it.
+fn put_effects(
+    room: &mut [u8],
+    at: usize,
+    n: usize,
+    e: usize,
+    raise: u64,
+    among: u64,
+    base: usize,
+) -> usize
+    requires { ⌜ (n ≤ maxEvents) × (e < n) × (base ≤ 3 * maxEvents) × (within n among ≡ true) × Fits (now room) at (packed ruleBytes (effects n e raise among base)) ⌝ }
+    ensures { λ r. ⌜ Wrote (now (room .entry)) at (packed ruleBytes (effects n e raise among base)) r (now (room .exit)) ⌝ }
+{
+    let mut rest = among;
+    let mut next = at;
+    while rest != 0 {
+        let f = sets::least(rest) as usize;
+        next = put_on(room, next, e, sets::member(raise, f), base + f);
+        rest = sets::less(rest, sets::one(f));
+    }
+    next
+}
+
+// Set answered e, unless e is its own response.
+fn put_answer(room: &mut [u8], at: usize, n: usize, e: usize, responses: u64) -> usize
+    requires { ⌜ (n ≤ maxEvents) × (e < n) × Fits (now room) at (packed ruleBytes (answering n e responses)) ⌝ }
+    ensures { λ r. ⌜ Wrote (now (room .entry)) at (packed ruleBytes (answering n e responses)) r (now (room .exit)) ⌝ }
+{
+    if sets::member(responses, e) {
+        return at;
+    }
+    put_on(room, at, e, true, 3 * n + e)
+}
+
+// Everything on the completion of e, which includes, excludes and has as responses these sets.
+fn put_completion(
+    room: &mut [u8],
+    at: usize,
+    n: usize,
+    e: usize,
+    includes: u64,
+    excludes: u64,
+    responses: u64,
+) -> usize
+    requires { ⌜ (n ≤ maxEvents) × (e < n) × (within n (union includes excludes) ≡ true) × (within n responses ≡ true) × Fits (now room) at (packed ruleBytes (completion n e includes excludes responses)) ⌝ }
+    ensures { λ r. ⌜ Wrote (now (room .entry)) at (packed ruleBytes (completion n e includes excludes responses)) r (now (room .exit)) ⌝ }
+{
+    let a = put_effects(room, at, n, e, includes, includes | excludes, 2 * n);
+    let b = put_effects(room, a, n, e, 0, responses, 3 * n);
+    let c = put_answer(room, b, n, e, responses);
+    put_on(room, c, e, true, n + e)
+}
+
+pub fn put_completions<'a>(
+    room: &mut [u8],
+    at: usize,
+    n: usize,
+    includes: &'a [u64; MAX_EVENTS],
+    excludes: &'a [u64; MAX_EVENTS],
+    responses: &'a [u64; MAX_EVENTS],
+) -> usize
+    requires { ⌜ (n ≤ maxEvents) × CompletionsIn n (now includes) (now excludes) (now responses) × Fits (now room) at (packed ruleBytes (flat n (completionAt n (now includes) (now excludes) (now responses)))) ⌝ }
+    ensures { λ r. ⌜ Wrote (now (room .entry)) at (packed ruleBytes (flat n (completionAt n (now (includes .entry)) (now (excludes .entry)) (now (responses .entry))))) r (now (room .exit)) ⌝ }
+{
+    let mut next = at;
+    let mut e = 0;
+    while e < n {
+        next = put_completion(room, next, n, e, includes[e], excludes[e], responses[e]);
+        e += 1;
+    }
+    next
+}
+
+// Without trigger: set stage e if condition e, and clear it if not.
+fn put_stage(room: &mut [u8], at: usize, e: usize) -> usize
+    requires { ⌜ (e < 65536) × (at + 2 * ruleSize ≤ length (now room)) ⌝ }
+    ensures { λ r. ⌜ Wrote (now (room .entry)) at (packed ruleBytes (stageRules e)) r (now (room .exit)) ⌝ }
+{
+    let e = e as u16;
+    let next = put_rule(room, at, 0, 1, 1, 0, e, e);
+    put_rule(room, next, 0, 2, 0, 0, e, e)
+}
+
+pub fn put_stages(room: &mut [u8], at: usize, n: usize) -> usize
+    requires { ⌜ (n ≤ maxEvents) × Fits (now room) at (packed ruleBytes (flat n stageRules)) ⌝ }
+    ensures { λ r. ⌜ Wrote (now (room .entry)) at (packed ruleBytes (flat n stageRules)) r (now (room .exit)) ⌝ }
+{
+    let mut next = at;
+    let mut e = 0;
+    while e < n {
+        next = put_stage(room, next, e);
+        e += 1;
+    }
+    next
+}
+
+// How many rules the completion of e has: e and its responses together are the events whose answer changes.
+fn completion_size(e: usize, includes: u64, excludes: u64, responses: u64) -> usize
+    requires { ⌜ e < maxEvents ⌝ }
+    ensures { λ r. ⌜ r ≡ completionSize e includes excludes responses ⌝ }
+{
+    let answers = sets::join(responses, sets::one(e));
+    sets::count(includes | excludes) as usize + sets::count(answers) as usize + 1
+}
+
+pub fn completions_size<'a>(
+    n: usize,
+    includes: &'a [u64; MAX_EVENTS],
+    excludes: &'a [u64; MAX_EVENTS],
+    responses: &'a [u64; MAX_EVENTS],
+) -> usize
+    requires { ⌜ (n ≤ maxEvents) × CompletionsIn n (now includes) (now excludes) (now responses) ⌝ }
+    ensures { λ r. ⌜ (r ≡ completionsSize n (now (includes .entry)) (now (excludes .entry)) (now (responses .entry))) × (r + 2 * maxEvents ≤ maxRules) ⌝ }
+{
+    let mut sum: usize = 0;
+    let mut e = 0;
+    while e < n {
+        sum += completion_size(e, includes[e], excludes[e], responses[e]);
+        e += 1;
+    }
+    sum
+}

@@ -1,0 +1,37 @@
+-- `text_writer::put_clauses` meets its contract. The loop takes the lowest member out of the set; what the rest of the set gives is left to write. Assumes nothing.
+use Rattle.derived.specs.Loops.{Turn, turn-start, turn-length, turn-done, turn-lt, turn-fits, turn-falls, turn-more}
+use Rattle.derived.specs.Tables.{clauseFrom}
+use Rattle.derived.specs.Written.{clause-fits, clause-from}
+use Rattle.wire.specs.Wire.{bytes16}
+use borrow.Author.Needs.{needs}
+use native.Mathlib.Omega.{arith}
+use Rattle.text_writer.proofs.put_clauses.Statement.{statement}
+use Rattle.text_writer.proofs.put_clauses.Tie as tie
+
+abbrev Inv-loop : tie.InvT-loop
+Inv-loop room₀ at n base set rest₀ next₀ room rest next = Turn bytes16 (clauseFrom n base) n set room₀ at rest next room
+
+abbrev μ-loop : tie.MeasureT-loop
+μ-loop room₀ at n base set rest₀ next₀ room rest next = rest
+
+pub put-clauses-spec : {M : Type 1} → statement M
+put-clauses-spec =
+    tie.close
+    (tie.spec
+    Inv-loop
+    μ-loop
+    (λ c. search (needs, turn-start))
+    (λ c κs. search needs)
+    (λ c. search needs)
+    (λ c. search needs)
+    (λ c. omega (arith, turn-lt _ _ _ _ _ _ _ _ _ (c .before .before .before .before .before .pre .0) (c .before .before .before .loop .inv) _ (c .before .before .loop-test .taken) (c .before .least .ensures)))
+    (λ c. omega (arith, turn-lt _ _ _ _ _ _ _ _ _ (c .before .before .before .before .before .pre .0) (c .before .before .before .loop .inv) _ (c .before .before .loop-test .taken) (c .before .least .ensures)))
+    (λ c. omega (arith, turn-lt _ _ _ _ _ _ _ _ _ (c .before .before .before .before .before .pre .0) (c .before .before .before .loop .inv) _ (c .before .before .loop-test .taken) (c .before .least .ensures)))
+    (λ c. omega (arith, turn-lt _ _ _ _ _ _ _ _ _ (c .before .before .before .before .before .pre .0) (c .before .before .before .loop .inv) _ (c .before .before .loop-test .taken) (c .before .least .ensures)))
+    (λ c κs. clause-fits (c .before .before .before .loop .room) _ _ _ _ (turn-fits _ _ _ _ _ _ _ _ _ (c .before .before .before .before .before .pre .0) (c .before .before .before .loop .inv) _ (c .before .before .loop-test .taken) (c .before .least .ensures) (c .before .before .before .before .before .pre .3)))
+    (λ c κs. omega (arith, turn-lt _ _ _ _ _ _ _ _ _ (c .before .before .before .before .before .before .before .before .pre .0) (c .before .before .before .before .before .before .loop .inv) _ (c .before .before .before .before .before .loop-test .taken) (c .before .before .before .before .least .ensures)))
+    (λ c κs. search needs)
+    (λ c. turn-falls _ _ _ _ _ _ _ _ _ (c .before .before .before .before .before .before .before .before .before .before .pre .0) (c .before .before .before .before .before .before .before .before .loop .inv) _ (c .before .before .before .before .before .before .before .loop-test .taken) (c .before .before .before .before .before .before .least .ensures) _ _ (c .before .one .ensures) (c .less .ensures))
+    (λ c. turn-more _ _ _ _ _ _ _ _ _ (c .before .before .before .before .before .before .before .before .before .before .pre .0) (c .before .before .before .before .before .before .before .before .loop .inv) _ (c .before .before .before .before .before .before .before .loop-test .taken) (c .before .before .before .before .before .before .least .ensures) _ _ _ _ (c .before .one .ensures) (c .less .ensures) (clause-from _ _ _ _ _ (c .before .before .before .before .put-clause .ensures)))
+    (λ c. turn-length _ _ _ _ _ _ _ _ _ (c .before .before .before .pre .0) (c .before .loop .inv))
+    (λ c. search turn-done))
