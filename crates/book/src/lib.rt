@@ -3,14 +3,10 @@ ghost use mathlib.Core.Path.{_≡_};
 ghost use Rattle.book.specs.Effects.{emptySnapshot};
 
 pub mod applying;
-pub mod eval;
-pub mod firing;
+pub mod conditions;
 pub mod header;
-pub mod judging;
 pub mod reader;
-pub mod references;
 pub mod rules;
-pub mod texts;
 
 // The header's five counts.
 pub struct Counts {

@@ -9,9 +9,9 @@ ghost use Rattle.book.specs.Reading.{readerOf, spanFrom};
 use crate::Counts;
 use crate::Rule;
 use crate::Span;
+use crate::conditions::condition_at;
+use crate::conditions::word_at;
 use crate::rules::rule_at;
-use crate::texts::condition_at;
-use crate::texts::word_at;
 
 pub struct BookReader<'a> {
     pub image: &'a [u8],

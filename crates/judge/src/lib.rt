@@ -1,4 +1,6 @@
 // The check of a book: loops, clashes and the running order.
+pub mod image;
+
 ghost use mathlib.Core.Path.{_≡_};
 ghost use mathlib.Core.List.{_++_};
 ghost use Prim.Native.Nat.{_≤_};
@@ -9,10 +11,10 @@ ghost use Rattle.orders.specs.Running.{runningOrder};
 ghost use Rattle.ordering.specs.Nets.{rulesOf};
 ghost use Rattle.ordering.specs.References.{References};
 ghost use Rattle.judge.specs.Checking.{rulesAnswer, checking, checkedRoom};
+use crate::image::judge_image;
+use book::header::counts_at;
 use clashes::first_clash;
 use loops::loop_place;
-use book::header::counts_at;
-use book::judging::judge_image;
 use ordering::references::REFS;
 use ordering::references::references;
 use ordering::running::running_order;

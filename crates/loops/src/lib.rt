@@ -7,11 +7,11 @@ ghost use Rattle.book.specs.WellFormed.{WellFormed};
 ghost use Rattle.ordering.specs.References.{References};
 ghost use Rattle.loops.specs.Linked.{linkWords, withCondition, withTrigger, LinkedMarks};
 ghost use Rattle.loops.specs.Places.{loopPlace};
-use book::references::MARK_WORDS;
 use ordering::references::REFS;
 use paper::BOOK_HEADER;
 use paper::MAX_MARKS;
 use paper::RULE_SIZE;
+use texts::references::MARK_WORDS;
 
 // Row b is the set of marks that the rules which target b refer to: 8 KiB.
 const LINKS: usize = MAX_MARKS * MARK_WORDS;

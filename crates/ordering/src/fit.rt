@@ -12,9 +12,9 @@ use crate::references::REFS;
 use crate::waiting::count_targets;
 use crate::waiting::strike;
 use crate::waiting::target_of;
-use book::references::MARK_WORDS;
 use paper::MAX_MARKS;
 use paper::MAX_RULES;
+use texts::references::MARK_WORDS;
 
 // The rule that an order has at j.
 pub fn entry_of(order: &[u16], j: usize) -> usize

@@ -9,8 +9,8 @@ ghost use Rattle.ordering.specs.References.{References};
 ghost use Rattle.ordering.specs.Ready.{flagged, Waits};
 use crate::references::REFS;
 use crate::references::rule_touches;
-use book::references::MARK_WORDS;
 use paper::MAX_RULES;
+use texts::references::MARK_WORDS;
 
 // Rule r is unwritten, and all its predecessors are written: it refers to no mark that waits.
 pub fn is_ready<'a>(

@@ -8,11 +8,11 @@ ghost use Rattle.book.specs.Using.{Opened};
 ghost use Rattle.book.specs.WellFormed.{WellFormed};
 ghost use Rattle.ordering.specs.References.{refWords, References, meetWord, meeting, awaitsAny, readsAny, touches};
 use book::Counts;
-use book::references::MARK_WORDS;
-use book::references::condition_marks;
 use paper::BOOK_HEADER;
 use paper::MAX_CONDITIONS;
 use paper::RULE_SIZE;
+use texts::references::MARK_WORDS;
+use texts::references::condition_marks;
 
 // Row c, of MARK_WORDS words, is the set of marks that the text of condition c names: 8 KiB.
 pub const REFS: usize = MAX_CONDITIONS * MARK_WORDS;

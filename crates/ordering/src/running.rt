@@ -14,9 +14,9 @@ use crate::references::REFS;
 use crate::waiting::count_targets;
 use crate::waiting::strike;
 use crate::waiting::target_of;
-use book::references::MARK_WORDS;
 use paper::MAX_MARKS;
 use paper::MAX_RULES;
+use texts::references::MARK_WORDS;
 
 // The lowest rule that was passed over, once the rule `at` is met and is not ready.
 fn passing(passed: usize, at: usize, written: bool) -> usize

@@ -9,10 +9,10 @@ ghost use Rattle.book.specs.WellFormed.{WellFormed};
 ghost use Rattle.orders.specs.Written.{none};
 ghost use Rattle.ordering.specs.Nets.{rulesOf};
 ghost use Rattle.ordering.specs.Counters.{Counters, Struck};
-use book::references::MARK_WORDS;
 use paper::BOOK_HEADER;
 use paper::MAX_MARKS;
 use paper::RULE_SIZE;
+use texts::references::MARK_WORDS;
 
 // The mark that rule r targets.
 pub fn target_of(image: &[u8], r: usize) -> usize

@@ -9,8 +9,8 @@ use book::Counts;
 use book::Snapshot;
 use book::applying::alters;
 use book::applying::applied;
-use book::firing::rule_fires;
 use book::reader::rule_in;
+use firing::rule_fires;
 use ordering::fit::entry_of;
 
 // The snapshot after the turns. A rule whose target has its value already

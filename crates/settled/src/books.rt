@@ -2,7 +2,7 @@
 use crate::show;
 
 fn case(name: &[u8], image: &[u8]) {
-    show::line(name, book::judging::judge_image(image));
+    show::line(name, judge::image::judge_image(image));
 }
 
 // Lengths and counts.

@@ -11,10 +11,10 @@ use Rattle.book.proofs.Span.Laws as S′
 use Rattle.book.specs.declared.reader.BookReader.{BookReader}
 use Rattle.book.proofs.reader.BookReader as T
 use Rattle.book.proofs.reader.BookReader.Laws as T′
-use Rattle.book.proofs.texts.condition_at as condition-at
-use Rattle.book.proofs.texts.condition_at.Symbol as condition-at-def
-use Rattle.book.proofs.texts.condition_at.Symbol.{name as #book·condition-at}
-use Rattle.book.proofs.texts.condition_at.Met as condition-at-thm
+use Rattle.book.proofs.conditions.condition_at as condition-at
+use Rattle.book.proofs.conditions.condition_at.Symbol as condition-at-def
+use Rattle.book.proofs.conditions.condition_at.Symbol.{name as #book·condition-at}
+use Rattle.book.proofs.conditions.condition_at.Met as condition-at-thm
 use Rattle.book.proofs.reader.BookReader.condition.Key.{name as #book·condition}
 use Rattle.book.proofs.reader.BookReader.condition as condition
 use Rattle.book.proofs.reader.BookReader.condition.Statement as stated

@@ -8,10 +8,10 @@ use Rattle.wire.specs.Wire.{u16At}
 use Rattle.book.specs.declared.reader.BookReader.{BookReader}
 use Rattle.book.proofs.reader.BookReader as T
 use Rattle.book.proofs.reader.BookReader.Laws as T′
-use Rattle.book.proofs.texts.word_at as word-at
-use Rattle.book.proofs.texts.word_at.Symbol as word-at-def
-use Rattle.book.proofs.texts.word_at.Symbol.{name as #book·word-at}
-use Rattle.book.proofs.texts.word_at.Met as word-at-thm
+use Rattle.book.proofs.conditions.word_at as word-at
+use Rattle.book.proofs.conditions.word_at.Symbol as word-at-def
+use Rattle.book.proofs.conditions.word_at.Symbol.{name as #book·word-at}
+use Rattle.book.proofs.conditions.word_at.Met as word-at-thm
 use Rattle.book.proofs.reader.BookReader.word.Key.{name as #book·word}
 use Rattle.book.proofs.reader.BookReader.word as word
 use Rattle.book.proofs.reader.BookReader.word.Statement as stated

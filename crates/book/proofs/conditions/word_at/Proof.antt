@@ -1,0 +1,14 @@
+-- `book::conditions::word_at` meets its contract. Assumes nothing.
+use borrow.Author.Needs.{needs}
+use Rattle.book.proofs.conditions.word_at.Statement.{statement}
+use Rattle.book.proofs.conditions.word_at.Tie as tie
+
+pub word-at-spec : {M : Type 1} → statement M
+word-at-spec =
+    tie.close
+    (tie.spec
+    (λ c κs. search needs)
+    (λ c. search needs)
+    (λ c. search needs)
+    (λ c κs. search needs)
+    (λ c. cc))

@@ -1,0 +1,49 @@
+// The postfix evaluator: what a good text says of the marks as they stand.
+ghost use mathlib.Core.Path.{_≡_};
+ghost use mathlib.Core.Bool.{true};
+ghost use Prim.Native.Nat.{_+_, _*_, _≤_};
+ghost use lib.ListN.{length};
+ghost use Rattle.paper.specs.Limits.{maxMarks, wordSize};
+ghost use Rattle.book.specs.Text.{holds, snapOf};
+ghost use Rattle.book.specs.Good.{good};
+ghost use Rattle.book.specs.Read.{wordsFrom};
+use paper::MAX_MARKS;
+use paper::MAX_STACK;
+use paper::WORD_SIZE;
+
+const LAST_MARK: u16 = (MAX_MARKS - 1) as u16;
+
+// The text is `count` words from the byte `at`.
+pub fn text_holds(image: &[u8], at: usize, count: usize, marks: &[bool; MAX_MARKS]) -> bool
+    requires { ⌜ (at + wordSize * count ≤ length (now image)) × (good maxMarks (wordsFrom (now image) at count) ≡ true) ⌝ }
+    ensures { λ r. ⌜ r ≡ holds (snapOf (now (marks .entry))) (wordsFrom (now (image .entry)) at count) ⌝ }
+{
+    let mut values = [false; MAX_STACK];
+    let mut depth: usize = 0;
+    let mut i = 0;
+    while i < count {
+        let w = wire::u16_at(image, at + WORD_SIZE * i);
+        match w {
+            0..=LAST_MARK => {
+                values[depth] = marks[w as usize];
+                depth += 1;
+            }
+            // A good text has no other word than these.
+            _ => match w {
+                paper::AND => {
+                    values[depth - 2] = values[depth - 2] & values[depth - 1];
+                    depth -= 1;
+                }
+                paper::OR => {
+                    values[depth - 2] = values[depth - 2] | values[depth - 1];
+                    depth -= 1;
+                }
+                _ => {
+                    values[depth - 1] = !values[depth - 1];
+                }
+            },
+        }
+        i += 1;
+    }
+    values[0]
+}
