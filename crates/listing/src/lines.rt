@@ -113,13 +113,24 @@ fn words_text(room: &mut [u8], at: usize, image: &[u8], from: usize, count: u32)
     let mut next = at;
     let mut i: u32 = 0;
     while i < count {
-        next = word_text(room, next, wire::u16_at(image, from + WORD_SIZE * i as usize));
+        next = word_text(
+            room,
+            next,
+            wire::u16_at(image, from + WORD_SIZE * i as usize),
+        );
         i += 1;
     }
     next
 }
 
-fn condition_line(room: &mut [u8], at: usize, image: &[u8], c: u32, from: usize, count: u32) -> usize
+fn condition_line(
+    room: &mut [u8],
+    at: usize,
+    image: &[u8],
+    c: u32,
+    from: usize,
+    count: u32,
+) -> usize
     requires { ⌜ (from + wordSize * count ≤ length (now image)) × Space (now room) at (conditionLine c (wordsFrom (now image) from count)) ⌝ }
     ensures { λ r. ⌜ Wrote (now (room .entry)) at (conditionLine c (wordsFrom (now (image .entry)) from count)) r (now (room .exit)) ⌝ }
 {
