@@ -6,10 +6,11 @@
 import ozhimka as model
 from chances import (random_chart_image, random_flat, random_nodes, random_order, random_relations, random_snapshot,
                      sound_book)
-from ozhimka import (AND, BECOME_NO, BECOME_YES, CLEAR, COMPLETED, CONDITION, EXCLUDE, GRANTED, INCLUDE, NONE, NOT, OR, SET,
-                     Book, FlatChart, Marking, Rule, book_image, chart_image, on_completion, without_trigger)
+from ozhimka import (AND, BECOME_NO, BECOME_YES, CLEAR, COMPLETED, CONDITION, EXCLUDE, GRANTED, INCLUDE, MILESTONE, NONE, NOT,
+                     OR, SET, Book, FlatChart, Marking, Rule, book_image, chart_image, on_completion, without_trigger)
 from protocol import (BAD, MAX_BODY, MAX_ROOM_BYTES, MAX_ROOM_NUMBERS, bytes16, bytes32, check_request, complete_request,
-                      count_request, derive_request, execute_request, finished_request, matching_request, read_request)
+                      count_request, derive_request, execute_request, finished_request, listing_request, matching_request,
+                      read_request)
 
 FREE = (NONE, 4)
 HUGE = 0xFFFFFFFF
@@ -777,7 +778,61 @@ def wide_conditions(rng):
              + [on_completion(63, SET, 255), on_completion(63, CLEAR, 255)], [], [])))
 
 
+# ---- the listing
+
+def full_chart(pairs, kinds):
+    """64 events that are all related to all by the first kind, and so many further pairs by the second."""
+    nodes = [(NONE, 0)] + [(0, 4)] * 64
+    further = [(1 + n // 64, 1 + n % 64, kinds[1]) for n in range(pairs)]
+    return chart_image(nodes, [(0, 0, kinds[0])] + further)
+
+
+def refused_listings(rng):
+    """Images that are refused, with the line that each gives: every code of the reader, and the deriver's 15."""
+    image = model.PAPER_CHART
+    nodes, relations = largest_chart(rng)
+    largest = chart_image(nodes, relations)
+    nested = [(NONE, 0), (0, 4), (0, 4), FREE]
+    yield b'', (1, 0, 0)
+    yield image[:7], (1, 0, 0)
+    yield with_number16(image, 0, 129), (2, 0, 0)
+    yield image + b'\0', (3, 0, 0)
+    yield largest + b'\0', (3, 0, 0)  # 25,097 bytes
+    yield largest + bytes(5000), (3, 0, 0)
+    yield with_number16(largest, 2, 4097) + b'\0', (2, 0, 0)
+    yield with_number16(largest, 8 + 4 * 127 + 2, 8), (4, 127, 0)
+    yield chart_image([(1, 0), (2, 0), (1, 0), FREE], []), (5, 1, 0)
+    yield chart_image([FREE, (NONE, 3), (1, 4), FREE], []), (6, 1, 0)
+    yield chart_image([FREE] * 100, []), (7, 100, 0)
+    yield with_number16(largest, len(largest) - 2, 5), (8, 4095, 0)
+    yield chart_image(nested, [(3, 0, INCLUDE), (3, 1, EXCLUDE)]), (9, 2, 0)
+    yield chart_image([FREE] * 64, [(a, b, kind) for a, b in ((63, 63), (5, 12)) for kind in (EXCLUDE, INCLUDE)]), (9, 5, 12)
+    everyone = [(NONE, 0)] + [(0, 4)] * 64
+    yield chart_image(everyone, [(0, 0, kind) for kind in (0, 1, 2, 3)]), (15, 166432, 0)
+    yield full_chart(497, (CONDITION, MILESTONE)), (15, 49162, 0)
+
+
+def listed_charts(rng):
+    """Images that are listed: the paper's, some of 1 to 64 events, and books that fill 49,152 bytes."""
+    yield model.PAPER_CHART
+    for count in (1, 2, 5, 10, 11, 30, 63, 64):
+        nodes = [(NONE, rng.choice((4, 6, 5, 0)))] * count
+        yield chart_image(nodes, random_relations(rng, nodes, 4 * count))
+        yield chart_image(nodes, [])
+    for kinds in ((CONDITION, MILESTONE), (MILESTONE, INCLUDE), (INCLUDE, CONDITION), (EXCLUDE, MILESTONE)):
+        yield full_chart(496, kinds)
+
+
+def listing_causes(rng):
+    for image, answer in refused_listings(rng):
+        assert model.listing(image) == 'refused %d %d %d\n' % answer
+        yield None, listing_request(image)
+    for image in listed_charts(rng):
+        assert model.listing(image).startswith('stages ')
+        yield None, listing_request(image)
+
+
 CAUSES = (header_causes, node_causes, group_causes, conflict_causes, accepted_charts, unfit_causes, step_causes,
           marking_causes, derive_causes, book_header_causes, rule_causes, condition_causes, loop_causes, clash_causes,
-          order_causes, pair_causes, running_order_causes, firing_causes, bad_requests, request_limits)
+          order_causes, pair_causes, running_order_causes, firing_causes, bad_requests, request_limits, listing_causes)
 LARGEST = (largest_charts, largest_derivings, largest_derived_book, largest_hand_made, wide_conditions)

@@ -3,7 +3,7 @@
 import ozhimka as model
 from ozhimka import AND, NONE, NOT, OR, Book, Marking, Rule
 from protocol import (check_request, complete_request, count_request, derive_request, execute_request,
-                      finished_request, matching_request, read_request)
+                      finished_request, listing_request, matching_request, read_request)
 
 
 def some(rng, population, chance):
@@ -324,6 +324,11 @@ def damaged_charts(rng):
     yield read_request(with_bytes_changed(rng, random_chart_image(rng)))
 
 
+def listings(rng):
+    yield listing_request(random_chart_image(rng, conflicts=rng.choice((0, 0, 0.5))))
+    yield listing_request(with_bytes_changed(rng, random_chart_image(rng)))
+
+
 def damaged_books(rng):
     book = rng.choice((wild_book, sound_book))(rng)
     image = with_bytes_changed(rng, model.book_image(book))
@@ -345,5 +350,5 @@ def damaged_flats(rng):
     yield bytes(body) if body[0] == 2 else bytes(body[:-4])
 
 
-SMALL = (charts, wild_checks, wild_completions, sound_books, sound_runs, damaged_charts, damaged_books)
+SMALL = (charts, wild_checks, wild_completions, sound_books, sound_runs, damaged_charts, damaged_books, listings)
 WIDE = (steps, derivings, side_by_side, damaged_flats)  # their requests carry a flat chart of 2,564 bytes

@@ -11,6 +11,7 @@ MAX_BODY = 262144
 MAX_ROOM_BYTES = 200000
 MAX_ROOM_NUMBERS = 10000
 BAD = 'bad request'
+LISTING = 18  # the operation that lists a chart's book
 
 
 # ---- writing requests
@@ -72,6 +73,10 @@ def complete_request(stage, snapshot, order, image):
             + b''.join(bytes16(p) for p in order) + image)
 
 
+def listing_request(image):
+    return bytes([LISTING]) + image
+
+
 def framed(body):
     return bytes32(len(body)) + body
 
@@ -125,6 +130,8 @@ def line_for(body):
         return check_line(body) if len(body) >= 5 else BAD
     if operation == 8:
         return complete_line(body) if len(body) >= 41 else BAD
+    if operation == LISTING:
+        return listing_line(body)
     return BAD
 
 
@@ -176,6 +183,11 @@ def complete_line(body):
     order = [model.number16(body, at) for at in range(41, 41 + 2 * count, 2)]
     answer, after = model.complete(body[41 + 2 * count:], order, snapshot, stage)
     return line('complete', answer, snapshot_words(after))
+
+
+def listing_line(body):
+    text = model.listing(body[1:]).encode('ascii')
+    return 'listing %d %d' % (len(text), zlib.adler32(text))
 
 
 def answer_of(text):

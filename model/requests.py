@@ -16,7 +16,7 @@ from collections import Counter
 import causes
 import chances
 from ozhimka import PAPER_CHART
-from protocol import BAD, MAX_BODY, answer_of, bytes32, framed, line_for, read_request
+from protocol import BAD, LISTING, MAX_BODY, answer_of, bytes32, framed, line_for, read_request
 
 BATCH = 5000  # requests that one run of the program gets
 
@@ -121,7 +121,7 @@ def compare(count, seed, program):
         if not agrees(program, batch, *ENDINGS[0], agreed):
             return 1
         agreed += len(batch)
-        codes.update(line if line == BAD else line.split()[1] for body, line in batch)
+        codes.update(line if line == BAD else 'listing' if body[0] == LISTING else line.split()[1] for body, line in batch)
     print('%d requests of seed %d agree' % (agreed, seed))
     print('answers by code: ' + ', '.join('%s: %d' % (code, codes[code])
                                          for code in sorted(codes, key=lambda code: (len(code), code))))

@@ -1,4 +1,4 @@
-// Rule books: the image's header, rules, conditions and texts, and the snapshot that the rules alter.
+// Rule books: the header of the image, its rules and condition records, the reader, and the snapshot that rules alter.
 ghost use mathlib.Core.Path.{_≡_};
 ghost use Rattle.book.specs.Effects.{emptySnapshot};
 

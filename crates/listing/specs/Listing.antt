@@ -6,8 +6,8 @@ use mathlib.Core.List.{List, _++_}
 use native.Mathlib.Nat.{zero-add}
 use native.Mathlib.Omega.{arith}
 use lib.Dec.{eqb, ltb, leb}
-use lib.ListN.{length, take, drop, length-append}
-use lib.Seq.{take-all, take-append-seam}
+use lib.ListN.{length, take, drop, replicate, length-append, length-replicate}
+use lib.Seq.{take-all, take-append-seam, length-take-le}
 use borrow.Author.Tests.{eq-eqb, ne-eqb, lt-ltb, le-ltb, leb-true}
 use Rattle.paper.specs.Limits.{bookHeader, wordSize}
 use Rattle.paper.specs.declared.Answer.{Answer}
@@ -31,7 +31,7 @@ use Rattle.derived.specs.Writing.{Wrote, wrote-whole}
 use Rattle.listing.specs.Limits.{listingInput, listingBook, maxListing}
 use Rattle.listing.specs.Text.{bookText, refusalLine, unlessRefused, chartText, imageText, listingText}
 use Rattle.listing.specs.Writers.{Space}
-use Rattle.listing.specs.Bounds.{chart-most, image-text-most}
+use Rattle.listing.specs.Bounds.{chart-most, image-text-most, listing-most}
 
 -- a room that may be too short for the text is left as it was, and the length given is 0
 unfoldable pub listedLength : List ℕ → List ℕ → ℕ
@@ -40,6 +40,11 @@ listedLength input room = cond (ltb (length room) maxListing) 0 (length (listing
 -- "Room past what is written stays as it was."
 unfoldable pub listedRoom : List ℕ → List ℕ → List ℕ
 listedRoom input room = cond (ltb (length room) maxListing) room (listingText input ++ drop (length (listingText input)) room)
+
+-- what is handed back never passes a room that is long enough
+pub listed-most : (input room : List ℕ) → listedLength input room ≤ maxListing
+unfolding listedLength
+listed-most input room = cases (ltb (length room) maxListing) (λ z. rw z (omega arith)) (λ z. rw z (listing-most input))
 
 -- ---- each return, as the code meets it
 
@@ -87,6 +92,10 @@ module _ (image room : List ℕ) (big : maxListing ≤ length room) (r : Reading
   image-wrote z next after w = rw (text-of, eq-eqb (r .answer .code) 0 z) w
 
 -- ---- a chart: the deriver's refusal, or its book
+
+-- the room for the book, as it is before
+pub blank : length (replicate {A = ℕ} listingBook 0) ≡ listingBook
+blank = length-replicate {A = ℕ} listingBook 0
 
 module _ (c : FlatChart) (room bytes after : List ℕ) (big : maxListing ≤ length room) (size : length bytes ≡ listingBook)
     (a : Answer) (p : a ≡ derivingAnswer c (length bytes)) (q : after ≡ derivedRoom c bytes) where
@@ -160,6 +169,9 @@ module _ (c : FlatChart) (room bytes after : List ℕ) (big : maxListing ≤ len
 
         pub end-fits : end ≤ length after
         end-fits = rw (f, end-is) after-long
+
+        pub end-size : end ≡ length (take end after)
+        end-size = sym (length-take-le end after end-fits)
 
         cut-is : take end after ≡ derivedImage c
         cut-is = rw (f, end-is, derived .holds) (take-append-seam (derivedImage c) (drop (length (derivedImage c)) bytes))

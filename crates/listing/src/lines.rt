@@ -15,6 +15,8 @@ use book::Counts;
 use book::Rule;
 use book::Sense;
 use book::Trigger;
+use book::reader::condition_in;
+use book::reader::rule_in;
 use paper::AND;
 use paper::NOT;
 use paper::OR;
@@ -79,14 +81,14 @@ fn rule_line(room: &mut [u8], at: usize, i: u32, rule: Rule) -> usize
     out::text(room, d, b"\n")
 }
 
-fn rule_lines(room: &mut [u8], at: usize, image: &[u8], rules: u32) -> usize
-    requires { ⌜ (rulePlace rules ≤ length (now image)) × Space (now room) at (flat rules (ruleLineAt (now image))) ⌝ }
-    ensures { λ r. ⌜ Wrote (now (room .entry)) at (flat rules (ruleLineAt (now (image .entry)))) r (now (room .exit)) ⌝ }
+fn rule_lines(room: &mut [u8], at: usize, image: &[u8], h: Counts) -> usize
+    requires { ⌜ (rulePlace (h .rules) ≤ length (now image)) × Space (now room) at (flat (h .rules) (ruleLineAt (now image))) ⌝ }
+    ensures { λ r. ⌜ Wrote (now (room .entry)) at (flat (h .rules) (ruleLineAt (now (image .entry)))) r (now (room .exit)) ⌝ }
 {
     let mut next = at;
     let mut i: u32 = 0;
-    while i < rules {
-        next = rule_line(room, next, i, book::rules::rule_at(image, i as usize));
+    while i < h.rules {
+        next = rule_line(room, next, i, rule_in(image, h, i as usize));
         i += 1;
     }
     next
@@ -140,15 +142,15 @@ fn condition_line(
     out::text(room, d, b"\n")
 }
 
-fn condition_lines(room: &mut [u8], at: usize, image: &[u8], rules: u32, conditions: u32) -> usize
-    requires { ⌜ ConditionsIn (now image) rules conditions × Space (now room) at (flat conditions (conditionLineAt (now image) rules conditions)) ⌝ }
-    ensures { λ r. ⌜ Wrote (now (room .entry)) at (flat conditions (conditionLineAt (now (image .entry)) rules conditions)) r (now (room .exit)) ⌝ }
+fn condition_lines(room: &mut [u8], at: usize, image: &[u8], h: Counts) -> usize
+    requires { ⌜ ConditionsIn (now image) (h .rules) (h .conditions) × Space (now room) at (flat (h .conditions) (conditionLineAt (now image) (h .rules) (h .conditions))) ⌝ }
+    ensures { λ r. ⌜ Wrote (now (room .entry)) at (flat (h .conditions) (conditionLineAt (now (image .entry)) (h .rules) (h .conditions))) r (now (room .exit)) ⌝ }
 {
-    let words = book::header::words_from(rules, conditions);
+    let words = book::header::words_from(h.rules, h.conditions);
     let mut next = at;
     let mut c: u32 = 0;
-    while c < conditions {
-        let text = book::conditions::condition_at(image, rules, c as usize);
+    while c < h.conditions {
+        let text = condition_in(image, h, c as usize);
         let from = words + WORD_SIZE * text.start as usize;
         next = condition_line(room, next, image, c, from, text.count);
         c += 1;
@@ -163,6 +165,6 @@ pub fn book_text(room: &mut [u8], image: &[u8]) -> usize
 {
     let h = book::header::counts_at(image);
     let a = counts_line(room, 0, h);
-    let b = rule_lines(room, a, image, h.rules);
-    condition_lines(room, b, image, h.rules, h.conditions)
+    let b = rule_lines(room, a, image, h);
+    condition_lines(room, b, image, h)
 }

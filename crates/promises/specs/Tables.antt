@@ -10,14 +10,14 @@ use Rattle.paper.specs.Limits.{maxEvents, unfit, bookRoom}
 use Rattle.paper.specs.Answers.{answer, granted, refusal}
 use Rattle.paper.specs.declared.Answer.{Answer}
 use Rattle.sets.specs.Cases.{cases, contra, both, not-so}
-use Rattle.sets.specs.Below.{tally, tally-none}
+use Rattle.sets.specs.Below.{tally, tally-none, Lowest, lowest-one}
 use Rattle.sets.specs.Set.{has, inter, lowest}
 use Rattle.sets.specs.Laws.{has-inter, below, lowest-has, lowest-lt, apart-not, not-apart}
 use Rattle.graph.specs.Chart.{In, Fit, FitMarking}
 use Rattle.graph.specs.Tests.{fit, fitChart}
 use Rattle.graph.specs.Fitness.{fit-chart, fit-both, both-fit, fit-tested}
 use Rattle.graph.specs.Steps.{isOpen, counting, finishing}
-use Rattle.graph.specs.Execution.{Enabled, Lowest, lowest-one, open-enabled, Counts, counts, count-refused, finish-refused}
+use Rattle.graph.specs.Execution.{Enabled, open-enabled, Counts, counts, count-refused, finish-refused}
 use Rattle.graph.specs.declared.FlatChart.{FlatChart}
 use Rattle.graph.specs.declared.Marking.{Marking}
 use Rattle.graph.specs.declared.steps.OpenCount.{OpenCount}
@@ -42,7 +42,7 @@ module _ (c : FlatChart) (m : Marking) where
   pub data CountsOpen : OpenCount → Type 0 where
     isUnfit : Unfit → CountsOpen (record { answer = refusal unfit; count = 0; lowest = maxEvents })
     isNone : Fit c → FitMarking (c .count) m → ((e : ℕ) → Enabled c m e → ⊥) → CountsOpen (record { answer = granted; count = 0; lowest = maxEvents })
-    isSome : {n e : ℕ} → Fit c → FitMarking (c .count) m → Number (Enabled c m) (c .count) n → Lowest (Enabled c m) e → CountsOpen (record { answer = granted; count = n; lowest = e })
+    isSome : {n e : ℕ} → Fit c → FitMarking (c .count) m → Number (Enabled c m) (c .count) n → Lowest (c .count) (Enabled c m) e → CountsOpen (record { answer = granted; count = n; lowest = e })
 
   enabled-below : FitMarking (c .count) m → (e : ℕ) → Enabled c m e → e < c .count
   enabled-below t e x = t .included e (x .included)
@@ -80,7 +80,7 @@ module _ (c : FlatChart) (m : Marking) where
   counts-only (isNone f t n) = row-one f t (open-none n) (λ k. k .lowest .1 (λ h. n _ (k .lowest .0 h .holds)) .0)
   counts-only (isSome {n} {e} f t u l) =
       row-one f t (number-one open-number u)
-      (λ k. lowest-one (Enabled c m) (counting c m .lowest) e (k .lowest .0 (below-count k)) l)
+      (λ k. lowest-one (c .count) (Enabled c m) (counting c m .lowest) e (k .lowest .0 (below-count k)) l)
     where
       below-count : Counts c m (counting c m) → counting c m .lowest < c .count
       below-count k =

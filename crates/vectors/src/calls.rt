@@ -129,3 +129,15 @@ pub fn complete(body: &[u8], line: &mut [u8; LINE]) -> usize {
     let at = show::answer(line, b"complete", completion.answer);
     show::snapshot(line, at, completion.snapshot)
 }
+
+// What the listing program prints for the image, which is all that follows the operation: its length and its sum.
+pub fn list(body: &[u8], line: &mut [u8; LINE]) -> usize {
+    if body.len() < FIELDS {
+        return show::bad_request(line);
+    }
+    let mut room = [FILL; MAX_BYTES];
+    let length = listing::list(&body[FIELDS..], &mut room);
+    let at = show::text(line, 0, b"listing");
+    let at = show::number(line, at, length as u64);
+    show::number(line, at, adler::of_bytes(&room, length))
+}

@@ -1,4 +1,7 @@
 -- `listing::list` meets its contract. Assumes nothing.
+use mathlib.Core.Path.{sym}
+use native.Mathlib.Omega.{arith}
+use lib.Seq.{length-take-le}
 use borrow.Author.Needs.{needs}
 use Rattle.listing.specs.Listing.{list-short, list-whole, list-cut}
 use Rattle.listing.proofs.list.Statement.{statement}
@@ -12,7 +15,7 @@ list-spec =
     (λ c κs. search needs)
     (λ c. search needs)
     (λ c. list-whole (c .before .before .before .before .before .before .before .before .args .input .now) (c .before .before .before .before .before .before .before .before .args .room .now) (c .before .before .before .before .before .if1 .left) (c .before .before .before .before .if2 .taken) _ _ (c .before .before .image-text .ensures))
-    (λ c. search needs)
+    (λ c. sym (length-take-le _ (c .before .before .before .before .before .before .args .input .now) (omega arith)))
     (λ c κs. search needs)
     (λ c. search needs)
     (λ c. list-cut (c .before .before .before .before .before .before .before .before .before .args .input .now) (c .before .before .before .before .before .before .before .before .before .args .room .now) (c .before .before .before .before .before .before .if1 .left) _ _ (c .before .before .image-text2 .ensures)))

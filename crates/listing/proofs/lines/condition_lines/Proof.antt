@@ -7,10 +7,10 @@ use Rattle.listing.proofs.lines.condition_lines.Statement.{statement}
 use Rattle.listing.proofs.lines.condition_lines.Tie as tie
 
 abbrev Inv-loop : tie.InvT-loop
-Inv-loop room₀ at image rules conditions words next₀ c₀ room next c = Lines (conditionLineAt image rules conditions) conditions room₀ at c next room
+Inv-loop room₀ at image h words next₀ c₀ room next c = Lines (conditionLineAt image (h .rules) (h .conditions)) (h .conditions) room₀ at c next room
 
 abbrev μ-loop : tie.MeasureT-loop
-μ-loop room₀ at image rules conditions words next₀ c₀ room next c = conditions - c
+μ-loop room₀ at image h words next₀ c₀ room next c = h .conditions - c
 
 pub condition-lines-spec : {M : Type 1} → statement M
 condition-lines-spec =
@@ -25,9 +25,9 @@ condition-lines-spec =
     (λ c. search needs)
     (λ c. search needs)
     (λ c. search needs)
-    (λ c κs. condition-fits _ _ _ (c .before .before .before .before .before .before .before .before .pre .0) _ (c .before .before .before .loop-test .taken) _ (c .before .before .before .before .before .words-from .ensures) _ (c .before .before .condition-at .ensures) _ _ _ _ (c .before .before .before .before .loop .inv) (c .before .before .before .before .before .before .before .before .pre .1))
+    (λ c κs. condition-fits _ _ _ (c .before .before .before .before .before .before .before .before .pre .0) _ (c .before .before .before .loop-test .taken) _ (c .before .before .before .before .before .words-from .ensures) _ (c .before .before .condition-in .ensures) _ _ _ _ (c .before .before .before .before .loop .inv) (c .before .before .before .before .before .before .before .before .pre .1))
     (λ c. search needs)
     (λ c. search needs)
-    (λ c. condition-more _ _ _ (c .before .before .before .before .before .before .before .before .before .before .before .pre .0) _ (c .before .before .before .before .before .before .loop-test .taken) _ (c .before .before .before .before .before .before .before .before .words-from .ensures) _ (c .before .before .before .before .before .condition-at .ensures) _ _ _ _ (c .before .before .before .before .before .before .before .loop .inv) _ _ (c .before .before .condition-line .ensures))
+    (λ c. condition-more _ _ _ (c .before .before .before .before .before .before .before .before .before .before .before .pre .0) _ (c .before .before .before .before .before .before .loop-test .taken) _ (c .before .before .before .before .before .before .before .before .words-from .ensures) _ (c .before .before .before .before .before .condition-in .ensures) _ _ _ _ (c .before .before .before .before .before .before .before .loop .inv) _ _ (c .before .before .condition-line .ensures))
     (λ c. lines-length _ _ _ _ _ _ _ (c .before .loop .inv))
     (λ c. search lines-done))

@@ -7,10 +7,10 @@ use Rattle.listing.proofs.lines.rule_lines.Statement.{statement}
 use Rattle.listing.proofs.lines.rule_lines.Tie as tie
 
 abbrev Inv-loop : tie.InvT-loop
-Inv-loop room₀ at image rules next₀ i₀ room next i = Lines (ruleLineAt image) rules room₀ at i next room
+Inv-loop room₀ at image h next₀ i₀ room next i = Lines (ruleLineAt image) (h .rules) room₀ at i next room
 
 abbrev μ-loop : tie.MeasureT-loop
-μ-loop room₀ at image rules next₀ i₀ room next i = rules - i
+μ-loop room₀ at image h next₀ i₀ room next i = h .rules - i
 
 pub rule-lines-spec : {M : Type 1} → statement M
 rule-lines-spec =
