@@ -2,7 +2,7 @@
 use crate::show;
 use book::Snapshot;
 
-// A mark m is worth 2 to the m.
+// Mark m is worth 2 to the m in the first of four numbers, mark 64 + m in the second, and so on.
 fn case(name: &[u8], book: &[u8], order: &[u16], snapshot: Snapshot, stage: u32) -> Snapshot {
     let done = runner::complete(book, order, snapshot, stage);
     show::marked(name, done.answer, done.snapshot);
@@ -55,7 +55,31 @@ fn by_hand() {
     );
 }
 
+// On completion of 0 set 255, of 256 marks; and of 255 marks none, while 255 is yes.
+fn last_mark() {
+    let mut marks = [false; paper::MAX_MARKS];
+    marks[0] = true;
+    marks[64] = true;
+    let open = Snapshot { marks };
+    case(
+        b"complete-mark-255",
+        b"\x01\x00\x00\x00\x00\x01\x00\x00\x01\x00\x00\x00\x00\x00\x00\x00\x00\x00\x00\x00\x20\x00\x00\x00\x2A\x00\x00\x00\x2A\x00\x00\x00\x01\x00\x01\x00\x00\x00\x00\x00\xFF\x00",
+        &[0],
+        open,
+        0,
+    );
+    marks[255] = true;
+    case(
+        b"complete-mark-255-above",
+        b"\x01\x00\x00\x00\xFF\x00\x00\x00\x00\x00\x00\x00\x00\x00\x00\x00\x00\x00\x00\x00\x20\x00\x00\x00\x20\x00\x00\x00\x20\x00\x00\x00",
+        &[],
+        Snapshot { marks },
+        0,
+    );
+}
+
 pub fn run() {
     paper();
     by_hand();
+    last_mark();
 }

@@ -1,30 +1,37 @@
 // Lines of the listing.
+ghost use Prim.Native.Nat.{_+_, _≤_};
+ghost use Rattle.paper.specs.Limits.{maxMarks};
 use book::Snapshot;
 use libc::STDOUT_FILENO;
 use paper::Answer;
+use paper::MAX_MARKS;
 
-fn number(n: u32) {
+// Marks are shown by so many.
+const SHOWN: usize = 64;
+
+fn number(n: u64) {
     io::write_all(STDOUT_FILENO, b" ");
-    io::print_decimal(STDOUT_FILENO, n as u64);
+    io::print_decimal(STDOUT_FILENO, n);
+}
+
+fn answered(name: &[u8], answer: Answer) {
+    io::write_all(STDOUT_FILENO, name);
+    number(answer.code as u64);
+    number(answer.place as u64);
+    number(answer.other as u64);
 }
 
 // One case: its name and its answer.
 pub fn line(name: &[u8], answer: Answer) {
-    io::write_all(STDOUT_FILENO, name);
-    number(answer.code);
-    number(answer.place);
-    number(answer.other);
+    answered(name, answer);
     io::write_all(STDOUT_FILENO, b"\n");
 }
 
 // One case with a count and the lowest.
 pub fn counted(name: &[u8], answer: Answer, count: u32, lowest: u32) {
-    io::write_all(STDOUT_FILENO, name);
-    number(answer.code);
-    number(answer.place);
-    number(answer.other);
-    number(count);
-    number(lowest);
+    answered(name, answer);
+    number(count as u64);
+    number(lowest as u64);
     io::write_all(STDOUT_FILENO, b"\n");
 }
 
@@ -38,18 +45,24 @@ pub fn told(name: &[u8], yes: bool) {
     }
 }
 
-// One case with a snapshot, in which mark m is worth 2 to the m; marks from 64 on are not shown.
-pub fn marked(name: &[u8], answer: Answer, snapshot: Snapshot) {
-    let mut worth: u64 = 0;
-    for m in 0..64 {
-        worth = sets::put_if(worth, m, snapshot.marks[m]);
+// The marks from the mark `from` on, of which the mark from + m is worth 2 to the m.
+fn worth(marks: &[bool; MAX_MARKS], from: usize) -> u64
+    requires { ⌜ from + 64 ≤ maxMarks ⌝ }
+{
+    let mut word: u64 = 0;
+    for m in 0..SHOWN {
+        word = sets::put_if(word, m, marks[from + m]);
     }
-    io::write_all(STDOUT_FILENO, name);
-    number(answer.code);
-    number(answer.place);
-    number(answer.other);
-    io::write_all(STDOUT_FILENO, b" ");
-    io::print_decimal(STDOUT_FILENO, worth);
+    word
+}
+
+// One case with a snapshot: every mark, in four numbers.
+pub fn marked(name: &[u8], answer: Answer, snapshot: Snapshot) {
+    answered(name, answer);
+    number(worth(&snapshot.marks, 0));
+    number(worth(&snapshot.marks, SHOWN));
+    number(worth(&snapshot.marks, 2 * SHOWN));
+    number(worth(&snapshot.marks, 3 * SHOWN));
     io::write_all(STDOUT_FILENO, b"\n");
 }
 
@@ -62,6 +75,6 @@ pub fn order(name: &[u8], rules: &[u16]) {
     io::write_all(STDOUT_FILENO, b"\n");
 }
 
-fn wide(n: u16) -> u32 {
-    n as u32
+fn wide(n: u16) -> u64 {
+    n as u64
 }
