@@ -22,6 +22,8 @@ use Rattle.deriver.specs.Derived.{derivedBook}
 use Rattle.deriver.specs.Matching.{matchingMarks}
 use Rattle.deriver.specs.Rows.{paperChart, paperStart, paperBook, worth}
 use Rattle.deriver.specs.Rows as deriver
+use Rattle.listing.specs.Text.{listingText}
+use Rattle.listing.specs.Rows.{paperText, paper-listing}
 use Rattle.judge.specs.Checking.{checking}
 use Rattle.judge.specs.Examples.{p9, p10, p9-loop, p10-pass, p10-clash}
 use Rattle.runner.specs.Table.{Passes}
@@ -33,6 +35,8 @@ pub record Rows : Type 0 where
   -- the chart of the paper, byte for byte, is the one below, and its derived book is the paper's listing
   pub whole : reading wholeChart ≡ record { answer = granted; chart = paperChart; marking = paperStart }
   pub book : derivedBook paperChart ≡ paperBook
+  -- and its listing is the paper's text, byte for byte
+  pub listing : listingText wholeChart ≡ paperText
   -- "P1: the chart's start matches 113. Executing 1 gives 12, place 0."
   pub p1 : (worth (matchingMarks paperChart paperStart) ≡ 113) × (executing paperChart paperStart 1 ≡ refusing conditionWanting 0 paperStart)
   -- "P2: after 0: 119."
@@ -67,6 +71,7 @@ rows =
     record {
       whole = chart.rows .whole;
       book = deriver.rows .book;
+      listing = paper-listing;
       p1 = (deriver.rows .p1, refl);
       p2 = (refl, deriver.rows .p2);
       p3 = (refl, deriver.rows .p3, refl);
