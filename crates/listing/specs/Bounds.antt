@@ -21,7 +21,8 @@ use Rattle.flattening.specs.Flattening.{conflict, conflictAt}
 use Rattle.chart.specs.Reading.{conflictFrom, conflictTo, readingRelations, readingNodes, reading}
 use Rattle.book.specs.Book.{Book, noRule, ruleOf, textOf}
 use Rattle.book.specs.Good.{GoodText, isOperator}
-use Rattle.book.specs.Formed.{TriggerIn, SenseIn, RuleFormed, FormedBook}
+use Rattle.book.specs.Using.{triggerExists, senseExists, RuleFormed}
+use Rattle.book.specs.Formed.{FormedBook}
 use Rattle.book.specs.Lists.{total, total-same, total-le, flat, length-flat, packed, all-at}
 use Rattle.book.specs.ImageOf.{imageOf, image-length}
 use Rattle.book.specs.declared.Rule.{Rule}
@@ -57,18 +58,18 @@ digits-most w n h = in-digits w (suc n) n h
 
 -- ---- one rule
 
-trigger-most : (S M : ℕ) (t : Trigger) → S ≤ maxEvents → TriggerIn S M t → length (triggerText t) ≤ 6
-unfolding triggerText tens
+trigger-most : (S M : ℕ) (t : Trigger) → S ≤ maxEvents → triggerExists S M t ≡ true → length (triggerText t) ≤ 6
+unfolding triggerText tens triggerExists
 trigger-most S M None l h = omega arith
-trigger-most S M (Completed e) l h = let d : length (decimal e) ≤ 2 = digits-most 1 e (omega arith) in omega arith
+trigger-most S M (Completed e) l h = let d : length (decimal e) ≤ 2 = digits-most 1 e (omega (arith, ltb-true e S h)) in omega arith
 trigger-most S M (BecomeYes m) l h = omega arith
 trigger-most S M (BecomeNo m) l h = omega arith
 
-sense-most : (Q : ℕ) (s : Sense) → Q ≤ maxEvents → SenseIn Q s → length (senseText s) ≤ 10
-unfolding senseText tens
+sense-most : (Q : ℕ) (s : Sense) → Q ≤ maxEvents → senseExists Q s ≡ true → length (senseText s) ≤ 10
+unfolding senseText tens senseExists
 sense-most Q NoCondition l h = omega arith
-sense-most Q (AsWritten c) l h = let d : length (decimal c) ≤ 2 = digits-most 1 c (omega arith) in omega arith
-sense-most Q (Negated c) l h = let d : length (decimal c) ≤ 2 = digits-most 1 c (omega arith) in omega arith
+sense-most Q (AsWritten c) l h = let d : length (decimal c) ≤ 2 = digits-most 1 c (omega (arith, ltb-true c Q h)) in omega arith
+sense-most Q (Negated c) l h = let d : length (decimal c) ≤ 2 = digits-most 1 c (omega (arith, ltb-true c Q h)) in omega arith
 
 effect-most : (b : Bool) (m : ℕ) → m < maxMarks → length (effectText b m) ≤ 10
 unfolding effectText tens

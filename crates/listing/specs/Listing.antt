@@ -6,9 +6,9 @@ use mathlib.Core.List.{List, _++_}
 use native.Mathlib.Nat.{zero-add}
 use native.Mathlib.Omega.{arith}
 use lib.Dec.{eqb, ltb, leb}
-use lib.ListN.{length, take, drop, replicate, length-append, length-replicate}
+use lib.ListN.{length, take, drop, replicate, length-append, length-drop, length-replicate}
 use lib.Seq.{take-all, take-append-seam, length-take-le}
-use borrow.Author.Tests.{eq-eqb, ne-eqb, lt-ltb, le-ltb, leb-true}
+use borrow.Author.Tests.{eq-eqb, ne-eqb, lt-ltb, le-ltb, ltb-false, leb-true}
 use Rattle.paper.specs.Limits.{bookHeader, wordSize}
 use Rattle.paper.specs.declared.Answer.{Answer}
 use Rattle.sets.specs.Cases.{cases}
@@ -41,10 +41,29 @@ listedLength input room = cond (ltb (length room) maxListing) 0 (length (listing
 unfoldable pub listedRoom : List ℕ → List ℕ → List ℕ
 listedRoom input room = cond (ltb (length room) maxListing) room (listingText input ++ drop (length (listingText input)) room)
 
--- what is handed back never passes a room that is long enough
-pub listed-most : (input room : List ℕ) → listedLength input room ≤ maxListing
+-- what is handed back is never more than the room of a caller whose room is long enough
+pub listed-most : (input room : List ℕ) (n : ℕ) → n ≡ listedLength input room → n ≤ maxListing
 unfolding listedLength
-listed-most input room = cases (ltb (length room) maxListing) (λ z. rw z (omega arith)) (λ z. rw z (listing-most input))
+listed-most input room n e = cases (ltb (length room) maxListing) (λ z. rw (e, z) (omega arith)) (λ z. rw (e, z) (listing-most input))
+
+pub room-kept : (input room : List ℕ) → length (listedRoom input room) ≡ length room
+unfolding listedRoom
+room-kept input room =
+    cases (ltb (length room) maxListing) (λ z. rw z)
+    (λ z. let m : length (listingText input) ≤ maxListing = listing-most input in
+    let l : maxListing ≤ length room = ltb-false (length room) maxListing z in
+    rw z (length-append (listingText input) (drop (length (listingText input)) room) ∙ rw (length-drop (length (listingText input)) room) (omega arith)))
+
+module _ (input room after : List ℕ) (big : length room ≡ maxListing) (n : ℕ) (e : n ≡ listedLength input room) (f : after ≡ listedRoom input room) where
+  pub listed-fits : n ≤ length after
+  listed-fits = let m : n ≤ maxListing = listed-most input room n e in rw (f, room-kept input room, big) m
+
+  pub listed-size : n ≡ length (take n after)
+  listed-size = sym (length-take-le n after listed-fits)
+
+-- a room for the longest text, as it is before
+pub ready : length (replicate {A = ℕ} maxListing 0) ≡ maxListing
+ready = length-replicate {A = ℕ} maxListing 0
 
 -- ---- each return, as the code meets it
 

@@ -1,6 +1,6 @@
 -- The paper's chart, whole: its 34 bytes give exactly the paper's text. Assumes nothing.
 use mathlib.Core.Path.{_≡_, refl, ap, _∙_}
-use mathlib.Core.List.{List}
+use mathlib.Core.List.{List, _++_}
 use Prim.Native.Nat.{ℕ}
 use lib.ListN.{length}
 use Rattle.paper.specs.Answers.{granted}
@@ -18,11 +18,25 @@ use Rattle.deriver.specs.Deriving.{derivedImage, derivingAnswer}
 use Rattle.deriver.specs.Rows.{paperChart, paperBook}
 use Rattle.deriver.specs.Rows as deriver
 use Rattle.listing.specs.Limits.{listingBook}
-use Rattle.listing.specs.Text.{ascii, decimalIn, decimal, countsLine, triggerText, senseText, effectText, ruleLine, wordText, conditionLine, bookText, unlessRefused, chartText, imageText, listingText}
+use Rattle.listing.specs.Text.{ascii, decimalIn, decimal, countsLine, triggerText, senseText, effectText, ruleLine, wordText, conditionLine, bookText}
+use Rattle.listing.specs.Text.{unlessRefused, chartText, imageText, listingText}
 
+-- the paper's text, line by line
 abbrev pub paperText : List ℕ
 paperText =
-    ascii "stages 2 marks 8 rules 10 conditions 2 words 7\n0 on 0 clear 7\n1 on 0 set 6\n2 on 0 set 2\n3 on 1 clear 4\n4 on 1 set 7\n5 on 1 set 3\n6 if 0 set 0\n7 unless 0 clear 0\n8 if 1 set 1\n9 unless 1 clear 1\ncond 0: 4\ncond 1: 5 4 not 2 or and\n"
+    ascii "stages 2 marks 8 rules 10 conditions 2 words 7\n"
+    ++ (ascii "0 on 0 clear 7\n"
+    ++ (ascii "1 on 0 set 6\n"
+    ++ (ascii "2 on 0 set 2\n"
+    ++ (ascii "3 on 1 clear 4\n"
+    ++ (ascii "4 on 1 set 7\n"
+    ++ (ascii "5 on 1 set 3\n"
+    ++ (ascii "6 if 0 set 0\n"
+    ++ (ascii "7 unless 0 clear 0\n"
+    ++ (ascii "8 if 1 set 1\n"
+    ++ (ascii "9 unless 1 clear 1\n"
+    ++ (ascii "cond 0: 4\n"
+    ++ (ascii "cond 1: 5 4 not 2 or and\n"))))))))))))
 
 book-text : bookText paperBook ≡ paperText
 unfolding bookText conditionLine wordText ruleLine effectText senseText triggerText countsLine decimal decimalIn textOf flat packed

@@ -35,6 +35,8 @@ use Rattle.deriver.specs.Deriving.{derivedImage, derivingAnswer}
 use Rattle.deriver.specs.Matching.{matchingMarks, matchingOf}
 use Rattle.deriver.specs.Rows.{paperChart, paperStart, paperBook, worth}
 use Rattle.deriver.specs.Rows as deriver
+use Rattle.listing.specs.Text.{listingText}
+use Rattle.listing.specs.Rows.{paperText, paper-listing}
 use Rattle.judge.specs.Checking.{checking}
 use Rattle.judge.specs.Examples.{p9, p10, p9-loop, p10-pass, p10-clash}
 use Rattle.runner.specs.Table.{Passes, Answered}
@@ -95,6 +97,8 @@ pub record Rows : Type 0 where
   -- the chart of the paper, byte for byte, is the one that it describes, and its derived book is the paper's listing
   pub whole : reading wholeChart ≡ record { answer = granted; chart = paperChart; marking = paperStart }
   pub book : derivedBook paperChart ≡ paperBook
+  -- and its listing is the paper's text, byte for byte
+  pub listing : listingText wholeChart ≡ paperText
   -- P1 to P3 of the chart, and of the book, given room for its 162 bytes and its 10 rules
   pub onChart : OnChart (reading wholeChart)
   pub byBook : (bytes room : List ℕ) → 162 ≤ length bytes → 10 ≤ length room → ByBook (reading wholeChart) bytes room
@@ -216,6 +220,7 @@ rows =
     record {
       whole = whole-is;
       book = deriver.rows .book;
+      listing = paper-listing;
       onChart = on-chart .0;
       byBook = by-book;
       p4 = graph.rows .p4;

@@ -9,9 +9,16 @@ image-text-spec =
     tie.close
     (tie.spec
     (λ c κs. search needs)
-    (λ c κs. read-fits _ (c .before .before .before .before .before .before .before .args .room .now) (c .before .before .before .before .before .before .before .pre) _ (c .before .before .before .before .read .ensures) (c .before .if1 .taken))
+    (λ c κs. read-fits _ (c .before .before .before .before .before .before .before .args .room .now)
+    (c .before .before .before .before .before .before .before .pre) _ (c .before .before .before .before .read .ensures) (c .before .if1 .taken))
     (λ c. search needs)
-    (λ c. read-wrote _ (c .before .before .before .before .before .before .before .before .before .before .args .room .now) (c .before .before .before .before .before .before .before .before .before .before .pre) _ (c .before .before .before .before .before .before .before .read .ensures) (c .before .before .before .before .if1 .taken) _ _ (c .before .before .refusal-line .ensures))
+    (λ c. read-wrote _ (c .before .before .before .before .before .before .before .before .before .before .args .room .now)
+    (c .before .before .before .before .before .before .before .before .before .before .pre) _
+    (c .before .before .before .before .before .before .before .read .ensures) (c .before .before .before .before .if1 .taken) _ _
+    (c .before .before .refusal-line .ensures))
     (λ c κs. search needs)
     (λ c. search needs)
-    (λ c. image-wrote _ (c .before .before .before .before .before .before .before .before .before .before .before .args .room .now) (c .before .before .before .before .before .before .before .before .before .before .before .pre) _ (c .before .before .before .before .before .before .before .before .read .ensures) (c .before .before .before .before .before .if1 .left) _ _ (c .before .before .chart-text .ensures)))
+    (λ c. image-wrote _ (c .before .before .before .before .before .before .before .before .before .before .before .args .room .now)
+    (c .before .before .before .before .before .before .before .before .before .before .before .pre) _
+    (c .before .before .before .before .before .before .before .before .read .ensures) (c .before .before .before .before .before .if1 .left) _ _
+    (c .before .before .chart-text .ensures)))

@@ -14,8 +14,15 @@ refusal-line-spec =
     (λ c. search needs)
     (λ c κs. unfold refusalLine in fits₂ (c .before .before .before .before .named .ensures) _ _ (c .before .before .before .before .before .before .before .before .pre))
     (λ c. search needs)
-    (λ c κs. unfold refusalLine in fits₃ (c .before .before .before .before .named2 .ensures) (c .before .before .before .before .before .before .before .before .before .named .ensures) _ _ (c .before .before .before .before .before .before .before .before .before .before .before .before .before .pre))
+    (λ c κs. unfold refusalLine in fits₃ (c .before .before .before .before .named2 .ensures)
+    (c .before .before .before .before .before .before .before .before .before .named .ensures) _ _
+    (c .before .before .before .before .before .before .before .before .before .before .before .before .before .pre))
     (λ c. search needs)
-    (λ c κs. unfold refusalLine in last₄ (c .before .before .before .before .named3 .ensures) (c .before .before .before .before .before .before .before .before .before .named2 .ensures) (c .before .before .before .before .before .before .before .before .before .before .before .before .before .before .named .ensures) _ (c .before .before .before .before .before .before .before .before .before .before .before .before .before .before .before .before .before .before .pre))
+    (λ c κs. unfold refusalLine in last₄ (c .before .before .before .before .named3 .ensures)
+    (c .before .before .before .before .before .before .before .before .before .named2 .ensures)
+    (c .before .before .before .before .before .before .before .before .before .before .before .before .before .before .named .ensures) _
+    (c .before .before .before .before .before .before .before .before .before .before .before .before .before .before .before .before .before .before .pre))
     (λ c. search needs)
-    (λ c. unfold refusalLine in wrote₄ (c .before .before .text .ensures) (c .before .before .before .before .before .before .before .named3 .ensures) (c .before .before .before .before .before .before .before .before .before .before .before .before .named2 .ensures) (c .before .before .before .before .before .before .before .before .before .before .before .before .before .before .before .before .before .named .ensures)))
+    (λ c. unfold refusalLine in wrote₄ (c .before .before .text .ensures) (c .before .before .before .before .before .before .before .named3 .ensures)
+    (c .before .before .before .before .before .before .before .before .before .before .before .before .named2 .ensures)
+    (c .before .before .before .before .before .before .before .before .before .before .before .before .before .before .before .before .before .named .ensures)))

@@ -12,9 +12,20 @@ condition-line-spec =
     (λ c. search needs)
     (λ c κs. unfold conditionLine in fits₁ _ (c .before .before .before .before .pre .1))
     (λ c. search needs)
-    (λ c κs. unfold conditionLine in fits₂ (c .before .before .before .before .named .ensures) _ _ (c .before .before .before .before .before .before .before .before .before .pre .1))
-    (λ c κs. unfold conditionLine in (c .before .before .before .before .before .before .before .before .before .before .before .before .before .pre .0, fits₃ (c .before .before .before .text .ensures) (c .before .before .before .before .before .before .before .before .named .ensures) _ _ (c .before .before .before .before .before .before .before .before .before .before .before .before .before .pre .1)))
+    (λ c κs. unfold conditionLine in fits₂ (c .before .before .before .before .named .ensures) _ _
+    (c .before .before .before .before .before .before .before .before .before .pre .1))
+    (λ c κs. unfold conditionLine in (
+      c .before .before .before .before .before .before .before .before .before .before .before .before .before .pre .0,
+      fits₃
+          (c .before .before .before .text .ensures) (c .before .before .before .before .before .before .before .before .named .ensures) _ _
+          (c .before .before .before .before .before .before .before .before .before .before .before .before .before .pre .1),
+    ))
     (λ c. search needs)
-    (λ c κs. unfold conditionLine in last₄ (c .before .before .before .before .words-text .ensures) (c .before .before .before .before .before .before .before .before .text .ensures) (c .before .before .before .before .before .before .before .before .before .before .before .before .before .named .ensures) _ (c .before .before .before .before .before .before .before .before .before .before .before .before .before .before .before .before .before .before .pre .1))
+    (λ c κs. unfold conditionLine in last₄ (c .before .before .before .before .words-text .ensures)
+    (c .before .before .before .before .before .before .before .before .text .ensures)
+    (c .before .before .before .before .before .before .before .before .before .before .before .before .before .named .ensures) _
+    (c .before .before .before .before .before .before .before .before .before .before .before .before .before .before .before .before .before .before .pre .1))
     (λ c. search needs)
-    (λ c. unfold conditionLine in wrote₄ (c .before .before .text2 .ensures) (c .before .before .before .before .before .before .before .words-text .ensures) (c .before .before .before .before .before .before .before .before .before .before .before .text .ensures) (c .before .before .before .before .before .before .before .before .before .before .before .before .before .before .before .before .named .ensures)))
+    (λ c. unfold conditionLine in wrote₄ (c .before .before .text2 .ensures) (c .before .before .before .before .before .before .before .words-text .ensures)
+    (c .before .before .before .before .before .before .before .before .before .before .before .text .ensures)
+    (c .before .before .before .before .before .before .before .before .before .before .before .before .before .before .before .before .named .ensures)))

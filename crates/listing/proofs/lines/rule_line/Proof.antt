@@ -11,9 +11,21 @@ rule-line-spec =
     (tie.spec
     (λ c κs. unfold ruleLine in fits₁ _ (c .before .before .pre))
     (λ c κs. unfold ruleLine in fits₂ (c .before .before .before .number .ensures) _ _ (c .before .before .before .before .before .before .pre))
-    (λ c κs. unfold ruleLine in fits₃ (c .before .before .before .trigger-text .ensures) (c .before .before .before .before .before .before .before .number .ensures) _ _ (c .before .before .before .before .before .before .before .before .before .before .pre))
-    (λ c κs. unfold ruleLine in fits₄ (c .before .before .before .sense-text .ensures) (c .before .before .before .before .before .before .before .trigger-text .ensures) (c .before .before .before .before .before .before .before .before .before .before .before .number .ensures) _ _ (c .before .before .before .before .before .before .before .before .before .before .before .before .before .before .pre))
+    (λ c κs. unfold ruleLine in fits₃ (c .before .before .before .trigger-text .ensures)
+    (c .before .before .before .before .before .before .before .number .ensures) _ _
+    (c .before .before .before .before .before .before .before .before .before .before .pre))
+    (λ c κs. unfold ruleLine in fits₄ (c .before .before .before .sense-text .ensures)
+    (c .before .before .before .before .before .before .before .trigger-text .ensures)
+    (c .before .before .before .before .before .before .before .before .before .before .before .number .ensures) _ _
+    (c .before .before .before .before .before .before .before .before .before .before .before .before .before .before .pre))
     (λ c. search needs)
-    (λ c κs. unfold ruleLine in last₅ (c .before .before .before .before .effect-text .ensures) (c .before .before .before .before .before .before .before .before .sense-text .ensures) (c .before .before .before .before .before .before .before .before .before .before .before .before .trigger-text .ensures) (c .before .before .before .before .before .before .before .before .before .before .before .before .before .before .before .before .number .ensures) _ (c .before .before .before .before .before .before .before .before .before .before .before .before .before .before .before .before .before .before .before .pre))
+    (λ c κs. unfold ruleLine in last₅ (c .before .before .before .before .effect-text .ensures)
+    (c .before .before .before .before .before .before .before .before .sense-text .ensures)
+    (c .before .before .before .before .before .before .before .before .before .before .before .before .trigger-text .ensures)
+    (c .before .before .before .before .before .before .before .before .before .before .before .before .before .before .before .before .number .ensures) _
+    (c .before .before .before .before .before .before .before .before .before .before .before .before .before .before .before .before .before .before .before .pre))
     (λ c. search needs)
-    (λ c. unfold ruleLine in wrote₅ (c .before .before .text .ensures) (c .before .before .before .before .before .before .before .effect-text .ensures) (c .before .before .before .before .before .before .before .before .before .before .before .sense-text .ensures) (c .before .before .before .before .before .before .before .before .before .before .before .before .before .before .before .trigger-text .ensures) (c .before .before .before .before .before .before .before .before .before .before .before .before .before .before .before .before .before .before .before .number .ensures)))
+    (λ c. unfold ruleLine in wrote₅ (c .before .before .text .ensures) (c .before .before .before .before .before .before .before .effect-text .ensures)
+    (c .before .before .before .before .before .before .before .before .before .before .before .sense-text .ensures)
+    (c .before .before .before .before .before .before .before .before .before .before .before .before .before .before .before .trigger-text .ensures)
+    (c .before .before .before .before .before .before .before .before .before .before .before .before .before .before .before .before .before .before .before .number .ensures)))
