@@ -25,14 +25,14 @@ condition-lines-spec =
     (λ c. search needs)
     (λ c. search needs)
     (λ c. search needs)
-    (λ c κs. condition-fits _ _ _ (c .before .before .before .before .before .before .before .before .pre .0) _ (c .before .before .before .loop-test .taken) _
-    (c .before .before .before .before .before .words-from .ensures) _ (c .before .before .condition-in .ensures) _ _ _ _
-    (c .before .before .before .before .loop .inv) (c .before .before .before .before .before .before .before .before .pre .1))
+    (λ c κs. condition-fits _ _ _ (c .before .before .before .before .before .before .before .before .before .pre .0) _ (c .before .before .before .if1 .taken) _
+    (c .before .before .before .before .before .before .words-from .ensures) _ (c .before .before .condition-in .ensures) _ _ _ _
+    (c .before .before .before .before .before .loop .inv) (c .before .before .before .before .before .before .before .before .before .pre .1))
     (λ c. search needs)
     (λ c. search needs)
-    (λ c. condition-more _ _ _ (c .before .before .before .before .before .before .before .before .before .before .before .pre .0) _
-    (c .before .before .before .before .before .before .loop-test .taken) _ (c .before .before .before .before .before .before .before .before .words-from .ensures) _
-    (c .before .before .before .before .before .condition-in .ensures) _ _ _ _ (c .before .before .before .before .before .before .before .loop .inv) _ _
+    (λ c. condition-more _ _ _ (c .before .before .before .before .before .before .before .before .before .before .before .before .pre .0) _
+    (c .before .before .before .before .before .before .if1 .taken) _ (c .before .before .before .before .before .before .before .before .before .words-from .ensures) _
+    (c .before .before .before .before .before .condition-in .ensures) _ _ _ _ (c .before .before .before .before .before .before .before .before .loop .inv) _ _
     (c .before .before .condition-line .ensures))
-    (λ c. lines-length _ _ _ _ _ _ _ (c .before .loop .inv))
+    (λ c. lines-length _ _ _ _ _ _ _ (c .before .before .loop .inv))
     (λ c. search lines-done))
