@@ -13,9 +13,8 @@ use book::reader::rule_in;
 use firing::rule_fires;
 use ordering::fit::entry_of;
 
-// The snapshot after the turns. A rule whose target has its value already
-// cannot alter it, so its condition is not evaluated; one that fires goes through `applied`, whose one store is in place and which copies
-// the 256 marks.
+// The snapshot after the turns. A rule whose target has its value already cannot alter it, so its condition is not evaluated; one that
+// fires goes through `applied`, whose one store is in place and which copies the 256 marks.
 pub fn go_through(
     book: &[u8],
     counts: Counts,
