@@ -2,15 +2,13 @@
 ghost use mathlib.Core.Path.{_≡_};
 ghost use Prim.Native.Nat.{_+_, _*_, _≤_};
 ghost use lib.ListN.{length};
-ghost use Rattle.paper.specs.Limits.{ruleSize, conditionSize, wordSize};
-ghost use Rattle.wire.specs.Wire.{u16At};
-ghost use Rattle.book.specs.Image.{rulePlace, conditionPlace, wordPlace, ruleFrom};
+ghost use Rattle.paper.specs.Limits.{ruleSize, conditionSize};
+ghost use Rattle.book.specs.Image.{rulePlace, conditionPlace, ruleFrom};
 ghost use Rattle.book.specs.Reading.{readerOf, spanFrom};
 use crate::Counts;
 use crate::Rule;
 use crate::Span;
 use crate::conditions::condition_at;
-use crate::conditions::word_at;
 use crate::rules::rule_at;
 
 pub struct BookReader<'a> {
@@ -38,13 +36,6 @@ impl<'a> BookReader<'a> {
     {
         condition_at(self.image, self.counts.rules, c)
     }
-
-    pub fn word(self, i: usize) -> u16
-        requires { ⌜ wordPlace (self .counts .rules) (self .counts .conditions) i + wordSize ≤ length (now (self .image)) ⌝ }
-        ensures { λ r. ⌜ r ≡ u16At (now (self .entry .image)) (wordPlace (self .entry .counts .rules) (self .entry .counts .conditions) i) ⌝ }
-    {
-        word_at(self.image, self.counts.rules, self.counts.conditions, i)
-    }
 }
 
 // With plain parameters: whoever calls these needs no walk.
@@ -60,11 +51,4 @@ pub fn condition_in(image: &[u8], counts: Counts, c: usize) -> Span
     ensures { λ r. ⌜ r ≡ spanFrom (now (image .entry)) (conditionPlace (counts .rules) c) ⌝ }
 {
     open(image, counts).condition(c)
-}
-
-pub fn word_in(image: &[u8], counts: Counts, i: usize) -> u16
-    requires { ⌜ wordPlace (counts .rules) (counts .conditions) i + wordSize ≤ length (now image) ⌝ }
-    ensures { λ r. ⌜ r ≡ u16At (now (image .entry)) (wordPlace (counts .rules) (counts .conditions) i) ⌝ }
-{
-    open(image, counts).word(i)
 }
