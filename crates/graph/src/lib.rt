@@ -3,6 +3,7 @@ pub mod steps;
 
 ghost use mathlib.Core.Path.{_≡_};
 ghost use Prim.Native.Nat.{_-_, _≤_};
+ghost use Rattle.paper.specs.Limits.{maxEvents};
 ghost use Rattle.graph.specs.Chart.{chartOf, emptyChart, emptyMarking};
 ghost use Rattle.graph.specs.Tests.{rowSpill, spillRows, spillOf, fitChart, fitMarking, fit};
 use paper::MAX_EVENTS;
@@ -58,7 +59,7 @@ fn spill_rows<'a>(
     includes: &'a [u64; MAX_EVENTS],
     excludes: &'a [u64; MAX_EVENTS],
 ) -> u64
-    requires { ⌜ (from ≤ end) × (end ≤ 64) ⌝ }
+    requires { ⌜ (from ≤ end) × (end ≤ maxEvents) ⌝ }
     ensures { λ r. ⌜ r ≡ spillRows allowed start from (now (conditions .entry)) (now (responses .entry)) (now (milestones .entry)) (now (includes .entry)) (now (excludes .entry)) (end - from) ⌝ }
 {
     let mut over = start;
@@ -87,8 +88,8 @@ fn spill<'a>(
     includes: &'a [u64; MAX_EVENTS],
     excludes: &'a [u64; MAX_EVENTS],
 ) -> u64
-    requires { ⌜ n ≤ 64 ⌝ }
-    ensures { λ r. ⌜ r ≡ spillOf n (now (conditions .entry)) (now (responses .entry)) (now (milestones .entry)) (now (includes .entry)) (now (excludes .entry)) 64 ⌝ }
+    requires { ⌜ n ≤ maxEvents ⌝ }
+    ensures { λ r. ⌜ r ≡ spillOf n (now (conditions .entry)) (now (responses .entry)) (now (milestones .entry)) (now (includes .entry)) (now (excludes .entry)) maxEvents ⌝ }
 {
     let all = sets::all_below(n);
     let none: u64 = 0;

@@ -104,7 +104,7 @@ impl Marking {
 
     // The marking after e, which excludes before it includes.
     fn after(self, e: usize, responses: u64, includes: u64, excludes: u64) -> Marking
-        requires { ⌜ e < 64 ⌝ }
+        requires { ⌜ e < maxEvents ⌝ }
         ensures { λ r. ⌜ r ≡ afterWith self e responses includes excludes ⌝ }
     {
         let bit = sets::one(e);
@@ -191,7 +191,7 @@ impl Marking {
         conditions: &'a [u64; MAX_EVENTS],
         milestones: &'a [u64; MAX_EVENTS],
     ) -> u64
-        requires { ⌜ n ≤ 64 ⌝ }
+        requires { ⌜ n ≤ maxEvents ⌝ }
         ensures { λ r. ⌜ r ≡ openAmong self (now (conditions .entry)) (now (milestones .entry)) n ⌝ }
     {
         let mut all: u64 = 0;

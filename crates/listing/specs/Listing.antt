@@ -11,7 +11,7 @@ use lib.Seq.{take-all, take-append-seam, length-take-le}
 use borrow.Author.Tests.{eq-eqb, ne-eqb, lt-ltb, le-ltb, ltb-false, leb-true}
 use Rattle.paper.specs.Limits.{bookHeader, wordSize}
 use Rattle.paper.specs.declared.Answer.{Answer}
-use Rattle.sets.specs.Cases.{cases}
+use Rattle.sets.specs.Cases.{cases, coincide}
 use Rattle.wire.specs.Laws.{u32-first}
 use Rattle.graph.specs.declared.FlatChart.{FlatChart}
 use Rattle.graph.specs.Chart.{Fit}
@@ -40,6 +40,11 @@ listedLength input room = cond (ltb (length room) maxListing) 0 (length (listing
 -- "Room past what is written stays as it was."
 unfoldable pub listedRoom : List ℕ → List ℕ → List ℕ
 listedRoom input room = cond (ltb (length room) maxListing) room (listingText input ++ drop (length (listingText input)) room)
+
+-- two results that meet the call's contract coincide
+pub list-determined : (input room : List ℕ) (r s : ℕ) (a b : List ℕ) → r ≡ listedLength input room → s ≡ listedLength input room
+    → a ≡ listedRoom input room → b ≡ listedRoom input room → (r ≡ s) × (a ≡ b)
+list-determined input room r s a b p q x y = (coincide p q, coincide x y)
 
 -- what is handed back is never more than the room of a caller whose room is long enough
 pub listed-most : (input room : List ℕ) (n : ℕ) → n ≡ listedLength input room → n ≤ maxListing

@@ -36,7 +36,7 @@ unfoldable pub decimalIn : ℕ → ℕ → List ℕ
 decimalIn zero n = []
 decimalIn (suc k) n = cond (ltb n 10) (digit n ∷ []) (decimalIn k (n / 10) ++ (digit (n % 10) ∷ []))
 
--- n has fewer digits than n + 1
+-- n has at most n + 1 digits
 unfoldable pub decimal : ℕ → List ℕ
 decimal n = decimalIn (suc n) n
 
