@@ -1,4 +1,4 @@
-# How the scripts write: names under every locale, and files whole or not at all, over nothing but an older image of their sort.
+# How the scripts write files: whole or not at all, over nothing but an older image of their sort.
 
 import os
 import stat
@@ -9,13 +9,6 @@ from words import BOOK_HEADER, COULD_NOT, USAGE, Stop, looks_like_chart, number3
 
 # How much of a file tells which image it is.
 HEAD = 24
-
-
-def settle_output():
-    """A character that the terminal's encoding lacks is written as an escape; a standard output that is closed takes nothing."""
-    if sys.stdout is None:
-        sys.stdout = open(os.devnull, 'w')
-    sys.stdout.reconfigure(errors='backslashreplace')
 
 
 def image_sort(data):

@@ -100,8 +100,16 @@ class Stop(Exception):
         self.status = status
 
 
+def settle_output():
+    """A character that the terminal's encoding lacks is written as an escape; a standard output that is closed takes nothing."""
+    if sys.stdout is None:
+        sys.stdout = open(os.devnull, 'w')
+    sys.stdout.reconfigure(errors='backslashreplace')
+
+
 def end(main):
     """Runs main(words of the command line), which gives the exit status, and ends. No input ends in a traceback."""
+    settle_output()
     try:
         status = main(sys.argv[1:])
         sys.stdout.flush()
@@ -112,7 +120,8 @@ def end(main):
         os.dup2(os.open(os.devnull, os.O_WRONLY), sys.stdout.fileno())
         status = COULD_NOT
     except (OSError, MemoryError) as error:
-        print(printable(str(error)), file=sys.stderr)
+        what = getattr(error, 'filename', None) or 'standard output'
+        print(printable('%s: %s' % (what, getattr(error, 'strerror', None) or 'out of memory')), file=sys.stderr)
         status = COULD_NOT
     except KeyboardInterrupt:
         status = COULD_NOT
