@@ -132,11 +132,11 @@ def numbered(n, sort):
 def bad_fields(rule, s, m, q):
     """The fields of a rule record that do not fit a book of s stages, m marks and q conditions."""
     said = []
-    if rule.kind > 3:
-        said.append('its trigger kind is %d, and kinds are 0 to 3' % rule.kind)
-    if rule.sense > 2:
-        said.append('its sense is %d, and senses are 0 to 2' % rule.sense)
-    if rule.effect > 1:
+    if rule.kind >= len(TRIGGERS):
+        said.append('its trigger kind is %d, and kinds are 0 to %d' % (rule.kind, len(TRIGGERS) - 1))
+    if rule.sense >= len(SENSES):
+        said.append('its sense is %d, and senses are 0 to %d' % (rule.sense, len(SENSES) - 1))
+    if rule.effect >= len(EFFECTS):
         said.append('its effect is %d, and effects are 0 and 1' % rule.effect)
     if rule.spare:
         said.append('its fourth byte is %d, and has to be 0' % rule.spare)
