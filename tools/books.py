@@ -17,6 +17,8 @@ COUNTS = ['stages', 'marks', 'rules', 'conditions', 'words']
 
 # The longest text that is read, in bytes: far more than the longest book takes.
 LONGEST_TEXT = 1 << 22
+# How many digits a number may have, and how long a refusal of a line gets.
+DIGITS, LONGEST_LINE = 40, 400
 
 
 class Bad(Exception):
@@ -43,6 +45,7 @@ class Book:
 
     def __init__(self, stages, marks, rules, conditions, words):
         self.stages, self.marks, self.rules, self.conditions, self.words = stages, marks, rules, conditions, words
+        self.named = {}  # by condition, the marks in its text
 
     def text(self, c):
         start, count = self.conditions[c]
@@ -52,7 +55,9 @@ class Book:
         """The marks that a rule refers to."""
         marks = {rule.number} if rule.kind > 1 else set()
         if rule.sense:
-            marks.update(word for word in self.text(rule.condition) if word not in OPERATORS)
+            if rule.condition not in self.named:
+                self.named[rule.condition] = set(self.text(rule.condition)) - set(OPERATORS)
+            marks |= self.named[rule.condition]
         return marks
 
 
@@ -127,11 +132,11 @@ def numbered(n, sort):
 def bad_fields(rule, s, m, q):
     """The fields of a rule record that do not fit a book of s stages, m marks and q conditions."""
     said = []
-    if rule.kind > 3:
-        said.append('its trigger kind is %d, and kinds are 0 to 3' % rule.kind)
-    if rule.sense > 2:
-        said.append('its sense is %d, and senses are 0 to 2' % rule.sense)
-    if rule.effect > 1:
+    if rule.kind >= len(TRIGGERS):
+        said.append('its trigger kind is %d, and kinds are 0 to %d' % (rule.kind, len(TRIGGERS) - 1))
+    if rule.sense >= len(SENSES):
+        said.append('its sense is %d, and senses are 0 to %d' % (rule.sense, len(SENSES) - 1))
+    if rule.effect >= len(EFFECTS):
         said.append('its effect is %d, and effects are 0 and 1' % rule.effect)
     if rule.spare:
         said.append('its fourth byte is %d, and has to be 0' % rule.spare)
@@ -245,7 +250,7 @@ def as_number(word):
     """The number that a word writes, or None; a long one is larger than every number of a book."""
     if not NUMBER.fullmatch(word):
         return None
-    return int(word) if len(word) < 10 else 10 ** 9
+    return int(word) if len(word) <= DIGITS else 10 ** DIGITS
 
 
 def text_lines(data):
@@ -272,6 +277,14 @@ def text_lines(data):
             yield number, words
 
 
+def at_line(line, bad):
+    """A refusal with its line; a word without end is cut out of the middle."""
+    said = str(bad)
+    if len(said) > LONGEST_LINE:
+        said = '%s .. %s' % (said[:LONGEST_LINE // 2], said[-LONGEST_LINE // 2:])
+    return Bad('line %d: %s' % (line, said))
+
+
 class Text:
     """A book's text: the lines sorted, then names and numbers looked up."""
 
@@ -284,7 +297,7 @@ class Text:
             try:
                 self.take(line, words)
             except Bad as bad:
-                raise Bad('line %d: %s' % (line, bad)) from None
+                raise at_line(line, bad) from None
         if not (self.counted or self.rules or self.texts or any(self.declared.values())):
             raise Bad('it has no line of a book')
         self.number_all()
@@ -311,6 +324,8 @@ class Text:
             self.counts[sort] = as_number(word)
 
     def take_name(self, line, sort, words):
+        if ':' in words:
+            raise Bad('a name has no colon in it')
         if len(words) != 1:
             raise Bad('%s is followed by one name' % sort)
         name = words[0]
@@ -357,7 +372,7 @@ class Text:
             for n, opening in enumerate(openings):
                 take = opening.split()
                 if take and words[:len(take)] == take:
-                    if len(words) == len(take):
+                    if len(words) == len(take) or words[len(take)] in RESERVED:
                         raise Bad('`%s` is followed by a %s' % (opening, 'stage' if opening == 'on' else 'condition' if sort == 'condition' else 'mark'))
                     value, words = (n, words[len(take)]), words[len(take) + 1:]
                     break
@@ -436,7 +451,7 @@ class Text:
             try:
                 take(book, part)
             except Bad as bad:
-                raise Bad('line %d: %s' % (line, bad)) from None
+                raise at_line(line, bad) from None
         for sort, n in zip(COUNTS[2:], (len(book.rules), len(book.conditions), len(book.words))):
             if self.counts.get(sort, n) != n:
                 raise Bad('line %d: it says %s %d, and the text has %d' % (self.counted, sort, self.counts[sort], n))

@@ -30,11 +30,26 @@ def is_image(path, sort):
     return is_plain(path) and image_sort(read_input(path, HEAD)) == sort
 
 
+def stands(path, sort):
+    """Whether an older image is there; one that may not be read stands, too."""
+    try:
+        return is_image(path, sort)
+    except Stop:
+        return True
+
+
 def same(one, other):
     try:
         return os.path.samefile(one, other)
     except (OSError, ValueError):
         return os.path.realpath(one) == os.path.realpath(other)
+
+
+def check_place(text):
+    """An image stands beside its text, and beside a pipe or a device there is no place for one."""
+    named = os.path.dirname(os.path.abspath(text)) in ('/dev', '/dev/fd', '/proc/self/fd')
+    if named or os.path.exists(text) and not os.path.isdir(text) and not is_plain(text):
+        raise Stop(USAGE, '%s is no plain file, so there is no place beside it for an image' % text)
 
 
 def check_target(target, sort):
@@ -56,10 +71,12 @@ def write(path, data):
             target.write(data)
         os.chmod(new, mode_for(place))
         os.replace(new, place)
+        new = None
     except (OSError, ValueError) as fault:
+        raise Stop(COULD_NOT, '%s cannot be written: %s' % (path, getattr(fault, 'strerror', None) or fault)) from None
+    finally:  # also where it is interrupted
         if new is not None and os.path.exists(new):
             os.remove(new)
-        raise Stop(COULD_NOT, '%s cannot be written: %s' % (path, getattr(fault, 'strerror', None) or fault)) from None
 
 
 def mode_for(path):

@@ -101,10 +101,20 @@ class Stop(Exception):
 
 
 def settle_output():
-    """A character that the terminal's encoding lacks is written as an escape; a standard output that is closed takes nothing."""
+    """A character that the terminal's encoding lacks is written as an escape; a standard output or error that is closed takes nothing."""
     if sys.stdout is None:
         sys.stdout = open(os.devnull, 'w')
+    if sys.stderr is None:
+        sys.stderr = open(os.devnull, 'w')
     sys.stdout.reconfigure(errors='backslashreplace')
+
+
+def complain(what):
+    """A line on standard error. Where that takes nothing, the exit status has to do."""
+    try:
+        print(printable(str(what)), file=sys.stderr, flush=True)
+    except OSError:
+        sys.stderr = open(os.devnull, 'w')
 
 
 def end(main):
@@ -114,14 +124,14 @@ def end(main):
         status = main(sys.argv[1:])
         sys.stdout.flush()
     except Stop as stop:
-        print(printable(str(stop)), file=sys.stderr)
+        complain(stop)
         status = stop.status
     except BrokenPipeError:
         os.dup2(os.open(os.devnull, os.O_WRONLY), sys.stdout.fileno())
         status = COULD_NOT
     except (OSError, MemoryError) as error:
         what = getattr(error, 'filename', None) or 'standard output'
-        print(printable('%s: %s' % (what, getattr(error, 'strerror', None) or 'out of memory')), file=sys.stderr)
+        complain('%s: %s' % (what, getattr(error, 'strerror', None) or 'out of memory'))
         status = COULD_NOT
     except KeyboardInterrupt:
         status = COULD_NOT
@@ -131,6 +141,11 @@ def end(main):
 def printable(text):
     """The text with escapes for what a terminal should not get: control characters, and bytes of a file name that are no text."""
     return ''.join(c if c.isprintable() or c == '\n' else c.encode('unicode_escape', 'surrogatepass').decode() for c in text)
+
+
+def file_name(path):
+    """A file's name on one line, so that no name looks like an answer."""
+    return printable(path).replace('\n', '\\n')
 
 
 def plural(n, sort):
@@ -147,13 +162,13 @@ def read_input(path, limit):
                 raise IsADirectoryError
             return source.read(limit + 1)
     except FileNotFoundError:
-        raise Stop(USAGE, '%s: no such file' % (path or "''")) from None
+        raise Stop(USAGE, '%s: no such file' % (file_name(path) or "''")) from None
     except IsADirectoryError:
-        raise Stop(USAGE, '%s is a directory, not a file' % path) from None
+        raise Stop(USAGE, '%s is a directory, not a file' % file_name(path)) from None
     except PermissionError:
-        raise Stop(USAGE, '%s may not be read' % path) from None
+        raise Stop(USAGE, '%s may not be read' % file_name(path)) from None
     except (OSError, ValueError) as error:
-        raise Stop(USAGE, '%s cannot be read: %s' % (path, getattr(error, 'strerror', None) or error)) from None
+        raise Stop(USAGE, '%s cannot be read: %s' % (file_name(path), getattr(error, 'strerror', None) or error)) from None
 
 
 def looks_like_text(data):
