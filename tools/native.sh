@@ -1,5 +1,5 @@
-# How a program for x86-64 is compiled and run on this processor. Sourced by list, install, model/run, examples/run
-# and bench/run.
+# How a program for x86-64 is compiled and run on this processor. Sourced by install, model/run, examples/run and bench/run, and through
+# tools/words.py by the scripts in Python.
 
 # native_command PROGRAM: puts the words that run PROGRAM into the array `native`. With the toolchain at hand they are
 # those that rt uses: the toolchain's emulator, where it has one for this processor, and its loader and C library.
