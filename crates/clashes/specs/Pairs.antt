@@ -10,7 +10,7 @@ use borrow.Author.Tests.{ltb-true, ltb-false, lt-ltb, le-ltb}
 use Rattle.sets.specs.Cases.{contra, cases, both, not-so}
 use Rattle.sets.specs.Below.{some, some-of, some-at, some-none, first, first-is, first-found, first-none}
 use Rattle.book.specs.Book.{Book, ruleOf}
-use Rattle.clashes.specs.Clash.{clash, NoClash}
+use Rattle.clashes.specs.Clash.{clash, Clashes, clashes-so, NoClash}
 
 -- a pair that clashes, named with the lower rule first
 unfoldable pub clashing : Book → ℕ → ℕ → Bool
@@ -28,14 +28,20 @@ clashSecond b p = first (length (b .rules)) (clashing b p)
 pub record LowestClash (b : Book) (p q : ℕ) : Type 0 where
   pub rising : p < q
   pub inside : q < length (b .rules)
-  pub clashes : clash (ruleOf b p) (ruleOf b q) ≡ true
-  pub first : (x y : ℕ) → x < p → x < y → y < length (b .rules) → clash (ruleOf b x) (ruleOf b y) ≡ false
-  pub second : (y : ℕ) → p < y → y < q → clash (ruleOf b p) (ruleOf b y) ≡ false
+  pub clashes : Clashes (ruleOf b p) (ruleOf b q)
+  pub first : (x y : ℕ) → x < p → x < y → y < length (b .rules) → Clashes (ruleOf b x) (ruleOf b y) → ⊥
+  pub second : (y : ℕ) → p < y → y < q → Clashes (ruleOf b p) (ruleOf b y) → ⊥
 
 module _ (b : Book) where
   pub clashing-of : (p q : ℕ) → p < q → clashing b p q ≡ clash (ruleOf b p) (ruleOf b q)
   unfolding clashing
   clashing-of p q h = rw (lt-ltb p q h)
+
+  clashing-so : (p q : ℕ) → p < q → Clashes (ruleOf b p) (ruleOf b q) → clashing b p q ≡ true
+  clashing-so p q h c = clashing-of p q h ∙ clashes-so (ruleOf b p) (ruleOf b q) .1 c
+
+  clashing-not : (p q : ℕ) → p < q → (Clashes (ruleOf b p) (ruleOf b q) → ⊥) → clashing b p q ≡ false
+  clashing-not p q h n = not-so (λ t. n (clashes-so (ruleOf b p) (ruleOf b q) .0 (sym (clashing-of p q h) ∙ t)))
 
   pub clashing-low : (p q : ℕ) → q ≤ p → clashing b p q ≡ false
   unfolding clashing
@@ -74,9 +80,9 @@ module _ (b : Book) where
       record {
         rising = k;
         inside = j;
-        clashes = c;
-        first = λ x y a l m. sym (clashing-of x y l) ∙ some-alone x (f .lowest x a) y m;
-        second = λ y a l. sym (clashing-of p y a) ∙ g .lowest y l;
+        clashes = clashes-so (ruleOf b p) (ruleOf b q) .0 c;
+        first = λ x y a l m t. contra (clashing-so x y l t) (some-alone x (f .lowest x a) y m);
+        second = λ y a l t. contra (clashing-so p y a t) (g .lowest y l);
       }
 
   -- and no other pair is
@@ -84,11 +90,11 @@ module _ (b : Book) where
   unfolding clashFirst clashSecond
   clash-found p q l =
       let R : ℕ = length (b .rules) in
-      let c : clashing b p q ≡ true = clashing-of p q (l .rising) ∙ l .clashes in
+      let c : clashing b p q ≡ true = clashing-so p q (l .rising) (l .clashes) in
       let h : p < R = omega (arith, l .rising, l .inside) in (
-        first-found R (λ x. some R (clashing b x)) p h (λ x a. alone-some x (λ y m. cases (ltb x y) (λ t. let i = ltb-true x y t in clashing-of x y i ∙ l .first x y a i m)
+        first-found R (λ x. some R (clashing b x)) p h (λ x a. alone-some x (λ y m. cases (ltb x y) (λ t. let i = ltb-true x y t in clashing-not x y i (l .first x y a i m))
             (λ t. clashing-low x y (ltb-false x y t)))) (some-of R (clashing b p) q (l .inside) c),
-        first-found R (clashing b p) q (l .inside) (λ y a. cases (ltb p y) (λ t. let i = ltb-true p y t in clashing-of p y i ∙ l .second y i a) (λ t. clashing-low p y (ltb-false p y t))) c,
+        first-found R (clashing b p) q (l .inside) (λ y a. cases (ltb p y) (λ t. let i = ltb-true p y t in clashing-not p y i (l .second y i a)) (λ t. clashing-low p y (ltb-false p y t))) c,
       )
 
   -- no pair is named exactly if no two rules clash

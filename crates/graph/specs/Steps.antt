@@ -15,7 +15,7 @@ use Rattle.paper.specs.Answers.{answer, granted, refusal}
 use Rattle.paper.specs.declared.Answer.{Answer}
 use Rattle.sets.specs.Cases.{not-so}
 use Rattle.sets.specs.Set.{has, union, inter, minus, only, lowest, size, collect, putIf}
-use Rattle.sets.specs.Laws.{lowest-wide, minus-le, below, collect-step, one-bit, ext, has-inter, has-collect}
+use Rattle.sets.specs.Laws.{collect-step, one-bit, ext, has-inter, has-collect}
 use Rattle.graph.specs.Chart.{setOf, condition, response, milestone, include, exclude}
 use Rattle.graph.specs.Tests.{fit}
 use Rattle.graph.specs.Fitness.{fit-both}

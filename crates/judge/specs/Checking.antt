@@ -1,7 +1,7 @@
 -- The check's answer and the room that it leaves, in the paper's order of refusals, and that they are exactly what the paper's table says. Assumes nothing.
 use mathlib.Core.Path.{_≡_, refl, sym, ap, subst, _∙_}
 use mathlib.Core.Logic.{_↔_}
-use mathlib.Core.Bool.{true, false, cond}
+use mathlib.Core.Bool.{cond}
 use mathlib.Core.List.{List, _++_}
 use Prim.Native.Nat.{ℕ, _≤_, _<_}
 use native.Mathlib.Omega.{arith}
@@ -228,9 +228,7 @@ module _ (s : List ℕ) where
             (λ e. let f = clash-fits (bookOf s) in
             let none : NoClash (bookOf s) = no-clash (bookOf s) .1 (omega (arith, ltb-false (clashFirst (bookOf s)) (length (bookOf s .rules)) e)) in
             contra (clashes-so (ruleOf (bookOf s) p) (ruleOf (bookOf s) q) .1 c) (none p q i j)),
-        λ e. let (n, l) = clash-named e in
-            let c = clashes-so (ruleOf (bookOf s) (checking s room .place)) (ruleOf (bookOf s) (checking s room .other)) .0 (l .clashes) in
-            (n, (checking s room .place, checking s room .other, l .rising, l .inside, c)),
+        λ e. let (n, l) = clash-named e in (n, (checking s room .place, checking s room .other, l .rising, l .inside, l .clashes)),
       )
 
 -- what a granted check leaves in the room: a fit order, and behind it the room as it was

@@ -4,7 +4,7 @@ use Prim.Native.Nat.{ℕ, zero, suc, _+_, _-_, _*_, _/_, _%_, _^_, _≤_, _<_, m
 use mathlib.Core.Path.{_≡_, refl, sym, ap, ap₂, _∙_}
 use mathlib.Core.Bool.{Bool, true, false, not, _&&_, _||_, cond, and-true, and-false, or-false, or-self}
 use mathlib.Core.Logic.{_⊎_, inl, inr}
-use native.Mathlib.Nat.{zero-min, min-zero, suc-min-suc, zero-max, max-zero, suc-max-suc, mod-lt, zero-lt-suc, pow-suc, div-one, zero-div, zero-mod, div-div-eq-div-mul, mul-comm, sub-zero, zero-sub, not-suc-le-zero, le-of-suc-le-suc, mul-mod-left, mul-div-cancel, div-eq-of-lt, div-lt-iff-lt-mul, lt-of-lt-of-le, one-mul, zero-add, lt-of-not-le, not-le-of-lt}
+use native.Mathlib.Nat.{zero-min, min-zero, suc-min-suc, zero-max, max-zero, suc-max-suc, mod-lt, zero-lt-suc, pow-suc, div-one, zero-div, zero-mod, div-div-eq-div-mul, mul-comm, sub-zero, zero-sub, not-suc-le-zero, mul-mod-left, mul-div-cancel, div-eq-of-lt, div-lt-iff-lt-mul, lt-of-lt-of-le, one-mul, zero-add, lt-of-not-le, not-le-of-lt}
 use native.Mathlib.Numerals.{add-one}
 use native.Mathlib.Omega.{arith}
 use lib.Arith.{digits-div, digits-mod, bin-ind, lt-one, lt-of-le-ne}
@@ -205,19 +205,6 @@ pub lowest-none : (w : ℕ) → lowest w zero ≡ w
 unfolding trailingZeros
 lowest-none zero = refl
 lowest-none (suc w) = lowest-suc w zero (zero-mod 2) ∙ rw (zero-div, lowest-none w)
-
-pub lowest-unique : (s m n : ℕ) → has s m ≡ true → has s n ≡ true → ((e : ℕ) → e < m → has s e ≡ false) → ((e : ℕ) → e < n → has s e ≡ false) → m ≡ n
-lowest-unique s m n hm hn lm ln =
-    let a : m ≤ n = le-of-suc-le-suc (lt-of-not-le (λ l. contra hn (lm n l))) in
-    let b : n ≤ m = le-of-suc-le-suc (lt-of-not-le (λ l. contra hm (ln m l))) in
-    omega arith
-
--- the width does not matter once it holds the set
-pub lowest-wide : (v w s : ℕ) → zero < s → s < 2 ^ v → v ≤ w → lowest w s ≡ lowest v s
-lowest-wide v w s p h l =
-    lowest-unique s (lowest w s) (lowest v s)
-    (lowest-has w s (lowest-lt w s p (lt-of-lt-of-le h (pow-mono l)))) (lowest-has v s (lowest-lt v s p h))
-    (lowest-least w s) (lowest-least v s)
 
 -- ---- what the code computes
 
