@@ -3,16 +3,15 @@ ghost use mathlib.Core.Path.{_≡_};
 ghost use Prim.Native.Nat.{_≤_};
 ghost use lib.ListN.{length};
 ghost use Rattle.derived.specs.Writing.{Wrote};
+ghost use Rattle.writing.specs.Writers.{Space};
 ghost use Rattle.listing.specs.Limits.{maxListing};
 ghost use Rattle.listing.specs.Text.{refusalLine, chartText, imageText};
 ghost use Rattle.listing.specs.Listing.{listedLength, listedRoom};
-ghost use Rattle.listing.specs.Writers.{Space};
 use graph::FlatChart;
 use paper::Answer;
 use paper::WORD_SIZE;
 
 mod lines;
-mod out;
 
 // How many bytes of a chart the listing reads: the longest image, and one byte more, which shows a longer input for what it is.
 pub const LISTING_INPUT: usize = 25097;
@@ -28,10 +27,10 @@ fn refusal_line(room: &mut [u8], answer: Answer) -> usize
     requires { ⌜ Space (now room) 0 (refusalLine answer) ⌝ }
     ensures { λ r. ⌜ Wrote (now (room .entry)) 0 (refusalLine answer) r (now (room .exit)) ⌝ }
 {
-    let a = out::named(room, 0, b"refused ", answer.code);
-    let b = out::named(room, a, b" ", answer.place);
-    let c = out::named(room, b, b" ", answer.other);
-    out::text(room, c, b"\n")
+    let a = writing::named(room, 0, b"refused ", answer.code);
+    let b = writing::named(room, a, b" ", answer.place);
+    let c = writing::named(room, b, b" ", answer.other);
+    writing::text(room, c, b"\n")
 }
 
 // The derived book's text, or the deriver's refusal.

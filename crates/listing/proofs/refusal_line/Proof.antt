@@ -1,7 +1,7 @@
 -- `listing::refusal_line` meets its contract. Assumes nothing.
 use borrow.Author.Needs.{needs}
+use Rattle.writing.specs.Writers.{fits₁, fits₂, fits₃, last₄, wrote₄}
 use Rattle.listing.specs.Text.{refusalLine}
-use Rattle.listing.specs.Writers.{fits₁, fits₂, fits₃, last₄, wrote₄}
 use Rattle.listing.proofs.refusal_line.Statement.{statement}
 use Rattle.listing.proofs.refusal_line.Tie as tie
 

@@ -1,6 +1,6 @@
 -- `listing::lines::book_text` meets its contract. Assumes nothing.
 use borrow.Author.Needs.{needs}
-use Rattle.listing.specs.Writers.{book-fits-1, book-fits-2, book-fits-3, book-wrote}
+use Rattle.listing.specs.Lines.{book-fits-1, book-fits-2, book-fits-3, book-wrote}
 use Rattle.listing.proofs.lines.book_text.Statement.{statement}
 use Rattle.listing.proofs.lines.book_text.Tie as tie
 

@@ -1,7 +1,7 @@
 -- `listing::lines::counts_line` meets its contract. Assumes nothing.
 use borrow.Author.Needs.{needs}
+use Rattle.writing.specs.Writers.{fits₁, fits₂, fits₃, fits₄, fits₅, last₆, wrote₆}
 use Rattle.listing.specs.Text.{countsLine}
-use Rattle.listing.specs.Writers.{fits₁, fits₂, fits₃, fits₄, fits₅, last₆, wrote₆}
 use Rattle.listing.proofs.lines.counts_line.Statement.{statement}
 use Rattle.listing.proofs.lines.counts_line.Tie as tie
 
