@@ -35,10 +35,11 @@ use Rattle.derived.specs.Sizes.{conditions-length, rules-most, words-most}
 use Rattle.deriver.specs.Formed.{derived-formed}
 use Rattle.deriver.specs.Deriving.{derivedImage, derivingAnswer}
 use Rattle.writing.specs.Text.{decimalIn, decimal}
+use Rattle.single_lines.specs.Text.{countsLine, refusalLine}
 use Rattle.rule_lines.specs.Text.{triggerText, senseText, effectText, ruleLine}
 use Rattle.condition_lines.specs.Text.{wordText, conditionLine}
 use Rattle.listing.specs.Limits.{listingInput, listingBook, maxListing}
-use Rattle.listing.specs.Text.{countsLine, bookText, refusalLine, chartText, imageText, listingText}
+use Rattle.listing.specs.Text.{bookText, chartText, imageText, listingText}
 
 -- ---- decimal numbers
 

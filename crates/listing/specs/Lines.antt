@@ -14,11 +14,12 @@ use Rattle.book.specs.WellFormed.{WellFormed}
 use Rattle.book.specs.declared.Counts.{Counts}
 use Rattle.derived.specs.Writing.{Wrote}
 use Rattle.writing.specs.Writers.{Space, fits₁, fits₂, last₃, wrote₃}
+use Rattle.single_lines.specs.Text.{countsLine}
 use Rattle.rule_lines.specs.Text.{ruleLine}
 use Rattle.rule_lines.specs.Writers.{ruleLineAt}
 use Rattle.condition_lines.specs.Text.{conditionLine}
 use Rattle.condition_lines.specs.Writers.{conditionLineAt, ConditionsIn}
-use Rattle.listing.specs.Text.{countsLine, bookText}
+use Rattle.listing.specs.Text.{bookText}
 
 module _ (s : List ℕ) (well : WellFormed s) where
   whole : length s ≡ wordPlace (rulesIn s) (conditionsIn s) (wordsIn s)

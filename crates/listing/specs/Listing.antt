@@ -29,8 +29,9 @@ use Rattle.deriver.specs.Formed.{derived-well}
 use Rattle.deriver.specs.Deriving.{derivedImage, derivingAnswer, derivedRoom}
 use Rattle.derived.specs.Writing.{Wrote, wrote-whole}
 use Rattle.writing.specs.Writers.{Space}
+use Rattle.single_lines.specs.Text.{refusalLine}
 use Rattle.listing.specs.Limits.{listingInput, listingBook, maxListing}
-use Rattle.listing.specs.Text.{bookText, refusalLine, unlessRefused, chartText, imageText, listingText}
+use Rattle.listing.specs.Text.{bookText, unlessRefused, chartText, imageText, listingText}
 use Rattle.listing.specs.Bounds.{chart-most, image-text-most, listing-most}
 
 -- a room that may be too short for the text is left as it was, and the length given is 0

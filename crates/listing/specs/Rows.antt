@@ -18,10 +18,11 @@ use Rattle.deriver.specs.Deriving.{derivedImage, derivingAnswer}
 use Rattle.deriver.specs.Rows.{paperChart, paperBook}
 use Rattle.deriver.specs.Rows as deriver
 use Rattle.writing.specs.Text.{ascii, decimalIn, decimal}
+use Rattle.single_lines.specs.Text.{countsLine}
 use Rattle.rule_lines.specs.Text.{triggerText, senseText, effectText, ruleLine}
 use Rattle.condition_lines.specs.Text.{wordText, conditionLine}
 use Rattle.listing.specs.Limits.{listingBook}
-use Rattle.listing.specs.Text.{countsLine, bookText, unlessRefused, chartText, imageText, listingText}
+use Rattle.listing.specs.Text.{bookText, unlessRefused, chartText, imageText, listingText}
 
 -- the paper's text, line by line
 abbrev pub paperText : List ℕ

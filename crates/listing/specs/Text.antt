@@ -11,27 +11,17 @@ use Rattle.book.specs.Book.{Book, ruleOf, textOf}
 use Rattle.book.specs.Lists.{flat}
 use Rattle.derived.specs.Derived.{derivedBook}
 use Rattle.deriver.specs.Deriving.{derivingAnswer}
-use Rattle.writing.specs.Text.{ascii, named}
+use Rattle.single_lines.specs.Text.{countsLine, refusalLine}
 use Rattle.rule_lines.specs.Text.{ruleLine}
 use Rattle.condition_lines.specs.Text.{conditionLine}
 use Rattle.listing.specs.Limits.{listingInput, listingBook}
 
--- ---- "The first line gives the header's five counts."
-
-unfoldable pub countsLine : ℕ → ℕ → ℕ → ℕ → ℕ → List ℕ
-countsLine S M R Q W = named "stages " S ++ (named " marks " M ++ (named " rules " R ++ (named " conditions " Q ++ (named " words " W ++ ascii "\n"))))
-
--- ---- the whole
-
+-- the first line, the rule lines, and the condition lines "after all rules"
 unfoldable pub bookText : Book → List ℕ
 bookText b =
     countsLine (b .stages) (b .marks) (length (b .rules)) (length (b .conditions)) (length (b .words))
     ++ (flat (length (b .rules)) (λ i. ruleLine i (ruleOf b i))
     ++ flat (length (b .conditions)) (λ c. conditionLine c (textOf b c)))
-
--- "A refusal of the reader or the deriver prints one line only: `refused`, code, place, other, with single spaces."
-unfoldable pub refusalLine : Answer → List ℕ
-refusalLine a = named "refused " (a .code) ++ (named " " (a .place) ++ (named " " (a .other) ++ ascii "\n"))
 
 -- the answer's line where it is a refusal, and else the text
 abbrev pub unlessRefused : Answer → List ℕ → List ℕ

@@ -1,9 +1,9 @@
--- `listing::refusal_line` meets its contract. Assumes nothing.
+-- `single_lines::refusal_line` meets its contract. Assumes nothing.
 use borrow.Author.Needs.{needs}
 use Rattle.writing.specs.Writers.{fits₁, fits₂, fits₃, last₄, wrote₄}
-use Rattle.listing.specs.Text.{refusalLine}
-use Rattle.listing.proofs.refusal_line.Statement.{statement}
-use Rattle.listing.proofs.refusal_line.Tie as tie
+use Rattle.single_lines.specs.Text.{refusalLine}
+use Rattle.single_lines.proofs.refusal_line.Statement.{statement}
+use Rattle.single_lines.proofs.refusal_line.Tie as tie
 
 pub refusal-line-spec : {M : Type 1} → statement M
 refusal-line-spec =

@@ -1,8 +1,8 @@
--- `listing::lines::book_text` meets its contract. Assumes nothing.
+-- `listing::book_text` meets its contract. Assumes nothing.
 use borrow.Author.Needs.{needs}
 use Rattle.listing.specs.Lines.{book-fits-1, book-fits-2, book-fits-3, book-wrote}
-use Rattle.listing.proofs.lines.book_text.Statement.{statement}
-use Rattle.listing.proofs.lines.book_text.Tie as tie
+use Rattle.listing.proofs.book_text.Statement.{statement}
+use Rattle.listing.proofs.book_text.Tie as tie
 
 pub book-text-spec : {M : Type 1} → statement M
 book-text-spec =

@@ -1,9 +1,9 @@
--- `listing::lines::counts_line` meets its contract. Assumes nothing.
+-- `single_lines::counts_line` meets its contract. Assumes nothing.
 use borrow.Author.Needs.{needs}
 use Rattle.writing.specs.Writers.{fits₁, fits₂, fits₃, fits₄, fits₅, last₆, wrote₆}
-use Rattle.listing.specs.Text.{countsLine}
-use Rattle.listing.proofs.lines.counts_line.Statement.{statement}
-use Rattle.listing.proofs.lines.counts_line.Tie as tie
+use Rattle.single_lines.specs.Text.{countsLine}
+use Rattle.single_lines.proofs.counts_line.Statement.{statement}
+use Rattle.single_lines.proofs.counts_line.Tie as tie
 
 pub counts-line-spec : {M : Type 1} → statement M
 counts-line-spec =
