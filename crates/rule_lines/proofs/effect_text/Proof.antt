@@ -1,7 +1,5 @@
 -- `rule_lines::effect_text` meets its contract. Assumes nothing.
 use borrow.Author.Needs.{needs}
-use mathlib.Core.Path.{ap, sym}
-use Rattle.rule_lines.specs.Text.{effectText}
 use Rattle.rule_lines.specs.Writers.{set-fits, set-wrote, clear-fits, clear-wrote}
 use Rattle.rule_lines.proofs.effect_text.Statement.{statement}
 use Rattle.rule_lines.proofs.effect_text.Tie as tie

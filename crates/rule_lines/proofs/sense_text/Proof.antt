@@ -1,6 +1,5 @@
 -- `rule_lines::sense_text` meets its contract. Assumes nothing.
 use borrow.Author.Needs.{needs}
-use Rattle.rule_lines.specs.Text.{senseText}
 use Rattle.rule_lines.specs.Writers.{sense-none, if-fits, if-wrote, unless-fits, unless-wrote}
 use Rattle.rule_lines.proofs.sense_text.Statement.{statement}
 use Rattle.rule_lines.proofs.sense_text.Tie as tie

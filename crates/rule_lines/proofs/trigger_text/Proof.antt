@@ -1,6 +1,5 @@
 -- `rule_lines::trigger_text` meets its contract. Assumes nothing.
 use borrow.Author.Needs.{needs}
-use Rattle.rule_lines.specs.Text.{triggerText}
 use Rattle.rule_lines.specs.Writers.{trigger-none, on-fits, on-wrote, trigger-yes, trigger-no}
 use Rattle.rule_lines.proofs.trigger_text.Statement.{statement}
 use Rattle.rule_lines.proofs.trigger_text.Tie as tie
