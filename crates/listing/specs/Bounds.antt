@@ -1,15 +1,15 @@
 -- The listing has at most 13 bytes for 4 of the book, and a refusal is short: so no text is longer than `maxListing`. Assumes nothing.
-use Prim.Native.Nat.{ℕ, zero, suc, _+_, _*_, _/_, _%_, _≤_, _<_}
+use Prim.Native.Nat.{ℕ, zero, suc, _+_, _*_, _/_, _≤_, _<_}
 use mathlib.Core.Path.{_≡_, refl, sym, ap, _∙_}
-use mathlib.Core.Bool.{Bool, true, false, cond, _||_}
-use mathlib.Core.List.{List, [], _∷_, _++_}
+use mathlib.Core.Bool.{Bool, true, false, _||_}
+use mathlib.Core.List.{List, [], _∷_}
 use native.Mathlib.Omega.{arith}
 use lib.Dec.{eqb, ltb, leb}
 use lib.ListN.{length, getD, take, length-append}
 use borrow.Author.Tests.{lt-ltb, ltb-true, ltb-false, leb-true}
 use Rattle.paper.specs.Limits.{andWord, orWord, notWord, maxEvents, maxMarks, maxRules, maxWords, maxNodes, maxRelations, chartHeader}
 use Rattle.paper.specs.declared.Answer.{Answer}
-use Rattle.sets.specs.Cases.{cases, either, neither}
+use Rattle.sets.specs.Cases.{cases, neither}
 use Rattle.sets.specs.Below.{some, first, first-is, tally, tally-le}
 use Rattle.graph.specs.declared.FlatChart.{FlatChart}
 use Rattle.graph.specs.Chart.{Fit}
@@ -23,7 +23,7 @@ use Rattle.book.specs.Book.{Book, noRule, ruleOf, textOf}
 use Rattle.book.specs.Good.{GoodText, isOperator}
 use Rattle.book.specs.Using.{triggerExists, senseExists, RuleFormed}
 use Rattle.book.specs.Formed.{FormedBook}
-use Rattle.book.specs.Lists.{total, total-same, total-le, flat, length-flat, packed, all-at}
+use Rattle.book.specs.Lists.{total, total-le, flat, length-flat, packed, all-at}
 use Rattle.book.specs.ImageOf.{imageOf, image-length}
 use Rattle.book.specs.declared.Rule.{Rule}
 use Rattle.book.specs.declared.Trigger.{Trigger}
@@ -31,11 +31,15 @@ use Rattle.book.specs.declared.Trigger.the-variants.{None, Completed, BecomeYes
 use Rattle.book.specs.declared.Sense.{Sense}
 use Rattle.book.specs.declared.Sense.the-variants.{NoCondition, AsWritten, Negated}
 use Rattle.derived.specs.Derived.{derivedText, derivedBook, derived-text}
-use Rattle.derived.specs.Sizes.{conditions-length, rules-most, words-most}
+use Rattle.derived.specs.Sizes.{conditions-length}
 use Rattle.deriver.specs.Formed.{derived-formed}
 use Rattle.deriver.specs.Deriving.{derivedImage, derivingAnswer}
+use Rattle.writing.specs.Text.{decimalIn, decimal}
+use Rattle.single_lines.specs.Text.{countsLine, refusalLine}
+use Rattle.rule_lines.specs.Text.{triggerText, senseText, effectText, ruleLine}
+use Rattle.condition_lines.specs.Text.{wordText, conditionLine}
 use Rattle.listing.specs.Limits.{listingInput, listingBook, maxListing}
-use Rattle.listing.specs.Text.{decimalIn, decimal, countsLine, triggerText, senseText, effectText, ruleLine, wordText, conditionLine, bookText, refusalLine, chartText, imageText, listingText}
+use Rattle.listing.specs.Text.{bookText, chartText, imageText, listingText}
 
 -- ---- decimal numbers
 

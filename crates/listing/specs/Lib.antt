@@ -2,7 +2,6 @@
 pub mod Limits
 pub mod Text
 pub mod Lines
-pub mod Writers
 pub mod Bounds
 pub mod Listing
 pub mod Rows

@@ -1,36 +1,25 @@
--- The listing's lines as they are read off a book's image, and that a well-formed image gives its book's text. Assumes nothing.
-use Prim.Native.Nat.{ℕ, _+_, _*_, _≤_, _<_}
-use mathlib.Core.Path.{_≡_, refl, sym, ap, ap₂, _∙_}
+-- A well-formed image gives its book's text, line by line, and what is left behind when the lines are written. Assumes nothing.
+use Prim.Native.Nat.{ℕ, _≤_}
+use mathlib.Core.Path.{_≡_, refl, ap, ap₂, _∙_}
 use mathlib.Core.List.{List, _++_}
 use native.Mathlib.Omega.{arith}
-use lib.ListN.{length, getD}
-use lib.Seq.{ext-getD}
-use Rattle.paper.specs.Limits.{wordSize}
+use lib.ListN.{length}
 use Rattle.sets.specs.Tables.{length-tabulate}
-use Rattle.wire.specs.Wire.{u16At, u32At}
 use Rattle.book.specs.Book.{ruleOf, textOf}
-use Rattle.book.specs.Image.{stagesIn, marksIn, rulesIn, conditionsIn, wordsIn, rulePlace, conditionPlace, wordPlace, ruleFrom, conditionFrom, bookOf}
-use Rattle.book.specs.Lists.{flat, flat-same, each, length-each, getD-each}
-use Rattle.book.specs.Read.{wordsFrom, length-words, getD-words, rule-read, text-read}
+use Rattle.book.specs.Image.{stagesIn, marksIn, rulesIn, conditionsIn, wordsIn, rulePlace, wordPlace, conditionFrom, bookOf}
+use Rattle.book.specs.Judging.{countsOf}
+use Rattle.book.specs.Lists.{flat, flat-same}
+use Rattle.book.specs.Read.{rule-read, text-read}
 use Rattle.book.specs.WellFormed.{WellFormed}
-use Rattle.listing.specs.Text.{countsLine, ruleLine, conditionLine, bookText}
-
-unfoldable pub ruleLineAt : List ℕ → ℕ → List ℕ
-ruleLineAt s i = ruleLine i (ruleFrom s (rulePlace i))
-
--- where R rules and Q conditions stand before the words
-unfoldable pub conditionLineAt : List ℕ → ℕ → ℕ → ℕ → List ℕ
-conditionLineAt s R Q c = conditionLine c (wordsFrom s (wordPlace R Q (u32At s (conditionPlace R c))) (u32At s (conditionPlace R c + 4)))
-
-pub record ConditionsIn (s : List ℕ) (R Q : ℕ) : Type 0 where
-  pub long : conditionPlace R Q ≤ length s
-  pub inside : (c : ℕ) → c < Q → wordPlace R Q (u32At s (conditionPlace R c)) + wordSize * u32At s (conditionPlace R c + 4) ≤ length s
-
--- the words one by one
-pub words-each : (s : List ℕ) (at n : ℕ) → wordsFrom s at n ≡ each n (λ i. u16At s (at + wordSize * i))
-words-each s at n =
-    ext-getD 0 (wordsFrom s at n) (each n (λ i. u16At s (at + wordSize * i))) (length-words s at n ∙ sym (length-each n (λ i. u16At s (at + wordSize * i))))
-    (λ i h. let j : i < n = rw (length-words s at n) at h in getD-words s at n i j ∙ sym (getD-each n (λ i. u16At s (at + wordSize * i)) i 0 j))
+use Rattle.book.specs.declared.Counts.{Counts}
+use Rattle.derived.specs.Writing.{Wrote}
+use Rattle.writing.specs.Writers.{Space, fits₁, fits₂, last₃, wrote₃}
+use Rattle.single_lines.specs.Text.{countsLine}
+use Rattle.rule_lines.specs.Text.{ruleLine}
+use Rattle.rule_lines.specs.Writers.{ruleLineAt}
+use Rattle.condition_lines.specs.Text.{conditionLine}
+use Rattle.condition_lines.specs.Writers.{conditionLineAt, ConditionsIn}
+use Rattle.listing.specs.Text.{bookText}
 
 module _ (s : List ℕ) (well : WellFormed s) where
   whole : length s ≡ wordPlace (rulesIn s) (conditionsIn s) (wordsIn s)
@@ -88,3 +77,36 @@ module _ (s : List ℕ) (well : WellFormed s) where
           ap (λ (k : ℕ). flat k (λ c. conditionLine c (textOf (bookOf s) c))) condition-count
           ∙ flat-same (conditionsIn s) (λ c. conditionLine c (textOf (bookOf s) c)) (conditionLineAt s (rulesIn s) (conditionsIn s))
           (λ c h. ap (conditionLine c) (text-read s c h (well .conditions c h .inside)))
+
+-- ---- the writing of them
+
+module _ (s : List ℕ) (well : WellFormed s) (room : List ℕ) (h : Counts) (e : h ≡ countsOf s) where
+  abbrev first-line : List ℕ
+  first-line = countsLine (h .stages) (h .marks) (h .rules) (h .conditions) (h .words)
+
+  abbrev rule-lines : List ℕ
+  rule-lines = flat (h .rules) (ruleLineAt s)
+
+  abbrev condition-lines : List ℕ
+  condition-lines = flat (h .conditions) (conditionLineAt s (h .rules) (h .conditions))
+
+  lines-are : bookText (bookOf s) ≡ first-line ++ (rule-lines ++ condition-lines)
+  lines-are = rw e (image-lines s well)
+
+  module _ (f : Space room 0 (bookText (bookOf s))) where
+    whole-fits : Space room 0 (first-line ++ (rule-lines ++ condition-lines))
+    whole-fits = rw lines-are at f
+
+    pub book-fits-1 : Space room 0 first-line
+    book-fits-1 = fits₁ (rule-lines ++ condition-lines) whole-fits
+
+    module _ (p₁ : ℕ) (r₁ : List ℕ) (w₁ : Wrote room 0 first-line p₁ r₁) where
+      pub book-fits-2 : (rulePlace (h .rules) ≤ length s) × Space r₁ p₁ rule-lines
+      book-fits-2 = (rw e (rules-in s well), fits₂ w₁ rule-lines condition-lines whole-fits)
+
+      module _ (p₂ : ℕ) (r₂ : List ℕ) (w₂ : Wrote r₁ p₁ rule-lines p₂ r₂) where
+        pub book-fits-3 : ConditionsIn s (h .rules) (h .conditions) × Space r₂ p₂ condition-lines
+        book-fits-3 = (rw e (conditions-in s well), last₃ w₂ w₁ condition-lines whole-fits)
+
+        pub book-wrote : (p₃ : ℕ) (r₃ : List ℕ) → Wrote r₂ p₂ condition-lines p₃ r₃ → Wrote room 0 (bookText (bookOf s)) p₃ r₃
+        book-wrote p₃ r₃ w₃ = rw lines-are (wrote₃ w₃ w₂ w₁)

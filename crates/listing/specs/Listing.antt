@@ -1,11 +1,11 @@
 -- What the listing hands back, and what it leaves in the room. Assumes nothing.
 use Prim.Native.Nat.{ℕ, _+_, _*_, _≤_, _<_}
-use mathlib.Core.Path.{_≡_, refl, sym, ap, _∙_}
-use mathlib.Core.Bool.{true, false, cond}
+use mathlib.Core.Path.{_≡_, refl, sym, _∙_}
+use mathlib.Core.Bool.{cond}
 use mathlib.Core.List.{List, _++_}
 use native.Mathlib.Nat.{zero-add}
 use native.Mathlib.Omega.{arith}
-use lib.Dec.{eqb, ltb, leb}
+use lib.Dec.{ltb, leb}
 use lib.ListN.{length, take, drop, replicate, length-append, length-drop, length-replicate}
 use lib.Seq.{take-all, take-append-seam, length-take-le}
 use borrow.Author.Tests.{eq-eqb, ne-eqb, lt-ltb, le-ltb, ltb-false, leb-true}
@@ -19,7 +19,7 @@ use Rattle.graph.specs.Tests.{fitChart}
 use Rattle.graph.specs.Fitness.{tested-fit}
 use Rattle.chart.specs.Reading.{reading}
 use Rattle.chart.specs.declared.Reading.{Reading}
-use Rattle.book.specs.Image.{rulesIn, conditionsIn, wordsIn, conditionPlace, bookOf}
+use Rattle.book.specs.Image.{conditionPlace, bookOf}
 use Rattle.book.specs.ImageOf.{book-of-image}
 use Rattle.book.specs.Judging.{countsOf}
 use Rattle.book.specs.WellFormed.{WellFormed}
@@ -28,9 +28,10 @@ use Rattle.derived.specs.Derived.{derivedBook}
 use Rattle.deriver.specs.Formed.{derived-well}
 use Rattle.deriver.specs.Deriving.{derivedImage, derivingAnswer, derivedRoom}
 use Rattle.derived.specs.Writing.{Wrote, wrote-whole}
+use Rattle.writing.specs.Writers.{Space}
+use Rattle.single_lines.specs.Text.{refusalLine}
 use Rattle.listing.specs.Limits.{listingInput, listingBook, maxListing}
-use Rattle.listing.specs.Text.{bookText, refusalLine, unlessRefused, chartText, imageText, listingText}
-use Rattle.listing.specs.Writers.{Space}
+use Rattle.listing.specs.Text.{bookText, unlessRefused, chartText, imageText, listingText}
 use Rattle.listing.specs.Bounds.{chart-most, image-text-most, listing-most}
 
 -- a room that may be too short for the text is left as it was, and the length given is 0

@@ -2,17 +2,15 @@
 ghost use mathlib.Core.Path.{_≡_};
 ghost use Prim.Native.Nat.{_≤_};
 ghost use lib.ListN.{length};
+ghost use Rattle.book.specs.Image.{bookOf};
+ghost use Rattle.book.specs.WellFormed.{WellFormed};
 ghost use Rattle.derived.specs.Writing.{Wrote};
+ghost use Rattle.writing.specs.Writers.{Space};
 ghost use Rattle.listing.specs.Limits.{maxListing};
-ghost use Rattle.listing.specs.Text.{refusalLine, chartText, imageText};
+ghost use Rattle.listing.specs.Text.{bookText, chartText, imageText};
 ghost use Rattle.listing.specs.Listing.{listedLength, listedRoom};
-ghost use Rattle.listing.specs.Writers.{Space};
 use graph::FlatChart;
-use paper::Answer;
 use paper::WORD_SIZE;
-
-mod lines;
-mod out;
 
 // How many bytes of a chart the listing reads: the longest image, and one byte more, which shows a longer input for what it is.
 pub const LISTING_INPUT: usize = 25097;
@@ -23,15 +21,15 @@ pub const LISTING_BOOK: usize = 49152;
 // How many bytes its text has at most.
 pub const MAX_LISTING: usize = 159744;
 
-// "A refusal of the reader or the deriver prints one line only"
-fn refusal_line(room: &mut [u8], answer: Answer) -> usize
-    requires { ⌜ Space (now room) 0 (refusalLine answer) ⌝ }
-    ensures { λ r. ⌜ Wrote (now (room .entry)) 0 (refusalLine answer) r (now (room .exit)) ⌝ }
+// The whole book, from the start of the room.
+fn book_text(room: &mut [u8], image: &[u8]) -> usize
+    requires { ⌜ WellFormed (now image) × Space (now room) 0 (bookText (bookOf (now image))) ⌝ }
+    ensures { λ r. ⌜ Wrote (now (room .entry)) 0 (bookText (bookOf (now (image .entry)))) r (now (room .exit)) ⌝ }
 {
-    let a = out::named(room, 0, b"refused ", answer.code);
-    let b = out::named(room, a, b" ", answer.place);
-    let c = out::named(room, b, b" ", answer.other);
-    out::text(room, c, b"\n")
+    let h = book::header::counts_at(image);
+    let a = single_lines::counts_line(room, 0, h);
+    let b = rule_lines::rule_lines(room, a, image, h);
+    condition_lines::condition_lines(room, b, image, h)
 }
 
 // The derived book's text, or the deriver's refusal.
@@ -42,12 +40,12 @@ fn chart_text(room: &mut [u8], chart: FlatChart) -> usize
     let mut bytes = [0u8; LISTING_BOOK];
     let answer = deriver::derive(chart, &mut bytes);
     if answer.code != 0 {
-        return refusal_line(room, answer);
+        return single_lines::refusal_line(room, answer);
     }
     let h = book::header::counts_at(&bytes);
     let words = book::header::words_from(h.rules, h.conditions);
     let end = words + WORD_SIZE * h.words as usize;
-    lines::book_text(room, &bytes[..end])
+    book_text(room, &bytes[..end])
 }
 
 // What the chart's image gives, or the reader's refusal.
@@ -58,7 +56,7 @@ fn image_text(room: &mut [u8], image: &[u8]) -> usize
     let reading = chart::read(image);
     let answer = reading.answer;
     if answer.code != 0 {
-        return refusal_line(room, answer);
+        return single_lines::refusal_line(room, answer);
     }
     let chart = reading.chart;
     chart_text(room, chart)
