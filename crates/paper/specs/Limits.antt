@@ -27,6 +27,9 @@ maxWords = 41024
 abbrev pub maxStack : ℕ
 maxStack = 16
 
+abbrev pub maxRoles : ℕ
+maxRoles = 8
+
 -- ---- the chart image: sizes in bytes, and what a parent number says of a node without one
 
 abbrev pub chartHeader : ℕ
@@ -46,6 +49,10 @@ maxFlags = 7
 
 abbrev pub kinds : ℕ
 kinds = 5
+
+-- a node's flags are two bytes: the lower one its state, the upper one its roles
+abbrev pub flagsByte : ℕ
+flagsByte = 256
 
 -- ---- the book image: sizes in bytes, and the words that are operators
 
@@ -152,3 +159,6 @@ stageClosed = 30
 
 abbrev pub orderRoom : ℕ
 orderRoom = 31
+
+abbrev pub notPermitted : ℕ
+notPermitted = 32

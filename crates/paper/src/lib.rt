@@ -19,6 +19,8 @@ pub const MAX_WORDS: usize = 41024;
 
 pub const MAX_STACK: usize = 16;
 
+pub const MAX_ROLES: u32 = 8;
+
 // ---- the chart image: sizes in bytes, and what a parent number says of a node without one
 pub const CHART_HEADER: usize = 8;
 
@@ -31,6 +33,9 @@ pub const NO_PARENT: u16 = 65535;
 pub const MAX_FLAGS: u16 = 7;
 
 pub const KINDS: u16 = 5;
+
+// A node's flags are two bytes: the lower one its state, the upper one its roles.
+pub const FLAGS_BYTE: u16 = 256;
 
 // ---- the book image: sizes in bytes, and the words that are operators
 pub const BOOK_HEADER: usize = 32;
@@ -101,6 +106,8 @@ pub const NO_SUCH_STAGE: u32 = 29;
 pub const STAGE_CLOSED: u32 = 30;
 
 pub const ORDER_ROOM: u32 = 31;
+
+pub const NOT_PERMITTED: u32 = 32;
 
 #[repr(C)]
 pub struct Answer {
