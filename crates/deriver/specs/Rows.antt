@@ -25,6 +25,7 @@ paperChart =
       milestones = none;
       includes = none;
       excludes = set none 1 1;
+      roles = none;
     }
 
 abbrev pub paperStart : Marking

@@ -78,11 +78,20 @@ pub fn derive_in<'a>(
     milestones: &'a [u64; MAX_EVENTS],
     includes: &'a [u64; MAX_EVENTS],
     excludes: &'a [u64; MAX_EVENTS],
+    roles: &'a [u8; MAX_EVENTS],
     room: &mut [u8],
 ) -> Answer
-    ensures { λ r. ⌜ (r ≡ derivingAnswer (chartOf count (now (conditions .entry)) (now (responses .entry)) (now (milestones .entry)) (now (includes .entry)) (now (excludes .entry))) (length (now (room .entry)))) × (now (room .exit) ≡ derivedRoom (chartOf count (now (conditions .entry)) (now (responses .entry)) (now (milestones .entry)) (now (includes .entry)) (now (excludes .entry))) (now (room .entry))) ⌝ }
+    ensures { λ r. ⌜ (r ≡ derivingAnswer (chartOf count (now (conditions .entry)) (now (responses .entry)) (now (milestones .entry)) (now (includes .entry)) (now (excludes .entry)) (now (roles .entry))) (length (now (room .entry)))) × (now (room .exit) ≡ derivedRoom (chartOf count (now (conditions .entry)) (now (responses .entry)) (now (milestones .entry)) (now (includes .entry)) (now (excludes .entry)) (now (roles .entry))) (now (room .entry))) ⌝ }
 {
-    if !graph::tables_fit(count, conditions, responses, milestones, includes, excludes) {
+    if !graph::tables_fit(
+        count,
+        conditions,
+        responses,
+        milestones,
+        includes,
+        excludes,
+        roles,
+    ) {
         return paper::refused(UNFIT, 0, 0);
     }
     let n = count as usize;
@@ -117,6 +126,7 @@ pub fn derive(chart: FlatChart, room: &mut [u8]) -> Answer
         &chart.milestones,
         &chart.includes,
         &chart.excludes,
+        &chart.roles,
         room,
     )
 }
@@ -133,5 +143,6 @@ pub fn matching(chart: FlatChart, marking: Marking) -> Matched
         &chart.milestones,
         &chart.includes,
         &chart.excludes,
+        &chart.roles,
     )
 }

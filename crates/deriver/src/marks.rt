@@ -34,11 +34,20 @@ pub fn matching_in<'a>(
     milestones: &'a [u64; MAX_EVENTS],
     includes: &'a [u64; MAX_EVENTS],
     excludes: &'a [u64; MAX_EVENTS],
+    roles: &'a [u8; MAX_EVENTS],
 ) -> Matched
-    ensures { λ r. ⌜ r ≡ matchingOf (chartOf count (now (conditions .entry)) (now (responses .entry)) (now (milestones .entry)) (now (includes .entry)) (now (excludes .entry))) marking ⌝ }
+    ensures { λ r. ⌜ r ≡ matchingOf (chartOf count (now (conditions .entry)) (now (responses .entry)) (now (milestones .entry)) (now (includes .entry)) (now (excludes .entry)) (now (roles .entry))) marking ⌝ }
 {
     let mut marks = [false; MAX_MARKS];
-    if !marking.fits(count, conditions, responses, milestones, includes, excludes) {
+    if !marking.fits(
+        count,
+        conditions,
+        responses,
+        milestones,
+        includes,
+        excludes,
+        roles,
+    ) {
         return Matched {
             answer: paper::refused(paper::UNFIT, 0, 0),
             snapshot: Snapshot { marks },

@@ -27,13 +27,19 @@ setOf c k e = getD (table c k) e 0
 abbrev pub In : ℕ → ℕ → Type 0
 In s f = has s f ≡ true
 
--- "A flat chart is fit if the count is 1 to 64, no bit stands outside it, every set past it is empty, and no pair has both include and exclude."
+-- the roles that event e names
+abbrev pub rolesOf : FlatChart → ℕ → ℕ
+rolesOf c e = getD (c .roles) e 0
+
+-- "A flat chart is fit if the count is 1 to 64, no bit stands outside it, every set past it is empty, and no pair has both include and exclude." Request (i):
+-- "The flat chart holds a role byte per event, 0 past the count."
 pub record Fit (c : FlatChart) : Type 0 where
   pub some : 1 ≤ c .count
   pub few : c .count ≤ maxEvents
   pub inside : (k : Kind) (e f : ℕ) → e < c .count → In (setOf c k e) f → f < c .count
   pub past : (k : Kind) (e : ℕ) → c .count ≤ e → e < maxEvents → setOf c k e ≡ 0
   pub apart : (e f : ℕ) → e < maxEvents → In (setOf c include e) f → In (setOf c exclude e) f → ⊥
+  pub unnamed : (e : ℕ) → c .count ≤ e → e < maxEvents → rolesOf c e ≡ 0
 
 -- "A marking is three sets: Ex, Re, In; it is fit if no bit stands outside the count."
 pub record FitMarking (n : ℕ) (m : Marking) : Type 0 where
@@ -42,9 +48,9 @@ pub record FitMarking (n : ℕ) (m : Marking) : Type 0 where
   pub included : (f : ℕ) → In (m .included) f → f < n
 
 -- a chart in its parts, as the calls lend them
-abbrev pub chartOf : ℕ → List ℕ → List ℕ → List ℕ → List ℕ → List ℕ → FlatChart
-chartOf count conditions responses milestones includes excludes =
-    record { count = count; conditions = conditions; responses = responses; milestones = milestones; includes = includes; excludes = excludes }
+abbrev pub chartOf : ℕ → List ℕ → List ℕ → List ℕ → List ℕ → List ℕ → List ℕ → FlatChart
+chartOf count conditions responses milestones includes excludes roles =
+    record { count = count; conditions = conditions; responses = responses; milestones = milestones; includes = includes; excludes = excludes; roles = roles }
 
 -- ---- what a refused reading gives
 
@@ -57,6 +63,7 @@ emptyChart =
       milestones = replicate maxEvents 0;
       includes = replicate maxEvents 0;
       excludes = replicate maxEvents 0;
+      roles = replicate maxEvents 0;
     }
 
 abbrev pub emptyMarking : Marking

@@ -6,16 +6,17 @@ use mathlib.Core.Logic.{_↔_, _⊎_, inl, inr, ⊎-elim}
 use native.Mathlib.Omega.{arith}
 use lib.Dec.{eqb, leb, ltb}
 use borrow.Author.Tests.{eq-eqb, ne-eqb, eqb-true, eqb-false, le-leb, lt-leb, leb-true, leb-false, lt-ltb, ltb-true, not-true}
-use Rattle.paper.specs.Limits.{maxEvents, noSuchEvent, notIncluded, conditionWanting, milestoneWanting, unfit}
+use Rattle.paper.specs.Limits.{maxEvents, noSuchEvent, notPermitted, notIncluded, conditionWanting, milestoneWanting, unfit}
 use Rattle.paper.specs.Answers.{answer, granted, refusal}
 use Rattle.sets.specs.Cases.{contra, cases, both, all3, either, or-right, not-so, same-test, coincide}
 use Rattle.sets.specs.Below.{tally, Lowest, lowest-one}
 use Rattle.sets.specs.Set.{has, inter, minus, only, lowest}
 use Rattle.sets.specs.Laws.{has-union, has-inter, has-minus, has-only, has-empty, none-zero, ext, lowest-has, lowest-lt, lowest-least, has-collect, size-collect, below, apart-not, not-apart, lowest-none}
-use Rattle.graph.specs.Chart.{condition, response, milestone, include, exclude, setOf, In, Fit, FitMarking}
+use Rattle.graph.specs.Chart.{condition, response, milestone, include, exclude, setOf, rolesOf, In, Fit, FitMarking}
+use Rattle.graph.specs.Roles.{Permits, permits, permits-so}
 use Rattle.graph.specs.Tests.{fit}
 use Rattle.graph.specs.Fitness.{fit-both, both-fit}
-use Rattle.graph.specs.Steps.{unmetOf, awaitedOf, openWith, isOpen, afterWith, after, refusing, granting, stepping, executing, openAmong, openSet, counting, finishing}
+use Rattle.graph.specs.Steps.{unmetOf, awaitedOf, openWith, isOpen, afterWith, after, refusing, granting, stepping, steppingBy, executing, openAmong, openSet, counting, finishing}
 use Rattle.graph.specs.declared.FlatChart.{FlatChart}
 use Rattle.graph.specs.declared.Marking.{Marking}
 use Rattle.graph.specs.declared.steps.Step.{Step}
@@ -47,19 +48,25 @@ pub record Awaiting (c : FlatChart) (m : Marking) (e f : ℕ) : Type 0 where
   pub asked : In (setOf c milestone e) f
   pub pending : In (m .pending) f
 
--- "Executing gives 14, 10, 11, 12, 13": what the paper has a step give, case by case
+-- "Executing gives 14, 10, 11, 12, 13", and by request (i) 32 "after 10 and before 11": what the paper has a step give, case by case
 pub record Stands (c : FlatChart) (m : Marking) (e : ℕ) : Type 0 where
   pub chart : Fit c
   pub marking : FitMarking (c .count) m
   pub exists : e < c .count
 
-pub data Executes (c : FlatChart) (m : Marking) (e : ℕ) : Step → Type 0 where
-  isUnfit : (Fit c → FitMarking (c .count) m → ⊥) → Executes c m e (refusing unfit 0 m)
-  isGone : Fit c → FitMarking (c .count) m → c .count ≤ e → Executes c m e (refusing noSuchEvent 0 m)
-  isExcluded : Stands c m e → (In (m .included) e → ⊥) → Executes c m e (refusing notIncluded 0 m)
-  isWanting : {f : ℕ} → Stands c m e → In (m .included) e → Lowest (c .count) (Wanting c m e) f → Executes c m e (refusing conditionWanting f m)
-  isAwaiting : {f : ℕ} → Stands c m e → In (m .included) e → ((g : ℕ) → Wanting c m e g → ⊥) → Lowest (c .count) (Awaiting c m e) f → Executes c m e (refusing milestoneWanting f m)
-  isDone : {n : Marking} → Stands c m e → Enabled c m e → Executed c m e n → Executes c m e (granting n)
+pub record Admitted (c : FlatChart) (m : Marking) (e r : ℕ) : Type 0 where
+  pub stands : Stands c m e
+  pub permitted : Permits (rolesOf c e) r
+
+pub data Executes (c : FlatChart) (m : Marking) (e r : ℕ) : Step → Type 0 where
+  isUnfit : (Fit c → FitMarking (c .count) m → ⊥) → Executes c m e r (refusing unfit 0 m)
+  isGone : Fit c → FitMarking (c .count) m → c .count ≤ e → Executes c m e r (refusing noSuchEvent 0 m)
+  isForbidden : Stands c m e → (Permits (rolesOf c e) r → ⊥) → Executes c m e r (refusing notPermitted 0 m)
+  isExcluded : Admitted c m e r → (In (m .included) e → ⊥) → Executes c m e r (refusing notIncluded 0 m)
+  isWanting : {f : ℕ} → Admitted c m e r → In (m .included) e → Lowest (c .count) (Wanting c m e) f → Executes c m e r (refusing conditionWanting f m)
+  isAwaiting : {f : ℕ} → Admitted c m e r → In (m .included) e → ((g : ℕ) → Wanting c m e g → ⊥) → Lowest (c .count) (Awaiting c m e) f
+      → Executes c m e r (refusing milestoneWanting f m)
+  isDone : {n : Marking} → Admitted c m e r → Enabled c m e → Executed c m e n → Executes c m e r (granting n)
 
 -- ---- the open rule
 
@@ -164,22 +171,25 @@ module _ (c : FlatChart) (m : Marking) (e : ℕ) where
         least = λ g l p. contra (h g .1 p) (lowest-least maxEvents s g l);
       }
 
-  pub executes : Executes c m e (executing c m e)
-  unfolding executing stepping openWith
-  executes =
+  pub executes : (r : ℕ) → Executes c m e r (executing c m e r)
+  unfolding executing steppingBy stepping openWith
+  executes r =
       cases (fit c m)
       (λ ok. let t = fit-both c m ok in
       cases (leb (c .count) e)
       (λ g. rw (ok, g) (isGone (t .0) (t .1) (leb-true (c .count) e g)))
-      (λ g. let s : Stands c m e = record { chart = t .0; marking = t .1; exists = leb-false (c .count) e g } in
+      (λ g. let d : Stands c m e = record { chart = t .0; marking = t .1; exists = leb-false (c .count) e g } in
+      cases (permits (rolesOf c e) r)
+      (λ o. let s : Admitted c m e r = record { stands = d; permitted = permits-so (rolesOf c e) r .0 o } in
       cases (has (m .included) e)
       (λ i. cases (eqb (unmetOf m (setOf c condition e)) 0)
       (λ u. cases (eqb (awaitedOf m (setOf c milestone e)) 0)
-      (λ w. rw (ok, g, i, u, w) (isDone s (open-enabled c m e .0 (opens i u w)) (after-executed c m e)))
-      (λ w. rw (ok, g, i, u, w) (isAwaiting s i (λ f x. contra (unmet-wanting c m e f .1 x) (ap (λ (y : ℕ). has y f) (eqb-true _ 0 u) ∙ has-empty f))
+      (λ w. rw (ok, g, o, i, u, w) (isDone s (open-enabled c m e .0 (opens i u w)) (after-executed c m e)))
+      (λ w. rw (ok, g, o, i, u, w) (isAwaiting s i (λ f x. contra (unmet-wanting c m e f .1 x) (ap (λ (y : ℕ). has y f) (eqb-true _ 0 u) ∙ has-empty f))
       (lowest-in (t .0) (t .1) (Awaiting c m e) (awaitedOf m (setOf c milestone e)) (awaited-awaiting c m e) (λ f x. x .included) (eqb-false _ 0 w)))))
-      (λ u. rw (ok, g, i, u) (isWanting s i (lowest-in (t .0) (t .1) (Wanting c m e) (unmetOf m (setOf c condition e)) (unmet-wanting c m e) (λ f x. x .included) (eqb-false _ 0 u)))))
-      (λ i. rw (ok, g, i) (isExcluded s (λ x. contra x i)))))
+      (λ u. rw (ok, g, o, i, u) (isWanting s i (lowest-in (t .0) (t .1) (Wanting c m e) (unmetOf m (setOf c condition e)) (unmet-wanting c m e) (λ f x. x .included) (eqb-false _ 0 u)))))
+      (λ i. rw (ok, g, o, i) (isExcluded s (λ x. contra x i))))
+      (λ o. rw (ok, g, o) (isForbidden d (λ x. contra (permits-so (rolesOf c e) r .1 x) o)))))
       (λ no. rw no (isUnfit (λ f t. contra (both-fit c m f t) no)))
     where
       opens : has (m .included) e ≡ true → eqb (unmetOf m (setOf c condition e)) 0 ≡ true → eqb (awaitedOf m (setOf c milestone e)) 0 ≡ true → isOpen c m e ≡ true
@@ -189,56 +199,60 @@ module _ (c : FlatChart) (m : Marking) (e : ℕ) where
   some-in s f h z = contra h (ap (λ (x : ℕ). has x f) z ∙ has-empty f)
 
   -- and nothing else: whatever the paper's cases allow is what executing gives
-  pub executes-only : {s : Step} → Executes c m e s → s ≡ executing c m e
-  unfolding executing stepping openWith
-  executes-only (isUnfit n) = let no : fit c m ≡ false = not-so (λ ok. let t = fit-both c m ok in n (t .0) (t .1)) in rw no
-  executes-only (isGone f t g) = rw (both-fit c m f t, le-leb (c .count) e g)
-  executes-only (isExcluded s x) = rw (both-fit c m (s .chart) (s .marking), lt-leb (c .count) e (s .exists), not-so x)
-  executes-only (isWanting {f} s i l) =
+  pub executes-only : {r : ℕ} {s : Step} → Executes c m e r s → s ≡ executing c m e r
+  unfolding executing steppingBy stepping openWith
+  executes-only {r} (isUnfit n) = let no : fit c m ≡ false = not-so (λ ok. let t = fit-both c m ok in n (t .0) (t .1)) in rw no
+  executes-only {r} (isGone f t g) = rw (both-fit c m f t, le-leb (c .count) e g)
+  executes-only {r} (isForbidden s x) = rw (both-fit c m (s .chart) (s .marking), lt-leb (c .count) e (s .exists), not-so (λ o. x (permits-so (rolesOf c e) r .0 o)))
+  executes-only {r} (isExcluded s x) = rw (both-fit c m (s .stands .chart) (s .stands .marking), lt-leb (c .count) e (s .stands .exists), permits-so _ r .1 (s .permitted), not-so x)
+  executes-only {r} (isWanting {f} s i l) =
       let u : unmetOf m (setOf c condition e) ≡ 0 → ⊥ = some-in _ f (unmet-wanting c m e f .1 (l .holds)) in
       let o : f ≡ lowest maxEvents (unmetOf m (setOf c condition e)) = lowest-one (c .count) (Wanting c m e) f _ l
-      (lowest-in (s .chart) (s .marking) (Wanting c m e) (unmetOf m (setOf c condition e)) (unmet-wanting c m e) (λ g x. x .included) u) in
-      rw (both-fit c m (s .chart) (s .marking), lt-leb (c .count) e (s .exists), i, ne-eqb _ 0 u) (ap (λ (x : ℕ). refusing conditionWanting x m) o)
-  executes-only (isAwaiting {f} s i n l) =
+      (lowest-in (s .stands .chart) (s .stands .marking) (Wanting c m e) (unmetOf m (setOf c condition e)) (unmet-wanting c m e) (λ g x. x .included) u) in
+      rw (both-fit c m (s .stands .chart) (s .stands .marking), lt-leb (c .count) e (s .stands .exists), permits-so _ r .1 (s .permitted), i, ne-eqb _ 0 u) (ap (λ (x : ℕ). refusing conditionWanting x m) o)
+  executes-only {r} (isAwaiting {f} s i n l) =
       let z : unmetOf m (setOf c condition e) ≡ 0 = none-zero _ (λ g. not-so (λ h. n g (unmet-wanting c m e g .0 h))) in
       let w : awaitedOf m (setOf c milestone e) ≡ 0 → ⊥ = some-in _ f (awaited-awaiting c m e f .1 (l .holds)) in
       let o : f ≡ lowest maxEvents (awaitedOf m (setOf c milestone e)) = lowest-one (c .count) (Awaiting c m e) f _ l
-      (lowest-in (s .chart) (s .marking) (Awaiting c m e) (awaitedOf m (setOf c milestone e)) (awaited-awaiting c m e) (λ g x. x .included) w) in
-      rw (both-fit c m (s .chart) (s .marking), lt-leb (c .count) e (s .exists), i, eq-eqb _ 0 z, ne-eqb _ 0 w) (ap (λ (x : ℕ). refusing milestoneWanting x m) o)
-  executes-only (isDone {n} s t x) =
+      (lowest-in (s .stands .chart) (s .stands .marking) (Awaiting c m e) (awaitedOf m (setOf c milestone e)) (awaited-awaiting c m e) (λ g x. x .included) w) in
+      rw (both-fit c m (s .stands .chart) (s .stands .marking), lt-leb (c .count) e (s .stands .exists), permits-so _ r .1 (s .permitted), i, eq-eqb _ 0 z, ne-eqb _ 0 w) (ap (λ (x : ℕ). refusing milestoneWanting x m) o)
+  executes-only {r} (isDone {n} s t x) =
       let o = all3 (has (m .included) e) (eqb (unmetOf m (setOf c condition e)) 0) (eqb (awaitedOf m (setOf c milestone e)) 0) (open-enabled c m e .1 t) in
-      rw (both-fit c m (s .chart) (s .marking), lt-leb (c .count) e (s .exists), o .0, o .1, o .2) (ap granting (executed-one c m e n _ x (after-executed c m e)))
+      rw (both-fit c m (s .stands .chart) (s .stands .marking), lt-leb (c .count) e (s .stands .exists), permits-so _ r .1 (s .permitted), o .0, o .1, o .2) (ap granting (executed-one c m e n _ x (after-executed c m e)))
 
-  -- granted exactly if enabled
-  pub granted-enabled : (executing c m e .answer .code ≡ 0) ↔ (Stands c m e × Enabled c m e)
-  granted-enabled = (λ h. grants executes h, λ t. ap (λ (s : Step). s .answer .code) (sym (executes-only (isDone (t .0) (t .1) (after-executed c m e)))))
+  -- granted exactly if enabled, by a role that may
+  pub granted-enabled : (r : ℕ) → (executing c m e r .answer .code ≡ 0) ↔ (Admitted c m e r × Enabled c m e)
+  granted-enabled r = (λ h. grants (executes r) h, λ t. ap (λ (s : Step). s .answer .code) (sym (executes-only (isDone (t .0) (t .1) (after-executed c m e)))))
     where
-      grants : {s : Step} → Executes c m e s → s .answer .code ≡ 0 → Stands c m e × Enabled c m e
+      grants : {s : Step} → Executes c m e r s → s .answer .code ≡ 0 → Admitted c m e r × Enabled c m e
       grants (isUnfit _) h = absurd (omega arith)
       grants (isGone _ _ _) h = absurd (omega arith)
+      grants (isForbidden _ _) h = absurd (omega arith)
       grants (isExcluded _ _) h = absurd (omega arith)
       grants (isWanting _ _ _) h = absurd (omega arith)
       grants (isAwaiting _ _ _ _) h = absurd (omega arith)
       grants (isDone s t _) h = (s, t)
 
   -- a granted step is Definition 3's; a refused one returns its marking
-  pub granted-executed : executing c m e .answer .code ≡ 0 → Executed c m e (executing c m e .marking)
-  granted-executed h = told executes h
+  pub granted-executed : (r : ℕ) → executing c m e r .answer .code ≡ 0 → Executed c m e (executing c m e r .marking)
+  granted-executed r h = told (executes r) h
     where
-      told : {s : Step} → Executes c m e s → s .answer .code ≡ 0 → Executed c m e (s .marking)
+      told : {s : Step} → Executes c m e r s → s .answer .code ≡ 0 → Executed c m e (s .marking)
       told (isUnfit _) h = absurd (omega arith)
       told (isGone _ _ _) h = absurd (omega arith)
+      told (isForbidden _ _) h = absurd (omega arith)
       told (isExcluded _ _) h = absurd (omega arith)
       told (isWanting _ _ _) h = absurd (omega arith)
       told (isAwaiting _ _ _ _) h = absurd (omega arith)
       told (isDone _ _ x) h = x
 
-  pub refused-kept : (executing c m e .answer .code ≡ 0 → ⊥) → executing c m e .marking ≡ m
-  refused-kept h = told executes h
+  pub refused-kept : (r : ℕ) → (executing c m e r .answer .code ≡ 0 → ⊥) → executing c m e r .marking ≡ m
+  refused-kept r h = told (executes r) h
     where
-      told : {s : Step} → Executes c m e s → (s .answer .code ≡ 0 → ⊥) → s .marking ≡ m
+      told : {s : Step} → Executes c m e r s → (s .answer .code ≡ 0 → ⊥) → s .marking ≡ m
       told (isUnfit _) h = refl
       told (isGone _ _ _) h = refl
+      told (isForbidden _ _) h = refl
       told (isExcluded _ _) h = refl
       told (isWanting _ _ _) h = refl
       told (isAwaiting _ _ _ _) h = refl
@@ -254,11 +268,11 @@ module _ (c : FlatChart) (m : Marking) (e : ℕ) where
         included = λ g i. ⊎-elim (λ p. t .included g (p .0)) (f .inside include e g h) (x .included g .0 i);
       }
 
-  pub step-fit : executing c m e .answer .code ≡ 0 → FitMarking (c .count) (executing c m e .marking)
-  step-fit h =
-      let t = granted-enabled .0 h in
-      let one : executing c m e ≡ granting (after c m e) = sym (executes-only (isDone (t .0) (t .1) (after-executed c m e))) in
-      rw one (after-fit (t .0 .chart) (t .0 .marking) (t .0 .exists))
+  pub step-fit : (r : ℕ) → executing c m e r .answer .code ≡ 0 → FitMarking (c .count) (executing c m e r .marking)
+  step-fit r h =
+      let t = granted-enabled r .0 h in
+      let one : executing c m e r ≡ granting (after c m e) = sym (executes-only (isDone (t .0) (t .1) (after-executed c m e))) in
+      rw one (after-fit (t .0 .stands .chart) (t .0 .stands .marking) (t .0 .stands .exists))
 
 -- ---- counting and the finished test
 
@@ -320,8 +334,8 @@ module _ (c : FlatChart) (m : Marking) where
 -- ---- two results that meet a call's contract coincide
 
 module _ (c : FlatChart) (m : Marking) where
-  pub execute-determined : (e : ℕ) (r s : Step) → r ≡ executing c m e → s ≡ executing c m e → r ≡ s
-  execute-determined e r s = coincide
+  pub execute-determined : (e r : ℕ) (s t : Step) → s ≡ executing c m e r → t ≡ executing c m e r → s ≡ t
+  execute-determined e r s t = coincide
 
   pub count-determined : (r s : OpenCount) → r ≡ counting c m → s ≡ counting c m → r ≡ s
   count-determined r s = coincide

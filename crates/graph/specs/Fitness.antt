@@ -1,11 +1,14 @@
 -- The tests say exactly what fit means. Assumes nothing.
-use Prim.Native.Nat.{ℕ, zero, suc, _≤_, _<_}
+use Prim.Native.Nat.{ℕ, zero, suc, _+_, _-_, _≤_, _<_}
 use mathlib.Core.Path.{_≡_, refl, sym, ap, _∙_}
 use mathlib.Core.Bool.{Bool, true, _||_, or-true}
 use mathlib.Core.Logic.{_↔_}
+use mathlib.Core.List.{List}
 use native.Mathlib.Omega.{arith}
+use lib.ListN.{getD}
 use lib.Dec.{eqb, leb, ltb}
 use borrow.Author.Tests.{lt-ltb, le-ltb, ltb-true, ltb-false, le-leb, leb-true, eq-eqb, eqb-true}
+use borrow.Author.Count.{below-more}
 use Rattle.paper.specs.Limits.{maxEvents}
 use Rattle.sets.specs.Cases.{contra, cases, both, all3, either, not-so}
 use Rattle.sets.specs.Below.{every, every-at, every-of}
@@ -13,8 +16,8 @@ use Rattle.sets.specs.Set.{has, union, inter, minus, allBelow}
 use Rattle.sets.specs.Laws.{has-union, has-empty, has-all, none-zero, union-zero, minus-none, none-minus, apart-not, not-apart, within-lt, lt-within}
 use Rattle.graph.specs.declared.FlatChart.{FlatChart}
 use Rattle.graph.specs.declared.Marking.{Marking}
-use Rattle.graph.specs.Chart.{Kind, condition, response, milestone, include, exclude, setOf, In, Fit, FitMarking}
-use Rattle.graph.specs.Tests.{allowedAt, rowSpill, spillAt, spillOf, fitTables, fitChart, fitMarking, fit}
+use Rattle.graph.specs.Chart.{Kind, condition, response, milestone, include, exclude, setOf, rolesOf, In, Fit, FitMarking}
+use Rattle.graph.specs.Tests.{allowedAt, rowSpill, spillAt, spillOf, rolesFrom, fitTables, fitChart, fitMarking, fit}
 
 -- ---- one row: nothing spills exactly if each set keeps to what it may hold, and nothing is both included and excluded
 
@@ -81,6 +84,21 @@ spill-every c n (suc k) =
     union-zero (spillOf n (c .conditions) (c .responses) (c .milestones) (c .includes) (c .excludes) k) (spillAt n (c .conditions) (c .responses) (c .milestones) (c .includes) (c .excludes) k)
     ∙ rw (spill-every c n k)
 
+-- ---- the roles past the count
+
+module _ (roles : List ℕ) (n : ℕ) where
+  unnamed-from : (k : ℕ) → ((i : ℕ) → i < k → getD roles (n + i) 0 ≡ 0) → eqb (rolesFrom roles n k) 0 ≡ true
+  unfolding rolesFrom
+  unnamed-from zero h = refl
+  unnamed-from (suc k) h = union-zero (rolesFrom roles n k) (getD roles (n + k) 0) ∙ rw (unnamed-from k (λ i l. h i (omega arith)), h k (omega arith))
+
+  from-unnamed : (k : ℕ) → eqb (rolesFrom roles n k) 0 ≡ true → (i : ℕ) → i < k → getD roles (n + i) 0 ≡ 0
+  unfolding rolesFrom
+  from-unnamed zero h i l = absurd (omega arith)
+  from-unnamed (suc k) h i l =
+      let t = both (eqb (rolesFrom roles n k) 0) (eqb (getD roles (n + k) 0) 0) (sym (union-zero (rolesFrom roles n k) (getD roles (n + k) 0)) ∙ h) in
+      below-more (λ (i : ℕ). getD roles (n + i) 0 ≡ 0) k (from-unnamed k (t .0)) (eqb-true (getD roles (n + k) 0) 0 (t .1)) i (omega arith)
+
 -- ---- the test and the sentence
 
 module _ (c : FlatChart) where
@@ -92,6 +110,7 @@ module _ (c : FlatChart) where
         le-leb (c .count) maxEvents (t .few),
         spill-every c (c .count) maxEvents,
         every-of maxEvents (clean c (c .count)) (λ e l. row-clean c e (allowedAt (allBelow (c .count)) e (c .count)) (λ k f h. kept k e f l h) (λ f. t .apart e f l)),
+        unnamed-from (c .roles) (c .count) (maxEvents - c .count) (λ i l. t .unnamed (c .count + i) (omega arith) (omega arith)),
       )
     where
       kept : (k : Kind) (e f : ℕ) → e < maxEvents → In (setOf c k e) f → In (allowedAt (allBelow (c .count)) e (c .count)) f
@@ -105,10 +124,17 @@ module _ (c : FlatChart) where
     unfolding fitChart
     tested = all3 _ _ _ h
 
+    tables : (eqb (spillOf (c .count) (c .conditions) (c .responses) (c .milestones) (c .includes) (c .excludes) maxEvents) 0 ≡ true)
+        × (eqb (rolesFrom (c .roles) (c .count) (maxEvents - c .count)) 0 ≡ true)
+    unfolding fitTables
+    tables =
+        both (eqb (spillOf (c .count) (c .conditions) (c .responses) (c .milestones) (c .includes) (c .excludes) maxEvents) 0)
+        (eqb (rolesFrom (c .roles) (c .count) (maxEvents - c .count)) 0) (tested .2)
+
     row : (e : ℕ) → e < maxEvents
         → ((k : Kind) (f : ℕ) → In (setOf c k e) f → In (allowedAt (allBelow (c .count)) e (c .count)) f) × ((f : ℕ) → In (setOf c include e) f → In (setOf c exclude e) f → ⊥)
-    unfolding fitTables spillAt
-    row e l = clean-row c e _ (every-at maxEvents (clean c (c .count)) e (sym (spill-every c (c .count) maxEvents) ∙ tested .2) l)
+    unfolding spillAt
+    row e l = clean-row c e _ (every-at maxEvents (clean c (c .count)) e (sym (spill-every c (c .count) maxEvents) ∙ tables .0) l)
 
     pub tested-fit : Fit c
     tested-fit =
@@ -120,6 +146,9 @@ module _ (c : FlatChart) where
               ltb-true f (c .count) (sym (has-all (c .count) f) ∙ rw (lt-ltb e (c .count) l) at (row e (omega arith) .0 k f i));
           past = λ k e l m. none-zero (setOf c k e) (λ f. not-so (λ i. contra (rw (le-ltb e (c .count) l) at (row e m .0 k f i)) (has-empty f)));
           apart = λ e f l. row e l .1 f;
+          unnamed = λ e l m.
+              let z : c .count + (e - c .count) ≡ e = omega arith in
+              rw z at (from-unnamed (c .roles) (c .count) (maxEvents - c .count) (tables .1) (e - c .count) (omega arith));
         }
 
 pub fit-chart : (c : FlatChart) → (fitChart c ≡ true) ↔ Fit c

@@ -10,13 +10,14 @@ use lib.ListN.{getD}
 use lib.Dec.{eqb, leb, ltb}
 use lib.Bits.{and-le-l}
 use borrow.Author.Tests.{not-true, not-false, eq-eqb, ne-eqb, le-leb, lt-leb}
-use Rattle.paper.specs.Limits.{maxEvents, noSuchEvent, notIncluded, conditionWanting, milestoneWanting, unfit}
+use Rattle.paper.specs.Limits.{maxEvents, noSuchEvent, notIncluded, notPermitted, conditionWanting, milestoneWanting, unfit}
 use Rattle.paper.specs.Answers.{answer, granted, refusal}
 use Rattle.paper.specs.declared.Answer.{Answer}
 use Rattle.sets.specs.Cases.{not-so}
 use Rattle.sets.specs.Set.{has, union, inter, minus, only, lowest, size, collect, putIf}
 use Rattle.sets.specs.Laws.{collect-step, one-bit, ext, has-inter, has-collect}
-use Rattle.graph.specs.Chart.{setOf, condition, response, milestone, include, exclude}
+use Rattle.graph.specs.Chart.{setOf, rolesOf, condition, response, milestone, include, exclude}
+use Rattle.graph.specs.Roles.{permits}
 use Rattle.graph.specs.Tests.{fit}
 use Rattle.graph.specs.Fitness.{fit-both}
 use Rattle.graph.specs.declared.FlatChart.{FlatChart}
@@ -67,7 +68,7 @@ refusing code place m = record { answer = answer code place 0; marking = m }
 abbrev pub granting : Marking → Step
 granting m = record { answer = granted; marking = m }
 
--- the sets of event e
+-- the sets of event e, and the roles that it names
 abbrev pub rowOf : FlatChart → ℕ → Row
 rowOf c e =
     record {
@@ -76,9 +77,10 @@ rowOf c e =
       milestones = setOf c milestone e;
       includes = setOf c include e;
       excludes = setOf c exclude e;
+      roles = rolesOf c e;
     }
 
--- a step of event e after the fitness test, from its own sets
+-- a step of event e after the fitness test, from the event's own sets
 unfoldable pub stepping : Marking → ℕ → Row → Step
 stepping m e row =
     cond (not (has (m .included) e)) (refusing notIncluded 0 m)
@@ -86,11 +88,15 @@ stepping m e row =
     (cond (not (eqb (awaitedOf m (row .milestones)) 0)) (refusing milestoneWanting (lowest maxEvents (awaitedOf m (row .milestones))) m)
     (granting (afterWith m e (row .responses) (row .includes) (row .excludes)))))
 
-unfoldable pub executing : FlatChart → Marking → ℕ → Step
-executing c m e =
+-- and by role r
+unfoldable pub steppingBy : Marking → ℕ → Row → ℕ → Step
+steppingBy m e row r = cond (not (permits (row .roles) r)) (refusing notPermitted 0 m) (stepping m e row)
+
+unfoldable pub executing : FlatChart → Marking → ℕ → ℕ → Step
+executing c m e r =
     cond (not (fit c m)) (refusing unfit 0 m)
     (cond (leb (c .count) e) (refusing noSuchEvent 0 m)
-    (stepping m e (rowOf c e)))
+    (steppingBy m e (rowOf c e) r))
 
 -- ---- counting
 
@@ -158,38 +164,42 @@ module _ (c : FlatChart) (m : Marking) (r : Bool) (p : r ≡ fit c m) (q : not r
 
 -- ---- the cases, in the form in which the code meets them
 
-pub step-unfit : (c : FlatChart) (m : Marking) (e : ℕ) (r : Bool) (s : Step) → r ≡ fit c m → not r ≡ true → s ≡ refusing unfit 0 m → s ≡ executing c m e
+pub step-unfit : (c : FlatChart) (m : Marking) (e r : ℕ) (f : Bool) (s : Step) → f ≡ fit c m → not f ≡ true → s ≡ refusing unfit 0 m → s ≡ executing c m e r
 unfolding executing
-step-unfit c m e r s p q h = h ∙ rw (← p, not-true r q)
+step-unfit c m e r f s p q h = h ∙ rw (← p, not-true f q)
 
-module _ (c : FlatChart) (m : Marking) (e : ℕ) (r : Bool) (p : r ≡ fit c m) (q : not r ≡ false) where
-  pub step-gone : (s : Step) → c .count ≤ e → s ≡ refusing noSuchEvent 0 m → s ≡ executing c m e
+module _ (c : FlatChart) (m : Marking) (e r : ℕ) (f : Bool) (p : f ≡ fit c m) (q : not f ≡ false) where
+  pub step-gone : (s : Step) → c .count ≤ e → s ≡ refusing noSuchEvent 0 m → s ≡ executing c m e r
   unfolding executing
-  step-gone s h z = z ∙ rw (ok c m r p q, le-leb (c .count) e h)
+  step-gone s h z = z ∙ rw (ok c m f p q, le-leb (c .count) e h)
 
-  pub step-taken : (s : Step) (row : Row) → e < c .count → row ≡ rowOf c e → s ≡ stepping m e row → s ≡ executing c m e
+  pub step-taken : (s : Step) (row : Row) → e < c .count → row ≡ rowOf c e → s ≡ steppingBy m e row r → s ≡ executing c m e r
   unfolding executing
-  step-taken s row h l z = z ∙ rw (l, ok c m r p q, lt-leb (c .count) e h)
+  step-taken s row h l z = z ∙ rw (l, ok c m f p q, lt-leb (c .count) e h)
 
-module _ (m : Marking) (e : ℕ) (row : Row) (i : Bool) (pi : i ≡ has (m .included) e) where
-  pub step-excluded : (s : Step) → not i ≡ true → s ≡ refusing notIncluded 0 m → s ≡ stepping m e row
-  unfolding stepping
-  step-excluded s qi z = z ∙ rw (← pi, not-true i qi)
+pub step-forbidden : (m : Marking) (e : ℕ) (row : Row) (r : ℕ) (o : Bool) (s : Step) → o ≡ permits (row .roles) r → not o ≡ true → s ≡ refusing notPermitted 0 m → s ≡ steppingBy m e row r
+unfolding steppingBy
+step-forbidden m e row r o s p q z = z ∙ rw (← p, not-true o q)
+
+module _ (m : Marking) (e : ℕ) (row : Row) (r : ℕ) (o : Bool) (po : o ≡ permits (row .roles) r) (qo : not o ≡ false) (i : Bool) (pi : i ≡ has (m .included) e) where
+  pub step-excluded : (s : Step) → not i ≡ true → s ≡ refusing notIncluded 0 m → s ≡ steppingBy m e row r
+  unfolding steppingBy stepping
+  step-excluded s qi z = z ∙ rw (← po, not-false o qo, ← pi, not-true i qi)
 
   module _ (qi : not i ≡ false) (u : ℕ) (pu : u ≡ unmetOf m (row .conditions)) where
-    pub step-unmet : (u ≡ 0 → ⊥) → (l : ℕ) (s : Step) → l ≡ lowest maxEvents u → s ≡ refusing conditionWanting l m → s ≡ stepping m e row
-    unfolding stepping
-    step-unmet qu l s pl z = z ∙ rw (← pi, not-false i qi, ← pu, ne-eqb u 0 qu, pl)
+    pub step-unmet : (u ≡ 0 → ⊥) → (l : ℕ) (s : Step) → l ≡ lowest maxEvents u → s ≡ refusing conditionWanting l m → s ≡ steppingBy m e row r
+    unfolding steppingBy stepping
+    step-unmet qu l s pl z = z ∙ rw (← po, not-false o qo, ← pi, not-false i qi, ← pu, ne-eqb u 0 qu, pl)
 
     module _ (zu : u ≡ 0) (w : ℕ) (pw : w ≡ awaitedOf m (row .milestones)) where
-      pub step-awaited : (w ≡ 0 → ⊥) → (l : ℕ) (s : Step) → l ≡ lowest maxEvents w → s ≡ refusing milestoneWanting l m → s ≡ stepping m e row
-      unfolding stepping
-      step-awaited qw l s pl z = z ∙ rw (← pi, not-false i qi, ← pu, eq-eqb u 0 zu, ← pw, ne-eqb w 0 qw, pl)
+      pub step-awaited : (w ≡ 0 → ⊥) → (l : ℕ) (s : Step) → l ≡ lowest maxEvents w → s ≡ refusing milestoneWanting l m → s ≡ steppingBy m e row r
+      unfolding steppingBy stepping
+      step-awaited qw l s pl z = z ∙ rw (← po, not-false o qo, ← pi, not-false i qi, ← pu, eq-eqb u 0 zu, ← pw, ne-eqb w 0 qw, pl)
 
       pub step-done : w ≡ 0 → (a : Answer) (n : Marking) → a ≡ granted → n ≡ afterWith m e (row .responses) (row .includes) (row .excludes)
-          → record { answer = a; marking = n } ≡ stepping m e row
-      unfolding stepping
-      step-done zw a n pa pn = rw (← pi, not-false i qi, ← pu, eq-eqb u 0 zu, ← pw, eq-eqb w 0 zw, pa, pn)
+          → record { answer = a; marking = n } ≡ steppingBy m e row r
+      unfolding steppingBy stepping
+      step-done zw a n pa pn = rw (← po, not-false o qo, ← pi, not-false i qi, ← pu, eq-eqb u 0 zu, ← pw, eq-eqb w 0 zw, pa, pn)
 
 pub count-unfit : (c : FlatChart) (m : Marking) (r : Bool) (a : Answer) → r ≡ fit c m → not r ≡ true → a ≡ refusal unfit
     → record { answer = a; count = 0; lowest = maxEvents } ≡ counting c m

@@ -78,24 +78,45 @@ module _ (n : ℕ) (a b d i x : List ℕ) where
       let y : n - 0 ≡ n = omega arith in
       r ∙ rw (q, y, p, first-rows n (omega arith), last-rows (maxEvents - n), z)
 
+-- the roles that k events from one on name
+module _ (roles : List ℕ) (from : ℕ) where
+  unfoldable pub rolesFrom : ℕ → ℕ
+  rolesFrom zero = zero
+  rolesFrom (suc k) = union (rolesFrom k) (getD roles (from + k) 0)
+
+  pub roles-none : (e : ℕ) → e ≡ from → 0 ≡ rolesFrom (e - from)
+  unfolding rolesFrom
+  roles-none e h = let z : e - from ≡ 0 = omega arith in rw z
+
+  pub roles-more : (e s : ℕ) → from ≤ e → s ≡ rolesFrom (e - from) → union s (getD roles e 0) ≡ rolesFrom (e + 1 - from)
+  unfolding rolesFrom
+  roles-more e s l p =
+      let z : e + 1 - from ≡ suc (e - from) = omega arith in
+      let y : from + (e - from) ≡ e = omega arith in
+      rw (z, y, p)
+
+  pub roles-end : (e end s : ℕ) → e ≤ end → end ≤ e → s ≡ rolesFrom (e - from) → s ≡ rolesFrom (end - from)
+  roles-end e end s h l p = let z : e ≡ end = omega arith in p ∙ ap (λ (m : ℕ). rolesFrom (m - from)) z
+
 unfoldable pub fitTables : ℕ → FlatChart → Bool
-fitTables n c = eqb (spillOf n (c .conditions) (c .responses) (c .milestones) (c .includes) (c .excludes) maxEvents) 0
+fitTables n c =
+    eqb (spillOf n (c .conditions) (c .responses) (c .milestones) (c .includes) (c .excludes) maxEvents) 0 && eqb (rolesFrom (c .roles) n (maxEvents - n)) 0
 
 unfoldable pub fitChart : FlatChart → Bool
 fitChart c = leb 1 (c .count) && leb (c .count) maxEvents && fitTables (c .count) c
 
-module _ (n : ℕ) (a b d i x : List ℕ) where
-  pub chart-few : n < 1 → false ≡ fitChart (chartOf n a b d i x)
+module _ (n : ℕ) (a b d i x o : List ℕ) where
+  pub chart-few : n < 1 → false ≡ fitChart (chartOf n a b d i x o)
   unfolding fitChart
   chart-few h = simp (lt-leb 1 n h)
 
-  pub chart-many : maxEvents < n → false ≡ fitChart (chartOf n a b d i x)
+  pub chart-many : maxEvents < n → false ≡ fitChart (chartOf n a b d i x o)
   unfolding fitChart
   chart-many h = simp (lt-leb n maxEvents h, and-false)
 
-  pub chart-tested : (s : ℕ) → 1 ≤ n → n ≤ maxEvents → s ≡ spillOf n a b d i x maxEvents → eqb s 0 ≡ fitChart (chartOf n a b d i x)
+  pub chart-tested : (s t : ℕ) → 1 ≤ n → n ≤ maxEvents → s ≡ spillOf n a b d i x maxEvents → t ≡ rolesFrom o n (maxEvents - n) → (eqb s 0 && eqb t 0) ≡ fitChart (chartOf n a b d i x o)
   unfolding fitChart fitTables
-  chart-tested s h l e = simp (le-leb 1 n h, le-leb n maxEvents l, e)
+  chart-tested s t h l e f = simp (le-leb 1 n h, le-leb n maxEvents l, e, f)
 
 unfoldable pub fitMarking : ℕ → Marking → Bool
 fitMarking n m = within n (union (union (m .executed) (m .pending)) (m .included))

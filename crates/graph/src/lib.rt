@@ -5,10 +5,11 @@ ghost use mathlib.Core.Path.{_≡_};
 ghost use Prim.Native.Nat.{_-_, _≤_};
 ghost use Rattle.paper.specs.Limits.{maxEvents};
 ghost use Rattle.graph.specs.Chart.{chartOf, emptyChart, emptyMarking};
-ghost use Rattle.graph.specs.Tests.{rowSpill, spillRows, spillOf, fitChart, fitMarking, fit};
+ghost use Rattle.graph.specs.Tests.{rowSpill, spillRows, spillOf, rolesFrom, fitChart, fitMarking, fit};
 use paper::MAX_EVENTS;
 
-// One set for each event and kind. Entry e of conditions and milestones is who holds e back; of the others, what e reaches.
+// One set for each event and kind. Entry e of conditions and milestones is who holds e back; of the others, what e reaches; of roles, who may
+// execute e, where none means everyone.
 #[repr(C)]
 pub struct FlatChart {
     pub count: u32,
@@ -17,6 +18,7 @@ pub struct FlatChart {
     pub milestones: [u64; MAX_EVENTS],
     pub includes: [u64; MAX_EVENTS],
     pub excludes: [u64; MAX_EVENTS],
+    pub roles: [u8; MAX_EVENTS],
 }
 
 // Ex, Re and In.
@@ -117,6 +119,20 @@ fn spill<'a>(
     )
 }
 
+// The roles that the events from n on name.
+fn roles_past<'a>(n: usize, roles: &'a [u8; MAX_EVENTS]) -> u8
+    requires { ⌜ n ≤ maxEvents ⌝ }
+    ensures { λ r. ⌜ r ≡ rolesFrom (now (roles .entry)) n (maxEvents - n) ⌝ }
+{
+    let mut all: u8 = 0;
+    let mut e = n;
+    while e < MAX_EVENTS {
+        all = all | roles[e];
+        e += 1;
+    }
+    all
+}
+
 // Whether the chart of this count and these tables is fit.
 pub fn tables_fit<'a>(
     count: u32,
@@ -125,8 +141,9 @@ pub fn tables_fit<'a>(
     milestones: &'a [u64; MAX_EVENTS],
     includes: &'a [u64; MAX_EVENTS],
     excludes: &'a [u64; MAX_EVENTS],
+    roles: &'a [u8; MAX_EVENTS],
 ) -> bool
-    ensures { λ r. ⌜ r ≡ fitChart (chartOf count (now (conditions .entry)) (now (responses .entry)) (now (milestones .entry)) (now (includes .entry)) (now (excludes .entry))) ⌝ }
+    ensures { λ r. ⌜ r ≡ fitChart (chartOf count (now (conditions .entry)) (now (responses .entry)) (now (milestones .entry)) (now (includes .entry)) (now (excludes .entry)) (now (roles .entry))) ⌝ }
 {
     let n = count as usize;
     if n < 1 {
@@ -135,7 +152,9 @@ pub fn tables_fit<'a>(
     if MAX_EVENTS < n {
         return false;
     }
-    spill(n, conditions, responses, milestones, includes, excludes) == 0
+    let over = spill(n, conditions, responses, milestones, includes, excludes);
+    let named = roles_past(n, roles);
+    (over == 0) & (named == 0)
 }
 
 impl FlatChart {
@@ -149,6 +168,7 @@ impl FlatChart {
             milestones: [0u64; MAX_EVENTS],
             includes: [0u64; MAX_EVENTS],
             excludes: [0u64; MAX_EVENTS],
+            roles: [0u8; MAX_EVENTS],
         }
     }
 
@@ -162,6 +182,7 @@ impl FlatChart {
             &self.milestones,
             &self.includes,
             &self.excludes,
+            &self.roles,
         )
     }
 }
@@ -193,10 +214,19 @@ impl Marking {
         milestones: &'a [u64; MAX_EVENTS],
         includes: &'a [u64; MAX_EVENTS],
         excludes: &'a [u64; MAX_EVENTS],
+        roles: &'a [u8; MAX_EVENTS],
     ) -> bool
-        ensures { λ r. ⌜ r ≡ fit (chartOf count (now (conditions .entry)) (now (responses .entry)) (now (milestones .entry)) (now (includes .entry)) (now (excludes .entry))) self ⌝ }
+        ensures { λ r. ⌜ r ≡ fit (chartOf count (now (conditions .entry)) (now (responses .entry)) (now (milestones .entry)) (now (includes .entry)) (now (excludes .entry)) (now (roles .entry))) self ⌝ }
     {
         self.is_fit(count)
-            & tables_fit(count, conditions, responses, milestones, includes, excludes)
+            & tables_fit(
+                count,
+                conditions,
+                responses,
+                milestones,
+                includes,
+                excludes,
+                roles,
+            )
     }
 }

@@ -5,19 +5,22 @@ ghost use Prim.Native.Nat.{_*_, _%_, _^_, _<_, _≤_};
 ghost use Rattle.paper.specs.Limits.{maxEvents};
 ghost use Rattle.sets.specs.Set.{union};
 ghost use Rattle.graph.specs.Chart.{chartOf};
-ghost use Rattle.graph.specs.Steps.{rowOf, unmetOf, awaitedOf, freeWith, afterWith, refusing, stepping, openAmong, executing, counting, finishing};
+ghost use Rattle.graph.specs.Roles.{permits};
+ghost use Rattle.graph.specs.Steps.{rowOf, unmetOf, awaitedOf, freeWith, afterWith, refusing, steppingBy, openAmong, executing, counting, finishing};
 use crate::FlatChart;
 use crate::Marking;
 use paper::Answer;
 use paper::MAX_EVENTS;
+use paper::MAX_ROLES;
 
-// One event's own sets.
+// One event's own sets, and the roles that it names.
 pub struct Row {
     pub conditions: u64,
     pub responses: u64,
     pub milestones: u64,
     pub includes: u64,
     pub excludes: u64,
+    pub roles: u8,
 }
 
 // What executing an event gives: the next marking, or the old one beside the refusal.
@@ -57,6 +60,13 @@ fn put_bit_if(s: u64, bit: u64, on: bool) -> u64
     s
 }
 
+// Whether a role may execute an event that names these; an event that names none is open to roles 0 to 7.
+pub fn permits(roles: u8, role: u32) -> bool
+    ensures { λ r. ⌜ r ≡ permits roles role ⌝ }
+{
+    (role < MAX_ROLES) & ((roles == 0) | sets::member(roles as u64, role as usize))
+}
+
 // The sets of event e, out of lent tables.
 pub fn row_at<'a>(
     e: usize,
@@ -65,9 +75,10 @@ pub fn row_at<'a>(
     milestones: &'a [u64; MAX_EVENTS],
     includes: &'a [u64; MAX_EVENTS],
     excludes: &'a [u64; MAX_EVENTS],
+    roles: &'a [u8; MAX_EVENTS],
 ) -> Row
     requires { ⌜ e < maxEvents ⌝ }
-    ensures { λ r. ⌜ r ≡ rowOf (chartOf 0 (now (conditions .entry)) (now (responses .entry)) (now (milestones .entry)) (now (includes .entry)) (now (excludes .entry))) e ⌝ }
+    ensures { λ r. ⌜ r ≡ rowOf (chartOf 0 (now (conditions .entry)) (now (responses .entry)) (now (milestones .entry)) (now (includes .entry)) (now (excludes .entry)) (now (roles .entry))) e ⌝ }
 {
     Row {
         conditions: conditions[e],
@@ -75,6 +86,7 @@ pub fn row_at<'a>(
         milestones: milestones[e],
         includes: includes[e],
         excludes: excludes[e],
+        roles: roles[e],
     }
 }
 
@@ -124,11 +136,14 @@ impl Marking {
         }
     }
 
-    // A step of event e, of a chart and a marking that are known to be fit: 11, 12, 13, or the next marking.
-    pub fn step(self, e: usize, row: Row) -> Step
+    // A step of event e by a role, of a chart and a marking that are known to be fit: 32, 11, 12, 13, or the next marking.
+    pub fn step(self, e: usize, row: Row, role: u32) -> Step
         requires { ⌜ e < maxEvents ⌝ }
-        ensures { λ r. ⌜ r ≡ stepping self e row ⌝ }
+        ensures { λ r. ⌜ r ≡ steppingBy self e row role ⌝ }
     {
+        if !permits(row.roles, role) {
+            return self.refused(paper::NOT_PERMITTED, 0);
+        }
         if !sets::member(self.included, e) {
             return self.refused(paper::NOT_INCLUDED, 0);
         }
@@ -155,23 +170,41 @@ impl Marking {
         milestones: &'a [u64; MAX_EVENTS],
         includes: &'a [u64; MAX_EVENTS],
         excludes: &'a [u64; MAX_EVENTS],
+        roles: &'a [u8; MAX_EVENTS],
         event: u32,
+        role: u32,
     ) -> Step
-        ensures { λ r. ⌜ r ≡ executing (chartOf count (now (conditions .entry)) (now (responses .entry)) (now (milestones .entry)) (now (includes .entry)) (now (excludes .entry))) self event ⌝ }
+        ensures { λ r. ⌜ r ≡ executing (chartOf count (now (conditions .entry)) (now (responses .entry)) (now (milestones .entry)) (now (includes .entry)) (now (excludes .entry)) (now (roles .entry))) self event role ⌝ }
     {
-        if !self.fits(count, conditions, responses, milestones, includes, excludes) {
+        if !self.fits(
+            count,
+            conditions,
+            responses,
+            milestones,
+            includes,
+            excludes,
+            roles,
+        ) {
             return self.refused(paper::UNFIT, 0);
         }
         if count <= event {
             return self.refused(paper::NO_SUCH_EVENT, 0);
         }
         let e = event as usize;
-        let row = row_at(e, conditions, responses, milestones, includes, excludes);
-        self.step(e, row)
+        let row = row_at(
+            e,
+            conditions,
+            responses,
+            milestones,
+            includes,
+            excludes,
+            roles,
+        );
+        self.step(e, row, role)
     }
 
-    pub fn execute(self, chart: FlatChart, event: u32) -> Step
-        ensures { λ r. ⌜ r ≡ executing chart self event ⌝ }
+    pub fn execute(self, chart: FlatChart, event: u32, role: u32) -> Step
+        ensures { λ r. ⌜ r ≡ executing chart self event role ⌝ }
     {
         self.execute_in(
             chart.count,
@@ -180,7 +213,9 @@ impl Marking {
             &chart.milestones,
             &chart.includes,
             &chart.excludes,
+            &chart.roles,
             event,
+            role,
         )
     }
 
@@ -214,10 +249,19 @@ impl Marking {
         milestones: &'a [u64; MAX_EVENTS],
         includes: &'a [u64; MAX_EVENTS],
         excludes: &'a [u64; MAX_EVENTS],
+        roles: &'a [u8; MAX_EVENTS],
     ) -> OpenCount
-        ensures { λ r. ⌜ r ≡ counting (chartOf count (now (conditions .entry)) (now (responses .entry)) (now (milestones .entry)) (now (includes .entry)) (now (excludes .entry))) self ⌝ }
+        ensures { λ r. ⌜ r ≡ counting (chartOf count (now (conditions .entry)) (now (responses .entry)) (now (milestones .entry)) (now (includes .entry)) (now (excludes .entry)) (now (roles .entry))) self ⌝ }
     {
-        if !self.fits(count, conditions, responses, milestones, includes, excludes) {
+        if !self.fits(
+            count,
+            conditions,
+            responses,
+            milestones,
+            includes,
+            excludes,
+            roles,
+        ) {
             return OpenCount {
                 answer: paper::refused(paper::UNFIT, 0, 0),
                 count: 0,
@@ -242,6 +286,7 @@ impl Marking {
             &chart.milestones,
             &chart.includes,
             &chart.excludes,
+            &chart.roles,
         )
     }
 
@@ -254,10 +299,19 @@ impl Marking {
         milestones: &'a [u64; MAX_EVENTS],
         includes: &'a [u64; MAX_EVENTS],
         excludes: &'a [u64; MAX_EVENTS],
+        roles: &'a [u8; MAX_EVENTS],
     ) -> Finished
-        ensures { λ r. ⌜ r ≡ finishing (chartOf count (now (conditions .entry)) (now (responses .entry)) (now (milestones .entry)) (now (includes .entry)) (now (excludes .entry))) self ⌝ }
+        ensures { λ r. ⌜ r ≡ finishing (chartOf count (now (conditions .entry)) (now (responses .entry)) (now (milestones .entry)) (now (includes .entry)) (now (excludes .entry)) (now (roles .entry))) self ⌝ }
     {
-        if !self.fits(count, conditions, responses, milestones, includes, excludes) {
+        if !self.fits(
+            count,
+            conditions,
+            responses,
+            milestones,
+            includes,
+            excludes,
+            roles,
+        ) {
             return Finished {
                 answer: paper::refused(paper::UNFIT, 0, 0),
                 yes: false,
@@ -279,6 +333,7 @@ impl Marking {
             &chart.milestones,
             &chart.includes,
             &chart.excludes,
+            &chart.roles,
         )
     }
 }

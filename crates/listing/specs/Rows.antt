@@ -6,7 +6,7 @@ use lib.ListN.{length}
 use Rattle.paper.specs.Answers.{granted}
 use Rattle.paper.specs.declared.Answer.{Answer}
 use Rattle.sets.specs.Set.{has}
-use Rattle.graph.specs.Tests.{rowSpill, spillAt, spillOf, fitTables, fitChart}
+use Rattle.graph.specs.Tests.{rowSpill, spillAt, spillOf, rolesFrom, fitTables, fitChart}
 use Rattle.chart.specs.declared.Reading.{Reading}
 use Rattle.chart.specs.Examples.{wholeChart}
 use Rattle.chart.specs.Examples as chart
@@ -49,7 +49,7 @@ image-size : length (derivedImage paperChart) ≡ 162
 image-size = ap (λ (b : Book). length (imageOf b)) (deriver.rows .book) ∙ image-length paperBook
 
 derived : derivingAnswer paperChart listingBook ≡ granted
-unfolding derivingAnswer fitChart fitTables spillOf spillAt rowSpill has
+unfolding derivingAnswer fitChart fitTables rolesFrom spillOf spillAt rowSpill has
 derived = rw image-size
 
 pub paper-listing : listingText wholeChart ≡ paperText

@@ -27,8 +27,8 @@ pub extern "C" fn ozhimka_read_chart(image: &[u8]) -> Reading
 }
 
 #[no_mangle]
-pub extern "C" fn ozhimka_execute(chart: FlatChart, marking: Marking, event: u32) -> Step
-    ensures { λ r. ⌜ r ≡ executing chart marking event ⌝ }
+pub extern "C" fn ozhimka_execute(chart: FlatChart, marking: Marking, event: u32, role: u32) -> Step
+    ensures { λ r. ⌜ r ≡ executing chart marking event role ⌝ }
 {
     marking.execute_in(
         chart.count,
@@ -37,7 +37,9 @@ pub extern "C" fn ozhimka_execute(chart: FlatChart, marking: Marking, event: u32
         &chart.milestones,
         &chart.includes,
         &chart.excludes,
+        &chart.roles,
         event,
+        role,
     )
 }
 
@@ -52,6 +54,7 @@ pub extern "C" fn ozhimka_count_open(chart: FlatChart, marking: Marking) -> Open
         &chart.milestones,
         &chart.includes,
         &chart.excludes,
+        &chart.roles,
     )
 }
 
@@ -66,6 +69,7 @@ pub extern "C" fn ozhimka_finished(chart: FlatChart, marking: Marking) -> Finish
         &chart.milestones,
         &chart.includes,
         &chart.excludes,
+        &chart.roles,
     )
 }
 
@@ -81,6 +85,7 @@ pub extern "C" fn ozhimka_matching(chart: FlatChart, marking: Marking) -> Matche
         &chart.milestones,
         &chart.includes,
         &chart.excludes,
+        &chart.roles,
     )
 }
 
@@ -95,6 +100,7 @@ pub extern "C" fn ozhimka_derive(chart: FlatChart, room: &mut [u8]) -> Answer
         &chart.milestones,
         &chart.includes,
         &chart.excludes,
+        &chart.roles,
         room,
     )
 }

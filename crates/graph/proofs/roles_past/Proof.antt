@@ -1,0 +1,27 @@
+-- `graph::roles_past` meets its contract. The loop's invariant: all holds the roles of the events passed. Assumes nothing.
+use Prim.Native.Nat.{_≤_, _-_}
+use Rattle.graph.specs.Tests.{rolesFrom, roles-none, roles-more, roles-end}
+use borrow.Author.Needs.{needs}
+use mathlib.Core.Path.{_≡_, refl}
+use native.Mathlib.Omega.{arith}
+use Rattle.graph.proofs.roles_past.Statement.{statement}
+use Rattle.graph.proofs.roles_past.Tie as tie
+
+abbrev Inv-loop : tie.InvT-loop
+Inv-loop n roles all₀ e₀ all e = (n ≤ e) × (e ≤ 64) × (all ≡ rolesFrom roles n (e - n))
+
+abbrev μ-loop : tie.MeasureT-loop
+μ-loop n roles all₀ e₀ all e = 64 - e
+
+pub roles-past-spec : {M : Type 1} → statement M
+roles-past-spec =
+    tie.close
+    (tie.spec
+    Inv-loop
+    μ-loop
+    (λ c. (omega arith, search needs, roles-none _ _ _ refl))
+    (λ c. search needs)
+    (λ c. search needs)
+    (λ c. search needs)
+    (λ c. (search needs, search needs, search roles-more))
+    (λ c. search roles-end))
