@@ -10,11 +10,12 @@ use lib.Dec.{eqb, leb, ltb}
 use borrow.Author.Tests.{lt-ltb, le-ltb, ltb-true, ltb-false, le-leb, leb-true, eq-eqb, ne-eqb, eqb-true, eqb-false, not-true, not-false}
 use Rattle.paper.specs.Limits.{maxNodes, maxRelations, chartHeader, noParent, maxFlags, kinds}
 use Rattle.sets.specs.Cases.{contra, cases, both, either, neither, all3, or-left, or-right, not-so}
+use Rattle.sets.specs.Set.{has}
 use Rattle.sets.specs.Below.{some, some-of, some-at, some-none, first, first-is, first-found, Lowest}
 use Rattle.graph.specs.Chart.{Kind, include, exclude}
-use Rattle.records.specs.Image.{nodes, relations, nodesOffset, relationsOffset, nodeAt, relationAt, parentOf, flagsOf, fromOf, toOf, kindOf, outOfRange, misplaced, badNodeAt, badRelationAt}
+use Rattle.records.specs.Image.{nodes, relations, nodesOffset, relationsOffset, nodeAt, relationAt, parentOf, stateOf, rolesAt, fromOf, toOf, kindOf, outOfRange, misplaced, badNodeAt, badRelationAt}
 use Rattle.nesting.specs.Nesting.{parent, Nested, AtOrAbove, OnLoop, nested, atOrAbove, onLoopAt, isGroup, eventCount, eventNode, flaggedGroupAt, nested-so}
-use Rattle.flattening.specs.Flattening.{kindNumber, Flattened, leads, related, conflict, conflictAt}
+use Rattle.flattening.specs.Flattening.{kindNumber, Flattened, leads, related, NamesRole, namesAt, named, conflict, conflictAt}
 
 -- P holds of no number below n
 abbrev pub Never : ℕ → (ℕ → Type 0) → Type 0
@@ -33,18 +34,18 @@ module _ (image : List ℕ) where
     pub relationsHere : relationsOffset image ≡ nodeAt (nodes image)
     pub exact : length image ≡ relationAt (nodes image) (relations image)
 
-  -- 4: a parent from N to 65,534, or flags above 7
+  -- 4: a parent from N to 65,534, or a lower byte of the flags above 7
   abbrev pub BadNode : ℕ → Type 0
-  BadNode i = ((parentOf image i ≡ noParent → ⊥) × (nodes image ≤ parentOf image i)) ⊎ (maxFlags < flagsOf image i)
+  BadNode i = ((parentOf image i ≡ noParent → ⊥) × (nodes image ≤ parentOf image i)) ⊎ (maxFlags < stateOf image i)
 
   -- "A node that is nobody's parent is an event. Others are groups"
   pub record Group (i : ℕ) : Type 0 where
     pub member : ℕ
     pub inside : parent image member i ≡ true
 
-  -- 6: "a group's flags are 0"
+  -- 6: "a group's flags are 0", of the lower byte
   abbrev pub FlaggedGroup : ℕ → Type 0
-  FlaggedGroup i = Group i × (flagsOf image i ≡ 0 → ⊥)
+  FlaggedGroup i = Group i × (stateOf image i ≡ 0 → ⊥)
 
   -- 8: a from or a to that is no node, or a kind above 4
   abbrev pub BadRelation : ℕ → Type 0
@@ -107,9 +108,9 @@ module _ (image : List ℕ) where
   pub node-bad : (i : ℕ) → (badNodeAt image i ≡ true) ↔ BadNode image i
   unfolding badNodeAt
   node-bad i =
-      or-so (not (eqb (parentOf image i) noParent) && leb (nodes image) (parentOf image i)) (ltb maxFlags (flagsOf image i))
+      or-so (not (eqb (parentOf image i) noParent) && leb (nodes image) (parentOf image i)) (ltb maxFlags (stateOf image i))
       (and-so (not (eqb (parentOf image i) noParent)) (leb (nodes image) (parentOf image i)) (differ-so (parentOf image i) noParent) (leb-so (nodes image) (parentOf image i)))
-      (ltb-so maxFlags (flagsOf image i))
+      (ltb-so maxFlags (stateOf image i))
 
   pub relation-bad : (k : ℕ) → (badRelationAt image k ≡ true) ↔ BadRelation image k
   unfolding badRelationAt
@@ -140,7 +141,7 @@ module _ (image : List ℕ) where
 
   pub flagged-so : (i : ℕ) → (flaggedGroupAt image i ≡ true) ↔ FlaggedGroup image i
   unfolding flaggedGroupAt
-  flagged-so i = and-so (isGroup image i) (not (eqb (flagsOf image i) 0)) (group-so i) (differ-so (flagsOf image i) 0)
+  flagged-so i = and-so (isGroup image i) (not (eqb (stateOf image i) 0)) (group-so i) (differ-so (stateOf image i) 0)
 
   -- ---- relations
 
@@ -161,6 +162,20 @@ module _ (image : List ℕ) where
     λ r. some-of (relations image) (leads image (kindNumber κ) e f) (r .relation) (r .exists)
         (rw (eq-eqb (kindOf image (r .relation)) (kindNumber κ) (r .kind), above-so (eventNode image e) (fromOf image (r .relation)) .1 (r .source), above-so (eventNode image f) (toOf image (r .relation)) .1 (r .target))),
   )
+
+  -- ---- roles
+
+  pub named-so : (e r : ℕ) → (named image e r ≡ true) ↔ NamesRole image e r
+  unfolding named namesAt
+  named-so e r = (
+    λ h.
+        let t = some-at (nodes image) (namesAt image e r) h in
+        let u = both (atOrAbove image (eventNode image e) (t .0)) (has (rolesAt image (t .0)) r) (t .2) in
+        record { node = t .0; exists = t .1; above = above-so (eventNode image e) (t .0) .0 (u .0); names = u .1 },
+    λ n. some-of (nodes image) (namesAt image e r) (n .node) (n .exists) (rw (above-so (eventNode image e) (n .node) .1 (n .above), n .names)),
+  )
+
+  -- ---- include and exclude
 
   pub conflict-so : (e f : ℕ) → (conflict image e f ≡ true) ↔ Conflict image e f
   unfolding conflict

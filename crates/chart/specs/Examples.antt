@@ -1,9 +1,9 @@
--- The paper's whole chart byte for byte, and its settled examples P7 and P8, by computation. Assumes nothing.
+-- The paper's whole chart byte for byte, its settled examples P7 and P8, and charts with roles, by computation. Assumes nothing.
 use Prim.Native.Nat.{ℕ}
 use mathlib.Core.Path.{_≡_, refl}
 use mathlib.Core.List.{List, [], _∷_}
 use lib.ListN.{replicate}
-use Rattle.paper.specs.Limits.{includeExclude}
+use Rattle.paper.specs.Limits.{badNode, groupFlags, includeExclude}
 use Rattle.paper.specs.Answers.{answer, granted}
 use Rattle.sets.specs.Set.{has, collect}
 use Rattle.sets.specs.Below.{some, first, tally}
@@ -13,7 +13,7 @@ use Rattle.reach.specs.Closure.{within}
 use Rattle.chart.specs.declared.Reading.{Reading}
 use Rattle.records.specs.Image.{outOfRange, misplaced, badNodeAt, badRelationAt}
 use Rattle.nesting.specs.Nesting.{parent, nested, atOrAbove, onLoopAt, isGroup, eventNode, flaggedGroupAt}
-use Rattle.flattening.specs.Flattening.{leads, related, entered, flatSet, flatTable, flatChart, flagged, startMarking, conflict, conflictAt}
+use Rattle.flattening.specs.Flattening.{leads, related, entered, flatSet, flatTable, namesAt, named, flatRoles, roleTable, flatChart, flagged, startMarking, conflict, conflictAt}
 use Rattle.chart.specs.Reading.{refused, conflictFrom, conflictTo, readingRelations, readingNodes, reading}
 
 -- "One chart, whole": event 0 is a condition of 1 and has 1 as response; 1 excludes 0 and is pending
@@ -36,6 +36,7 @@ wholeReading =
         milestones = replicate 64 0;
         includes = replicate 64 0;
         excludes = 0 ∷ 1 ∷ replicate 62 0;
+        roles = replicate 64 0;
       };
       marking = record { executed = 0; pending = 2; included = 3 };
     }
@@ -55,13 +56,37 @@ conflictChart =
     ∷ 3 ∷ 0 ∷ 0 ∷ 0 ∷ 3 ∷ 0
     ∷ 3 ∷ 0 ∷ 1 ∷ 0 ∷ 4 ∷ 0 ∷ []
 
+-- the same group names role 3, node 1 role 0, and no other node a role
+abbrev pub roleChart : List ℕ
+roleChart =
+    4 ∷ 0 ∷ 1 ∷ 0 ∷ 8 ∷ 0 ∷ 24 ∷ 0
+    ∷ 255 ∷ 255 ∷ 0 ∷ 8 ∷ 0 ∷ 0 ∷ 4 ∷ 1 ∷ 0 ∷ 0 ∷ 4 ∷ 0 ∷ 255 ∷ 255 ∷ 4 ∷ 0
+    ∷ 0 ∷ 0 ∷ 3 ∷ 0 ∷ 0 ∷ 0 ∷ []
+
+-- that group with a state of 2, and node 1 with one of 8
+abbrev pub flaggedRoleChart : List ℕ
+flaggedRoleChart =
+    4 ∷ 0 ∷ 0 ∷ 0 ∷ 8 ∷ 0 ∷ 24 ∷ 0
+    ∷ 255 ∷ 255 ∷ 2 ∷ 8 ∷ 0 ∷ 0 ∷ 4 ∷ 1 ∷ 0 ∷ 0 ∷ 4 ∷ 0 ∷ 255 ∷ 255 ∷ 4 ∷ 0 ∷ []
+
+abbrev pub badRoleChart : List ℕ
+badRoleChart =
+    4 ∷ 0 ∷ 0 ∷ 0 ∷ 8 ∷ 0 ∷ 24 ∷ 0
+    ∷ 255 ∷ 255 ∷ 2 ∷ 8 ∷ 0 ∷ 0 ∷ 8 ∷ 1 ∷ 0 ∷ 0 ∷ 4 ∷ 0 ∷ 255 ∷ 255 ∷ 4 ∷ 0 ∷ []
+
 pub record Rows : Type 0 where
   pub whole : reading wholeChart ≡ wholeReading
   pub p7-granted : reading groupChart .answer ≡ granted
   -- events 0 and 1 are conditions of 2
   pub p7-conditions : reading groupChart .chart .conditions ≡ 0 ∷ 0 ∷ 3 ∷ replicate 61 0
   pub p8 : reading conflictChart ≡ refused (answer includeExclude 2 0)
+  -- upper bits are no bad record, on a group either: events 0 and 1 have the group's role, event 0 its own too, event 2 is open to everyone
+  pub roles-granted : reading roleChart .answer ≡ granted
+  pub roles : reading roleChart .chart .roles ≡ 9 ∷ 8 ∷ replicate 62 0
+  -- the lower byte is judged as before
+  pub flagged-group : reading flaggedRoleChart ≡ refused (answer groupFlags 0 0)
+  pub bad-state : reading badRoleChart ≡ refused (answer badNode 1 0)
 
 pub rows : Rows
-unfolding outOfRange misplaced badNodeAt badRelationAt parent nested atOrAbove onLoopAt isGroup eventNode flaggedGroupAt leads related entered flatSet flatTable flatChart flagged startMarking conflict conflictAt conflictFrom conflictTo readingRelations readingNodes reading has collect some first tally tabulate u16At within
-rows = record { whole = refl; p7-granted = refl; p7-conditions = refl; p8 = refl }
+unfolding outOfRange misplaced badNodeAt badRelationAt parent nested atOrAbove onLoopAt isGroup eventNode flaggedGroupAt leads related entered flatSet flatTable namesAt named flatRoles roleTable flatChart flagged startMarking conflict conflictAt conflictFrom conflictTo readingRelations readingNodes reading has collect some first tally tabulate u16At within
+rows = record { whole = refl; p7-granted = refl; p7-conditions = refl; p8 = refl; roles-granted = refl; roles = refl; flagged-group = refl; bad-state = refl }

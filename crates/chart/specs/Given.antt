@@ -8,25 +8,25 @@ use mathlib.Core.List.{List}
 use native.Mathlib.Omega.{arith}
 use lib.ListN.{getD, List·getD-eq-default}
 use lib.Dec.{eqb, ltb}
-use borrow.Author.Tests.{lt-ltb, ltb-true, ltb-false, not-true}
-use Rattle.paper.specs.Limits.{maxEvents, includeExclude}
+use borrow.Author.Tests.{lt-ltb, le-ltb, ltb-true, ltb-false, not-true}
+use Rattle.paper.specs.Limits.{maxEvents, maxRoles, flagsByte, includeExclude}
 use Rattle.paper.specs.Answers.{answer}
 use Rattle.paper.specs.declared.Answer.{Answer}
 use Rattle.sets.specs.Cases.{contra, cases, both, not-so, lt-suc}
 use Rattle.sets.specs.Set.{has}
-use Rattle.sets.specs.Laws.{has-collect, has-empty, none-zero}
+use Rattle.sets.specs.Laws.{has-collect, has-empty, none-zero, above}
 use Rattle.sets.specs.Below.{first}
 use Rattle.sets.specs.Tables.{tabulate, length-tabulate, getD-tabulate}
 use Rattle.reach.specs.Closure.{hop, join}
-use Rattle.graph.specs.Chart.{Kind, condition, response, milestone, include, exclude, table, setOf, In, Fit, FitMarking}
+use Rattle.graph.specs.Chart.{Kind, condition, response, milestone, include, exclude, table, setOf, rolesOf, In, Fit, FitMarking}
 use Rattle.chart.specs.declared.Reading.{Reading}
 use Rattle.nesting.specs.Numbering.{tally-lt, tally-find, first-numbered, tally-grows}
-use Rattle.records.specs.Image.{nodes, flagsOf}
-use Rattle.nesting.specs.Nesting.{parent, OnLoop, nested, isGroup, isEvent, number, eventCount, eventNode, nested-so}
-use Rattle.flattening.specs.Flattening.{kindNumber, Flattened, entered, flatSet, flatTable, flatChart, flagged, startMarking}
-use Rattle.flattening.specs.Meaning.{flat-has}
+use Rattle.records.specs.Image.{nodes, flagsOf, rolesAt}
+use Rattle.nesting.specs.Nesting.{parent, AtOrAbove, OnLoop, nested, isGroup, isEvent, number, eventCount, eventNode, nested-so}
+use Rattle.flattening.specs.Flattening.{kindNumber, Flattened, entered, flatSet, flatTable, NamesRole, named, flatRoles, roleTable, flatChart, flagged, startMarking}
+use Rattle.flattening.specs.Meaning.{flat-has, roles-has}
 use Rattle.chart.specs.Reading.{refused, grantedReading, reading}
-use Rattle.chart.specs.Conditions.{Never, member-in, group-so, related-so}
+use Rattle.chart.specs.Conditions.{Never, member-in, group-so, related-so, named-so}
 use Rattle.chart.specs.Outcome.{AllRight, Refused, Granted, ends, outcome}
 
 -- ---- a reading is refused and empty, or granted
@@ -106,6 +106,55 @@ module _ (image : List ℕ) where
           ∙ ap₂ _&&_ (ap₂ _&&_ (lt-ltb e (eventCount image) (r .one)) (lt-ltb f (eventCount image) (r .other))) (entered-so κ e f .1 (r .entered)),
     )
 
+-- ---- what a role byte of the flat chart holds
+
+module _ (image : List ℕ) where
+  role-byte : (e : ℕ) → e < maxEvents → rolesOf (flatChart image) e ≡ flatRoles image e
+  unfolding flatChart roleTable
+  role-byte e h = getD-tabulate maxEvents (flatRoles image) e 0 h
+
+  -- an event names a role: r is one of those that open e
+  pub record Names (e r : ℕ) : Type 0 where
+    pub event : e < eventCount image
+    pub role : r < maxRoles
+    pub named : NamesRole image e r
+
+  names-so : (e r : ℕ) → In (flatRoles image e) r ↔ Names e r
+  names-so e r = (
+    λ h.
+        let t = both (ltb e (eventCount image)) (ltb r maxRoles && named image e r) (sym (roles-has image e r) ∙ h) in
+        let u = both (ltb r maxRoles) (named image e r) (t .1) in
+        record { event = ltb-true e (eventCount image) (t .0); role = ltb-true r maxRoles (u .0); named = named-so image e r .0 (u .1) },
+    λ n.
+        roles-has image e r
+        ∙ ap₂ _&&_ (lt-ltb e (eventCount image) (n .event)) (ap₂ _&&_ (lt-ltb r maxRoles (n .role)) (named-so image e r .1 (n .named))),
+  )
+
+  -- "Document 001 gives a flattened event the roles of all groups above it as well."
+  pub flat-names : (e r : ℕ) → e < maxEvents → In (rolesOf (flatChart image) e) r ↔ Names e r
+  flat-names e r h = rw (role-byte e h) (names-so e r)
+
+  -- "An event whose whole chain names no role stays open to everyone": its byte is 0
+  pub chain-open : (e : ℕ) → ((g : ℕ) → g < nodes image → AtOrAbove image (eventNode image e) g → rolesAt image g ≡ 0) → flatRoles image e ≡ 0
+  chain-open e h =
+      none-zero (flatRoles image e)
+      (λ r. not-so (λ i. let n = names-so e r .0 i .named in contra (n .names) (ap (λ (s : ℕ). has s r) (h (n .node) (n .exists) (n .above)) ∙ has-empty r)))
+
+  -- and no other event's is: a byte that is 0 leaves no role on the chain
+  pub open-chain : (e : ℕ) → e < eventCount image → flatRoles image e ≡ 0 → (g : ℕ) → g < nodes image → AtOrAbove image (eventNode image e) g → rolesAt image g < flagsByte
+      → rolesAt image g ≡ 0
+  open-chain e l z g h a b =
+      none-zero (rolesAt image g)
+      (λ r. cases (ltb r maxRoles)
+      (λ t. not-so (λ i.
+      let n : NamesRole image e r = record { node = g; exists = h; above = a; names = i } in
+      contra (names-so e r .1 (record { event = l; role = ltb-true r maxRoles t; named = n })) (ap (λ (s : ℕ). has s r) z ∙ has-empty r)))
+      (λ t. above maxRoles (rolesAt image g) r (omega arith) (ltb-false r maxRoles t)))
+
+  no-role : (e : ℕ) → eventCount image ≤ e → e < maxEvents → rolesOf (flatChart image) e ≡ 0
+  unfolding flatRoles
+  no-role e h l = role-byte e l ∙ rw (le-ltb e (eventCount image) h)
+
 -- ---- nodes without a loop have an event among them
 
 -- a relation that is transitive and never leads back has a least one below each count
@@ -165,6 +214,7 @@ module _ (image : List ℕ) where
               let a = flat-relates image few include e f .0 p in
               let b = flat-relates image few exclude e f .0 q in
               r .apart e (a .one) (record { other = f; event = a .other; pair = (a .entered, b .entered) });
+          unnamed = no-role image;
         }
 
     pub marking-fit : FitMarking (eventCount image) (startMarking image)
@@ -222,6 +272,9 @@ module _ (image : List ℕ) (z : reading image .answer .code ≡ 0) where
 
   pub reading-relates : (κ : Kind) (e f : ℕ) → In (setOf (reading image .chart) κ e) f ↔ Related image κ e f
   reading-relates κ e f = rw chart-of (flat-relates image (all .nodesRight .few) κ e f)
+
+  pub reading-names : (e r : ℕ) → e < maxEvents → In (rolesOf (reading image .chart) e) r ↔ Names image e r
+  reading-names e r h = rw chart-of (flat-names image e r h)
 
   pub reading-fit : Fit (reading image .chart) × FitMarking (reading image .chart .count) (reading image .marking)
   unfolding flatChart

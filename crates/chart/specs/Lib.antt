@@ -6,3 +6,4 @@ pub mod Outcome
 pub mod Given
 pub mod Repeats
 pub mod Examples
+pub mod Stored

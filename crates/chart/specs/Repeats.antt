@@ -1,5 +1,5 @@
 -- "Repeats mean nothing more": images with the same nodes and the same relation records, however often and in whatever order, have the same reading. Assumes nothing.
-use Prim.Native.Nat.{ℕ, zero, suc, _<_}
+use Prim.Native.Nat.{ℕ, zero, suc, _/_, _<_}
 use mathlib.Core.Path.{_≡_, sym, ap, ap₂, _∙_}
 use mathlib.Core.Bool.{Bool, true, not, cond, _&&_, _||_}
 use mathlib.Core.List.{List}
@@ -16,7 +16,8 @@ use Rattle.records.specs.Scan.{collect-same}
 use Rattle.records.specs.Image.{nodes, relations, parentOf, flagsOf, fromOf, toOf, kindOf, badNodeAt, badRelationAt}
 use Rattle.nesting.specs.Nesting.{parent, nested, atOrAbove, onLoopAt, isGroup, isEvent, number, eventCount, eventNode, flaggedGroupAt}
 use Rattle.flattening.specs.Flattening.{kindNumber, holdsBack, leads, related, entered, flatSet, flatTable, flatChart, flagged, startMarking, conflict, conflictAt}
-use Rattle.paper.specs.Limits.{maxEvents, badNode, parentsLoop, groupFlags}
+use Rattle.flattening.specs.Flattening.{namesAt, named, flatRoles, roleTable}
+use Rattle.paper.specs.Limits.{maxEvents, maxRoles, flagsByte, badNode, parentsLoop, groupFlags}
 use Rattle.chart.specs.declared.Reading.{Reading}
 use Rattle.chart.specs.Reading.{refuseFirst, conflictFrom, conflictTo, readingRelations, readingNodes, reading}
 use Rattle.chart.specs.Conditions.{Never, BadRelation, relation-bad, never-none}
@@ -80,6 +81,17 @@ module _ {a b : List ℕ} (s : SameNodes a b) where
       ap₂ _&&_ (ap (λ (x : ℕ). eqb x κ) (m .kind))
       (ap₂ _&&_ (same-above (eventNode a e) (fromOf a k) ∙ ap₂ (atOrAbove b) (same-node e) (m .from)) (same-above (eventNode a f) (toOf a k) ∙ ap₂ (atOrAbove b) (same-node f) (m .to)))
 
+  same-named : (e r : ℕ) → named a e r ≡ named b e r
+  unfolding named namesAt
+  same-named e r =
+      some-same (nodes a) (namesAt a e r) (namesAt b e r)
+      (λ g l. ap₂ _&&_ (same-above (eventNode a e) g ∙ ap (λ (x : ℕ). atOrAbove b x g) (same-node e)) (ap (λ (x : ℕ). has (x / flagsByte) r) (s .flags g l)))
+      ∙ ap (λ (n : ℕ). some n (namesAt b e r)) (s .count)
+
+  same-roles : roleTable a ≡ roleTable b
+  unfolding roleTable flatRoles
+  same-roles = tabulate-same maxEvents (flatRoles a) (flatRoles b) (λ e l. rw (same-count, collect-same maxRoles (named a e) (named b e) (λ r i. same-named e r)))
+
 related-on : {a b : List ℕ} → SameNodes a b → Among a b → (κ e f : ℕ) → related a κ e f ≡ true → related b κ e f ≡ true
 unfolding related
 related-on {a} {b} s m κ e f h =
@@ -108,7 +120,7 @@ module _ {a b : List ℕ} (s : SameNodes a b) (m : Among a b) (o : Among b a) wh
 
   pub same-chart : flatChart a ≡ flatChart b
   unfolding flatChart
-  same-chart = rw (same-count s, same-table condition, same-table response, same-table milestone, same-table include, same-table exclude)
+  same-chart = rw (same-count s, same-table condition, same-table response, same-table milestone, same-table include, same-table exclude, same-roles s)
 
 module _ {a b : List ℕ} (s : SameNodes a b) where
   same-flagged : (digit : ℕ) → flagged a digit ≡ flagged b digit

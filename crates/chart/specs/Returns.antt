@@ -21,7 +21,7 @@ use Rattle.nesting.specs.Nesting.{isEvent, onLoopAt, flaggedGroupAt, eventCount
 use Rattle.flattening.specs.Flattening.{conflict, conflictAt}
 use Rattle.nesting.specs.Tables.{Groups, isEventIn, flaggedIn, EventNodes}
 use Rattle.nesting.specs.Climbing.{straight-is}
-use Rattle.flattening.specs.Cells.{Members, Good, good-of, Gathered, Flat, bothAt, conflictIn, chartOf, markingBy}
+use Rattle.flattening.specs.Cells.{Members, Good, good-of, Gathered, Flat, FlatRoles, bothAt, conflictIn, chartOf, markingBy}
 use Rattle.flattening.specs.Meaning.{Ground, flags-are, count-is, from-is, to-is, chart-is, marking-is}
 use Rattle.chart.specs.Reading.{refused, refuseIf, refuseFirst, conflictFrom, conflictTo, readingRelations, readingNodes, reading}
 
@@ -167,10 +167,11 @@ module _ {image : List ℕ} {n k bad : ℕ} {groups : List Bool} {events : ℕ} 
           let i : to ≡ first (eventCount image) (conflict image from) = to-is g v m goods a t from both to h there p q in
           e ∙ rw (← o, ← i, first-some (eventCount image) (conflictAt image) (omega arith)) (no-bad _)
 
-      pub relations-on : {y : Answer} {c : FlatChart} {s : Marking} → events ≤ from → y ≡ granted → c ≡ chartOf events tables → s ≡ markingBy image nodes events
+      pub relations-on : {roles : List ℕ} {y : Answer} {c : FlatChart} {s : Marking} → FlatRoles image nodes events roles → events ≤ from → y ≡ granted
+          → c ≡ chartOf events tables roles → s ≡ markingBy image nodes events
           → record { answer = y; chart = c; marking = s } ≡ readingRelations image
       unfolding readingRelations
-      relations-on h p q i =
+      relations-on o h p q i =
           let c = g .count in
-          let o = at-from in
-          rw (p, chart-is g v m goods a t q, marking-is g v i, first-not (eventCount image) (conflictAt image) (omega arith)) (no-bad _)
+          let l = at-from in
+          rw (p, chart-is g v m goods a t o q, marking-is g v i, first-not (eventCount image) (conflictAt image) (omega arith)) (no-bad _)

@@ -48,9 +48,9 @@ fn refuse(code: u32, place: u32, other: u32) -> Reading
     }
 }
 
-fn flat_chart(events: usize, tables: &[u64; CELLS]) -> FlatChart
+fn flat_chart(events: usize, tables: &[u64; CELLS], roles: &[u8; MAX_EVENTS]) -> FlatChart
     requires { ⌜ events ≤ maxEvents ⌝ }
-    ensures { λ r. ⌜ r ≡ chartOf events (now (tables .entry)) ⌝ }
+    ensures { λ r. ⌜ r ≡ chartOf events (now (tables .entry)) (now (roles .entry)) ⌝ }
 {
     FlatChart {
         count: events as u32,
@@ -59,6 +59,7 @@ fn flat_chart(events: usize, tables: &[u64; CELLS]) -> FlatChart
         milestones: flattening::table(tables, MILESTONE),
         includes: flattening::table(tables, INCLUDE),
         excludes: flattening::table(tables, EXCLUDE),
+        roles: *roles,
     }
 }
 
@@ -91,16 +92,19 @@ fn read_relations(
     if bad < k {
         return refuse(BAD_RELATION, bad as u32, 0);
     }
-    let tables = flattening::flatten(image, n, k, &gathered, &nodes, events);
+    let mut roles = [0u8; MAX_EVENTS];
+    let tables = flattening::flatten(image, n, k, &gathered, &nodes, events, &mut roles);
     let from = flattening::first_conflict(&tables, events);
     if from < events {
         let to = sets::least(flattening::both_at(&tables, from));
         return refuse(INCLUDE_EXCLUDE, from as u32, to);
     }
+    // Made before the chart: its loops would keep a second copy of the tables on the stack.
+    let marking = start_marking(image, &nodes, events);
     Reading {
         answer: paper::granted(),
-        chart: flat_chart(events, &tables),
-        marking: start_marking(image, &nodes, events),
+        chart: flat_chart(events, &tables, &roles),
+        marking: marking,
     }
 }
 

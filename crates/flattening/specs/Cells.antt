@@ -9,17 +9,17 @@ use native.Mathlib.Omega.{arith}
 use lib.ListN.{length, getD, set, replicate, length-set, length-replicate}
 use lib.Seq.{getD-set-same, getD-set-other, ext-getD}
 use lib.Dec.{eqb, leb, ltb}
-use borrow.Author.Tests.{eq-eqb, ne-eqb, eqb-true, eqb-false, leb-false, lt-ltb, le-ltb}
-use Rattle.paper.specs.Limits.{maxNodes, maxEvents, kinds}
+use borrow.Author.Tests.{eq-eqb, ne-eqb, eqb-true, eqb-false, leb-false, lt-ltb, le-ltb, ltb-false}
+use Rattle.paper.specs.Limits.{maxNodes, maxEvents, maxRoles, flagsByte, kinds}
 use Rattle.sets.specs.Cases.{contra, cases, both, either, neither, or-left, or-right, same-test, lt-suc}
 use Rattle.sets.specs.Set.{has, union, inter, only, putIf, collect}
-use Rattle.sets.specs.Laws.{has-union, has-only, has-empty}
+use Rattle.sets.specs.Laws.{has-union, has-only, has-empty, above}
 use Rattle.sets.specs.Below.{some, some-of, some-at, some-none, some-step, first}
 use Rattle.sets.specs.Tables.{tabulate, length-tabulate, getD-tabulate, zeros-at}
 use Rattle.reach.specs.Rows.{takeRow}
 use Rattle.reach.specs.Bits.{apart, take-word, take-kept, length-takeRow}
 use Rattle.records.specs.Scan.{Passed, passed-none, passed-more, passed-found, passed-end, at-end, ltb-more, collect-more}
-use Rattle.records.specs.Image.{parentOf, fromOf, toOf, kindOf, flagsOf, nodes, badRelationAt, Whole}
+use Rattle.records.specs.Image.{parentOf, fromOf, toOf, kindOf, flagsOf, rolesAt, nodes, badRelationAt, Whole}
 use Rattle.graph.specs.Chart.{condition, response, milestone, include, exclude}
 use Rattle.graph.specs.declared.FlatChart.{FlatChart}
 use Rattle.graph.specs.declared.Marking.{Marking}
@@ -216,31 +216,37 @@ module _ {image members : List ℕ} {k : ℕ} where
 
 -- ---- what an event takes from its node and the groups above it
 
+-- some node at c or above it passes the test
+unfoldable pub someAbove : List ℕ → (ℕ → Bool) → ℕ → Bool
+someAbove image p c = some (nodes image) (λ g. fromUp image c g && p g)
+
+module _ (image : List ℕ) (p : ℕ → Bool) where
+  above-none : (c : ℕ) → nodes image ≤ c → someAbove image p c ≡ false
+  unfolding someAbove
+  above-none c h = some-none (nodes image) _ (λ g l. rw (from-none image c g h))
+
+  -- c itself, or its parent and above
+  above-step : (c q : ℕ) → c < nodes image → q ≡ parentOf image c → someAbove image p c ≡ (p c || someAbove image p q)
+  unfolding someAbove
+  above-step c q h e =
+      same-test _ _
+      (λ t.
+      let (g, l, x) = some-at (nodes image) (λ g. fromUp image c g && p g) t in
+      let y = both (fromUp image c g) (p g) x in
+      either (eqb c g) (fromUp image q g) (sym (from-step image c q g h e) ∙ y .0)
+      (λ z. or-left (p c) _ (rw (eqb-true c g z) (y .1)))
+      (λ z. or-right (p c) _ (some-of (nodes image) (λ g. fromUp image q g && p g) g l (rw (z, y .1)))))
+      (λ t.
+      either (p c) _ t
+      (λ x. some-of (nodes image) (λ g. fromUp image c g && p g) c h (rw (from-step image c q c h e, eq-eqb c c refl, x)))
+      (λ x.
+      let (g, l, y) = some-at (nodes image) (λ g. fromUp image q g && p g) x in
+      let z = both (fromUp image q g) (p g) y in
+      some-of (nodes image) (λ g. fromUp image c g && p g) g l (rw (from-step image c q g h e, or-right (eqb c g) (fromUp image q g) (z .0), z .1))))
+
 -- f is gathered at c or above it
-unfoldable pub aboveHas : List ℕ → List ℕ → ℕ → ℕ → ℕ → Bool
-aboveHas image gathered c κ f = some (nodes image) (λ g. fromUp image c g && holds gathered κ g f)
-
-above-none : (image gathered : List ℕ) (c κ f : ℕ) → nodes image ≤ c → aboveHas image gathered c κ f ≡ false
-unfolding aboveHas
-above-none image gathered c κ f h = some-none (nodes image) _ (λ g l. rw (from-none image c g h))
-
-above-step : (image gathered : List ℕ) (c p κ f : ℕ) → c < nodes image → p ≡ parentOf image c → aboveHas image gathered c κ f ≡ (holds gathered κ c f || aboveHas image gathered p κ f)
-unfolding aboveHas
-above-step image gathered c p κ f h q =
-    same-test _ _
-    (λ t.
-    let (g, l, x) = some-at (nodes image) (λ g. fromUp image c g && holds gathered κ g f) t in
-    let y = both (fromUp image c g) (holds gathered κ g f) x in
-    either (eqb c g) (fromUp image p g) (sym (from-step image c p g h q) ∙ y .0)
-    (λ z. or-left (holds gathered κ c f) _ (rw (eqb-true c g z) (y .1)))
-    (λ z. or-right (holds gathered κ c f) _ (some-of (nodes image) (λ g. fromUp image p g && holds gathered κ g f) g l (rw (z, y .1)))))
-    (λ t.
-    either (holds gathered κ c f) _ t
-    (λ x. some-of (nodes image) (λ g. fromUp image c g && holds gathered κ g f) c h (rw (from-step image c p c h q, eq-eqb c c refl, x)))
-    (λ x.
-    let (g, l, y) = some-at (nodes image) (λ g. fromUp image p g && holds gathered κ g f) x in
-    let z = both (fromUp image p g) (holds gathered κ g f) y in
-    some-of (nodes image) (λ g. fromUp image c g && holds gathered κ g f) g l (rw (from-step image c p g h q, or-right (eqb c g) (fromUp image p g) (z .0), z .1))))
+abbrev pub aboveHas : List ℕ → List ℕ → ℕ → ℕ → ℕ → Bool
+aboveHas image gathered c κ f = someAbove image (λ g. holds gathered κ g f) c
 
 -- the row of e has taken in what is gathered at i and above it, and the other rows have stayed
 pub record Taken (image gathered : List ℕ) (e i : ℕ) (old new : List ℕ) : Type 0 where
@@ -266,7 +272,7 @@ take-more {image} {gathered} {old} {new} {next} {n} {k} {e} {i} {c} {p} w b m h 
       own = λ κ f l.
           rw (take-word kinds e c gathered new kinds κ l (let z = m .size in omega arith), has-union (cell new κ e) (cell gathered κ c) f)
           (or-assoc (holds new κ e f) (holds gathered κ c f) (aboveHas image gathered p κ f))
-          ∙ ap (λ (x : Bool). holds new κ e f || x) (sym (above-step image gathered c p κ f (let l = w .nodes in omega arith) s))
+          ∙ ap (λ (x : Bool). holds new κ e f || x) (sym (above-step image (λ g. holds gathered κ g f) c p (let l = w .nodes in omega arith) s))
           ∙ m .own κ f l;
       other = λ κ x l z. take-kept kinds e c gathered new kinds (x * kinds + κ) (λ t i y. z (apart kinds x κ e t l i y .0)) ∙ m .other κ x l z;
     })
@@ -275,7 +281,7 @@ pub take-end : {image gathered old new : List ℕ} {n k e i c : ℕ} → Whole i
 take-end {image} {gathered} {old} {new} {n} {k} {e} {i} {c} w m h =
     record {
       size = m .size;
-      own = λ κ f l. sym (or-false (holds new κ e f)) ∙ ap (λ (x : Bool). holds new κ e f || x) (sym (above-none image gathered c κ f (let l = w .nodes in omega arith))) ∙ m .own κ f l;
+      own = λ κ f l. sym (or-false (holds new κ e f)) ∙ ap (λ (x : Bool). holds new κ e f || x) (sym (above-none image (λ g. holds gathered κ g f) c (let l = w .nodes in omega arith))) ∙ m .own κ f l;
       other = m .other;
     }
 
@@ -301,6 +307,72 @@ flat-more {image} {gathered} {nodes} {tables} {next} {e} m a =
 
 pub flat-end : {image gathered nodes tables : List ℕ} {events e : ℕ} → e ≤ events → events ≤ e → Flat image gathered nodes e tables → Flat image gathered nodes events tables
 flat-end {image} {gathered} {nodes} {tables} = at-end (λ (e : ℕ). Flat image gathered nodes e tables)
+
+-- ---- the roles of an event: those of its node and of the groups above it
+
+-- node g names the role r
+abbrev pub namesRole : List ℕ → ℕ → ℕ → Bool
+namesRole image r g = ltb r maxRoles && has (rolesAt image g) r
+
+-- so does a node at c or above it
+abbrev pub aboveNames : List ℕ → ℕ → ℕ → Bool
+aboveNames image c r = someAbove image (namesRole image r) c
+
+-- a byte has no role past the last
+byte-has : (s r : ℕ) → s < flagsByte → has s r ≡ (ltb r maxRoles && has s r)
+byte-has s r h = cases (ltb r maxRoles) (λ t. rw t) (λ t. rw t (above maxRoles s r (omega arith) (ltb-false r maxRoles t)))
+
+-- the roles named at i and above it
+pub record Roles (image : List ℕ) (i roles : ℕ) : Type 0 where
+  pub each : (r : ℕ) → has roles r ≡ aboveNames image i r
+
+-- on the way: with what is still to come at c and above, they are the same
+pub record Naming (image : List ℕ) (i c roles : ℕ) : Type 0 where
+  pub each : (r : ℕ) → (has roles r || aboveNames image c r) ≡ aboveNames image i r
+
+pub naming-none : (image : List ℕ) (i : ℕ) → Naming image i i 0
+naming-none image i = record { each = λ r. rw (has-empty r) }
+
+pub naming-more : {image : List ℕ} {n k i c p roles own next : ℕ} → Whole image n k → Naming image i c roles → c < n → (own ≡ rolesAt image c) × (own < flagsByte)
+    → next ≡ union roles own → p ≡ parentOf image c → Naming image i p next
+naming-more {image} {n} {k} {i} {c} {p} {roles} {own} {next} w m h o q s =
+    rw q (record {
+      each = λ r.
+          let here : has own r ≡ namesRole image r c = byte-has own r (o .1) ∙ ap (λ (x : ℕ). ltb r maxRoles && has x r) (o .0) in
+          rw (has-union roles own r, here)
+          (or-assoc (has roles r) (namesRole image r c) (aboveNames image p r))
+          ∙ ap (λ (x : Bool). has roles r || x) (sym (above-step image (namesRole image r) c p (let l = w .nodes in omega arith) s))
+          ∙ m .each r;
+    })
+
+pub naming-end : {image : List ℕ} {n k i c roles : ℕ} → Whole image n k → Naming image i c roles → n ≤ c → Roles image i roles
+naming-end {image} {n} {k} {i} {c} {roles} w m h =
+    record {
+      each = λ r. sym (or-false (has roles r)) ∙ ap (λ (x : Bool). has roles r || x) (sym (above-none image (namesRole image r) c (let l = w .nodes in omega arith))) ∙ m .each r;
+    }
+
+-- the role bytes of the first events, and 0 past them
+pub record FlatRoles (image nodes : List ℕ) (events : ℕ) (roles : List ℕ) : Type 0 where
+  pub size : length roles ≡ maxEvents
+  pub each : (e r : ℕ) → has (getD roles e 0) r ≡ (ltb e events && aboveNames image (getD nodes e 0) r)
+
+pub roles-none : (image nodes : List ℕ) {roles : List ℕ} → roles ≡ replicate maxEvents 0 → FlatRoles image nodes 0 roles
+roles-none image nodes q =
+    rw q (record { size = length-replicate {A = ℕ} maxEvents 0; each = λ e r. rw (zeros-at maxEvents e, le-ltb e 0 (omega arith)) (has-empty r) })
+
+pub roles-more : {image nodes roles : List ℕ} {e own : ℕ} → FlatRoles image nodes e roles → e < maxEvents → Roles image (getD nodes e 0) own
+    → FlatRoles image nodes (e + 1) (set roles e own)
+roles-more {image} {nodes} {roles} {e} {own} m h a =
+    record {
+      size = length-set roles e own ∙ m .size;
+      each = λ x r.
+          cases (eqb e x)
+          (λ t. rw (← eqb-true e x t, getD-set-same roles e own 0 (let l = m .size in omega arith), lt-ltb e (e + 1) (omega arith)) (a .each r))
+          (λ t. rw (getD-set-other roles e x own 0 (λ z. eqb-false e x t (sym z)), ltb-more x e (λ z. eqb-false e x t (sym z))) (m .each x r));
+    }
+
+pub roles-end : {image nodes roles : List ℕ} {events e : ℕ} → e ≤ events → events ≤ e → FlatRoles image nodes e roles → FlatRoles image nodes events roles
+roles-end {image} {nodes} {roles} = at-end (λ (e : ℕ). FlatRoles image nodes e roles)
 
 -- ---- include and exclude
 
@@ -352,8 +424,8 @@ flag-more image nodes digit e s r flags b h i j k = collect-more (λ e. has (fla
 
 -- ---- what the tables and the flags make
 
-unfoldable pub chartOf : ℕ → List ℕ → FlatChart
-chartOf events tables =
+unfoldable pub chartOf : ℕ → List ℕ → List ℕ → FlatChart
+chartOf events tables roles =
     record {
       count = events;
       conditions = tabulate maxEvents (cell tables (kindNumber condition));
@@ -361,6 +433,7 @@ chartOf events tables =
       milestones = tabulate maxEvents (cell tables (kindNumber milestone));
       includes = tabulate maxEvents (cell tables (kindNumber include));
       excludes = tabulate maxEvents (cell tables (kindNumber exclude));
+      roles = roles;
     }
 
 unfoldable pub markingBy : List ℕ → List ℕ → ℕ → Marking

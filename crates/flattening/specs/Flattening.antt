@@ -2,17 +2,17 @@
 -- that an image names. Assumes nothing.
 use Prim.Native.Nat.{ℕ, _<_}
 use mathlib.Core.Path.{_≡_}
-use mathlib.Core.Bool.{Bool, cond, _&&_, _||_}
+use mathlib.Core.Bool.{Bool, true, cond, _&&_, _||_}
 use mathlib.Core.List.{List}
 use lib.Dec.{eqb, ltb}
-use Rattle.paper.specs.Limits.{maxEvents}
+use Rattle.paper.specs.Limits.{maxEvents, maxRoles}
 use Rattle.sets.specs.Set.{has, collect}
 use Rattle.sets.specs.Below.{some}
 use Rattle.sets.specs.Tables.{tabulate}
 use Rattle.graph.specs.Chart.{Kind, condition, response, milestone, include, exclude}
 use Rattle.graph.specs.declared.FlatChart.{FlatChart}
 use Rattle.graph.specs.declared.Marking.{Marking}
-use Rattle.records.specs.Image.{relations, fromOf, toOf, kindOf, flagsOf}
+use Rattle.records.specs.Image.{nodes, relations, fromOf, toOf, kindOf, flagsOf, rolesAt}
 use Rattle.nesting.specs.Nesting.{AtOrAbove, atOrAbove, eventCount, eventNode}
 
 -- "Kinds: 0 condition, 1 response, 2 milestone, 3 include, 4 exclude"
@@ -55,6 +55,27 @@ module _ (image : List ℕ) where
   unfoldable pub flatTable : Kind → List ℕ
   flatTable κ = tabulate maxEvents (flatSet (kindNumber κ))
 
+  -- Request (i): "Document 001 gives a flattened event the roles of all groups above it as well." Event e names the role r.
+  pub record NamesRole (e r : ℕ) : Type 0 where
+    pub node : ℕ
+    pub exists : node < nodes image
+    pub above : AtOrAbove image (eventNode image e) node
+    pub names : has (rolesAt image node) r ≡ true
+
+  -- the test of it, node by node
+  unfoldable pub namesAt : ℕ → ℕ → ℕ → Bool
+  namesAt e r g = atOrAbove image (eventNode image e) g && has (rolesAt image g) r
+
+  unfoldable pub named : ℕ → ℕ → Bool
+  named e r = some (nodes image) (namesAt e r)
+
+  -- the role byte of event e, 0 past the count
+  unfoldable pub flatRoles : ℕ → ℕ
+  flatRoles e = cond (ltb e (eventCount image)) (collect maxRoles (named e)) 0
+
+  unfoldable pub roleTable : List ℕ
+  roleTable = tabulate maxEvents flatRoles
+
   unfoldable pub flatChart : FlatChart
   flatChart =
       record {
@@ -64,6 +85,7 @@ module _ (image : List ℕ) where
         milestones = flatTable milestone;
         includes = flatTable include;
         excludes = flatTable exclude;
+        roles = roleTable;
       }
 
   -- "flags: 1 executed, 2 pending, 4 included": the events whose flags have the digit

@@ -5,25 +5,28 @@ use mathlib.Core.Bool.{Bool, true, false, cond, _&&_, and-false, and-comm}
 use mathlib.Core.List.{List}
 use native.Mathlib.Omega.{arith}
 use lib.ListN.{length, getD}
+use lib.Seq.{ext-getD}
 use lib.Dec.{eqb, ltb}
 use borrow.Author.Tests.{lt-ltb, ltb-true, eq-eqb, ne-eqb, eqb-true, eqb-false, not-true}
-use Rattle.paper.specs.Limits.{maxEvents, kinds}
+use Rattle.paper.specs.Limits.{maxEvents, maxRoles, kinds}
 use Rattle.sets.specs.Cases.{contra, cases, both, not-so, same-test}
 use Rattle.sets.specs.Set.{has, lowest, collect}
 use Rattle.sets.specs.Laws.{ext, has-collect, has-inter, has-empty, none-zero, below, lowest-lt, lowest-has, lowest-least}
 use Rattle.sets.specs.Below.{some, some-of, some-at, some-none, some-same, first, first-found, first-same, tally, tally-same}
-use Rattle.sets.specs.Tables.{tabulate, tabulate-same}
+use Rattle.sets.specs.Tables.{tabulate, tabulate-same, length-tabulate, getD-tabulate}
 use Rattle.graph.specs.Chart.{Kind, condition, response, milestone, include, exclude}
 use Rattle.graph.specs.declared.FlatChart.{FlatChart}
 use Rattle.graph.specs.declared.Marking.{Marking}
 use Rattle.records.specs.Scan.{collect-same}
 use Rattle.nesting.specs.Numbering.{tally-find, first-numbered}
-use Rattle.records.specs.Image.{nodes as nodes-of, relations, fromOf, toOf, kindOf, flagsOf, nodeAt, Whole}
+use Rattle.records.specs.Image.{nodes as nodes-of, relations, fromOf, toOf, kindOf, flagsOf, rolesAt, nodeAt, Whole}
 use Rattle.nesting.specs.Nesting.{parent, atOrAbove, isGroup, isEvent, number, eventCount, eventNode, flaggedGroupAt}
 use Rattle.nesting.specs.Climbing.{Straight, fromUp}
 use Rattle.nesting.specs.Tables.{Groups, isEventIn, flaggedIn, EventNodes}
 use Rattle.flattening.specs.Flattening.{kindNumber, holdsBack, leads, related, entered, flatSet, flatTable, flatChart, flagged, startMarking, conflict, conflictAt}
+use Rattle.flattening.specs.Flattening.{namesAt, named, flatRoles, roleTable}
 use Rattle.flattening.specs.Cells.{cell, holds, Members, near, nearOf, farOf, near-fits, Good, entersAt, Gathered, aboveHas, Flat, bothAt, conflictIn, flaggedBy, chartOf, markingBy}
+use Rattle.flattening.specs.Cells.{someAbove, aboveNames, FlatRoles}
 
 -- ---- nodes
 
@@ -81,6 +84,11 @@ unfolding flatSet
 flat-has image κ e f =
     cases (ltb e (eventCount image)) (λ t. rw t (has-collect (eventCount image) (entered image κ e) f)) (λ t. rw t (has-empty f))
 
+-- a role byte has the roles that the event names
+pub roles-has : (image : List ℕ) (e r : ℕ) → has (flatRoles image e) r ≡ (ltb e (eventCount image) && (ltb r maxRoles && named image e r))
+unfolding flatRoles
+roles-has image e r = cases (ltb e (eventCount image)) (λ t. rw t (has-collect maxRoles (named image e) r)) (λ t. rw t (has-empty r))
+
 kind-fits : (κ : Kind) → kindNumber κ < kinds
 kind-fits condition = omega arith
 kind-fits response = omega arith
@@ -130,6 +138,32 @@ module _ {image : List ℕ} {n k : ℕ} {groups : List Bool} {events : ℕ} (g :
     unfolding fromUp
     up-is e x h = let v = node-at e h in let l = v .1 in let w = g .whole .nodes in rw (lt-ltb (getD nodes e 0) (nodes-of image) (omega arith), v .0)
 
+    -- the role bytes are those of the definition
+    names-is : (e r : ℕ) → e < events → aboveNames image (getD nodes e 0) r ≡ (ltb r maxRoles && named image e r)
+    unfolding someAbove named namesAt
+    names-is e r h =
+        some-same (nodes-of image) _ (λ x. ltb r maxRoles && namesAt image e r x)
+        (λ x l. rw (up-is e x h) (inward (atOrAbove image (eventNode image e) x) (ltb r maxRoles) (has (rolesAt image x) r)))
+        ∙ guarded (nodes-of image) (ltb r maxRoles) (namesAt image e r)
+      where
+        inward : (a b c : Bool) → (a && (b && c)) ≡ (b && (a && c))
+        inward true b c = refl
+        inward false b c = sym (and-false b)
+
+    pub roles-are : {roles : List ℕ} → FlatRoles image nodes events roles → roles ≡ roleTable image
+    unfolding roleTable
+    roles-are {roles} m =
+        ext-getD 0 roles (tabulate maxEvents (flatRoles image)) (m .size ∙ sym (length-tabulate maxEvents (flatRoles image)))
+        (λ e h. byte e ∙ sym (getD-tabulate maxEvents (flatRoles image) e 0 (let l = m .size in omega arith)))
+      where
+        byte : (e : ℕ) → getD roles e 0 ≡ flatRoles image e
+        byte e =
+            ext (getD roles e 0) (flatRoles image e)
+            (λ r. m .each e r
+            ∙ cases (ltb e events) (λ i. rw i (names-is e r (ltb-true e events i))) (λ i. rw i)
+            ∙ ap (λ (x : ℕ). ltb e x && (ltb r maxRoles && named image e r)) (g .count)
+            ∙ sym (roles-has image e r))
+
     module _ {members : List ℕ} (m : Members image nodes events members) (s : (r : ℕ) → r < k → Good image n r) where
       -- relation r is gathered at or above the node of e, and gives it f
       abbrev gives : ℕ → ℕ → ℕ → ℕ → Bool
@@ -153,7 +187,7 @@ module _ {image : List ℕ} {n k : ℕ} {groups : List Bool} {events : ℕ} (g :
         -- what is gathered at or above the node of e is what the relations lead to
         above-is : (κ e f : ℕ) → κ < kinds → e < events
             → aboveHas image gathered (getD nodes e 0) κ f ≡ some k (gives κ e f)
-        unfolding aboveHas
+        unfolding someAbove
         above-is κ e f l h =
             same-test _ _
             (λ t.
@@ -238,7 +272,7 @@ module _ {image : List ℕ} {n k : ℕ} {groups : List Bool} {events : ℕ} (g :
               (found .1)
               ∙ ap (λ (x : ℕ). first x (conflict image e)) (g .count)
 
-          pub chart-is : {c : FlatChart} → c ≡ chartOf events tables → c ≡ flatChart image
+          pub chart-is : {roles : List ℕ} {c : FlatChart} → FlatRoles image nodes events roles → c ≡ chartOf events tables roles → c ≡ flatChart image
           unfolding chartOf flatChart
-          chart-is e =
-              e ∙ rw (g .count, table-is condition _ refl, table-is response _ refl, table-is milestone _ refl, table-is include _ refl, table-is exclude _ refl)
+          chart-is o e =
+              e ∙ rw (g .count, roles-are o, table-is condition _ refl, table-is response _ refl, table-is milestone _ refl, table-is include _ refl, table-is exclude _ refl)

@@ -4,11 +4,12 @@ ghost use mathlib.Core.Path.{_≡_};
 ghost use Prim.Native.Nat.{ℕ, _+_, _*_, _≤_, _<_};
 ghost use lib.ListN.{length, getD, set, replicate};
 ghost use Rattle.paper.specs.Limits.{maxNodes, maxEvents, kinds, nodeSize};
+ghost use Rattle.sets.specs.Set.{union};
 ghost use Rattle.sets.specs.Below.{first};
 ghost use Rattle.sets.specs.Tables.{tabulate};
 ghost use Rattle.records.specs.Image.{nodeAt, badRelationAt, Whole};
 ghost use Rattle.nesting.specs.Climbing.{Straight};
-ghost use Rattle.flattening.specs.Cells.{cell, putIn, addTo, Entered, Members, Gathered, Taken, Flat, bothAt, conflictIn, flaggedBy};
+ghost use Rattle.flattening.specs.Cells.{cell, putIn, addTo, Entered, Members, Gathered, Taken, Flat, Roles, FlatRoles, bothAt, conflictIn, flaggedBy};
 use paper::KINDS;
 use paper::MAX_EVENTS;
 use paper::MAX_NODES;
@@ -112,7 +113,13 @@ pub fn gather(
     k
 }
 
-// Event e takes in what is gathered at node i and at each group above it.
+fn add_roles(roles: u8, own: u8) -> u8
+    ensures { λ r. ⌜ r ≡ union roles own ⌝ }
+{
+    roles | own
+}
+
+// Event e takes in what is gathered at node i and at each group above it. Gives the roles that these nodes name.
 fn take_above(
     image: &[u8],
     n: usize,
@@ -121,18 +128,21 @@ fn take_above(
     tables: &mut [u64; CELLS],
     e: usize,
     i: usize,
-)
+) -> u8
     requires { ⌜ (Whole (now image) n k) × (Straight (now image)) × (e < maxEvents) × (length (now tables) ≡ maxEvents * kinds) × (length (now gathered) ≡ maxNodes * kinds) ⌝ }
-    ensures { λ _. ⌜ Taken (now (image .entry)) (now (gathered .entry)) e i (now (tables .entry)) (now (tables .exit)) ⌝ }
+    ensures { λ r. ⌜ (Taken (now (image .entry)) (now (gathered .entry)) e i (now (tables .entry)) (now (tables .exit))) × (Roles (now (image .entry)) i r) ⌝ }
 {
+    let mut roles: u8 = 0;
     let mut c = i;
     while c < n {
         reach::take_row(tables, SETS, e, gathered, c);
+        roles = add_roles(roles, records::roles_of(image, c));
         c = records::parent_of(image, c) as usize;
     }
+    roles
 }
 
-// The five tables.
+// The five tables, and the role byte of each event.
 pub fn flatten(
     image: &[u8],
     n: usize,
@@ -140,13 +150,14 @@ pub fn flatten(
     gathered: &[u64; GATHERED],
     nodes: &[usize; MAX_EVENTS],
     events: usize,
+    roles: &mut [u8; MAX_EVENTS],
 ) -> [u64; CELLS]
-    requires { ⌜ (Whole (now image) n k) × (Straight (now image)) × (events ≤ maxEvents) × (length (now gathered) ≡ maxNodes * kinds) ⌝ }
-    ensures { λ r. ⌜ Flat (now (image .entry)) (now (gathered .entry)) (now (nodes .entry)) events r ⌝ }
+    requires { ⌜ (Whole (now image) n k) × (Straight (now image)) × (events ≤ maxEvents) × (length (now gathered) ≡ maxNodes * kinds) × (now roles ≡ replicate maxEvents 0) ⌝ }
+    ensures { λ r. ⌜ (Flat (now (image .entry)) (now (gathered .entry)) (now (nodes .entry)) events r) × (FlatRoles (now (image .entry)) (now (nodes .entry)) events (now (roles .exit))) ⌝ }
 {
     let mut tables = [0u64; CELLS];
     for e in 0..events {
-        take_above(image, n, k, gathered, &mut tables, e, nodes[e]);
+        roles[e] = take_above(image, n, k, gathered, &mut tables, e, nodes[e]);
     }
     tables
 }

@@ -9,7 +9,7 @@ use borrow.Author.Tests.{ltb-true}
 use Rattle.sets.specs.Cases.{all3}
 use Rattle.sets.specs.Below.{some, first, tally}
 use Rattle.reach.specs.Closure.{Way, within, reached}
-use Rattle.records.specs.Image.{nodes, parentOf, flagsOf}
+use Rattle.records.specs.Image.{nodes, parentOf, stateOf}
 
 module _ (image : List ℕ) where
   -- "a partial function mapping an event to its super-event": node b is the parent of node a
@@ -58,9 +58,9 @@ module _ (image : List ℕ) where
   unfoldable pub eventNode : ℕ → ℕ
   eventNode e = first (nodes image) (λ i. isEvent i && eqb (number i) e)
 
-  -- "a group's flags are 0"
+  -- "a group's flags are 0", of the lower byte: groups too name roles
   unfoldable pub flaggedGroupAt : ℕ → Bool
-  flaggedGroupAt i = isGroup i && not (eqb (flagsOf image i) 0)
+  flaggedGroupAt i = isGroup i && not (eqb (stateOf image i) 0)
 
 -- ---- the closure says so
 

@@ -17,7 +17,7 @@ use Rattle.reach.specs.Rows.{bit, putBit, closed}
 use Rattle.reach.specs.Bits.{put-bit, bit-zeros, length-putBit, length-closed, closed-bit}
 use Rattle.records.specs.Scan.{at-end, ltb-more}
 use Rattle.nesting.specs.Numbering.{tally-lt}
-use Rattle.records.specs.Image.{nodes, parentOf, flagsOf, Whole}
+use Rattle.records.specs.Image.{nodes, parentOf, stateOf, Whole}
 use Rattle.nesting.specs.Nesting.{parent, nested}
 
 -- ---- which nodes are groups
@@ -45,7 +45,7 @@ abbrev pub isEventIn : List Bool → ℕ → Bool
 isEventIn groups i = not (getD groups i false)
 
 abbrev pub flaggedIn : List ℕ → List Bool → ℕ → Bool
-flaggedIn image groups i = getD groups i false && not (eqb (flagsOf image i) 0)
+flaggedIn image groups i = getD groups i false && not (eqb (stateOf image i) 0)
 
 -- a is a node, and so is b: its parent is b exactly if its record says so
 parent-of : (image : List ℕ) (n a b p : ℕ) → n ≡ nodes image → p ≡ parentOf image a → a < n → b < n → parent image a b ≡ eqb p b

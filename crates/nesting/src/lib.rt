@@ -54,10 +54,10 @@ fn flagged_group_at(image: &[u8], groups: &[bool; MAX_NODES], i: usize) -> bool
     requires { ⌜ (i < maxNodes) × (nodeAt i + nodeSize ≤ length (now image)) ⌝ }
     ensures { λ r. ⌜ r ≡ flaggedIn (now (image .entry)) (now (groups .entry)) i ⌝ }
 {
-    groups[i] & (records::flags_of(image, i) != 0)
+    groups[i] & (records::state_of(image, i) != 0)
 }
 
-// The lowest group that has flags, or n.
+// The lowest group whose state is not 0, or n.
 pub fn first_flagged_group(image: &[u8], n: usize, k: usize, groups: &[bool; MAX_NODES]) -> usize
     requires { ⌜ Whole (now image) n k ⌝ }
     ensures { λ r. ⌜ r ≡ first n (flaggedIn (now (image .entry)) (now (groups .entry))) ⌝ }

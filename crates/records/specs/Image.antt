@@ -1,11 +1,11 @@
 -- The chart image: its header, its node records and its relation records, each field at one place, and the header's tests. Assumes nothing.
-use Prim.Native.Nat.{ℕ, _+_, _*_, _≤_}
+use Prim.Native.Nat.{ℕ, _+_, _*_, _/_, _%_, _≤_}
 use mathlib.Core.Path.{_≡_}
 use mathlib.Core.Bool.{Bool, not, _&&_, _||_}
 use mathlib.Core.List.{List}
 use lib.ListN.{length}
 use lib.Dec.{eqb, leb, ltb}
-use Rattle.paper.specs.Limits.{maxNodes, maxRelations, chartHeader, nodeSize, relationSize, noParent, maxFlags, kinds}
+use Rattle.paper.specs.Limits.{maxNodes, maxRelations, chartHeader, nodeSize, relationSize, noParent, maxFlags, flagsByte, kinds}
 use Rattle.wire.specs.Wire.{u16At}
 
 -- ---- the header: four 16-bit numbers
@@ -35,6 +35,14 @@ parentOf image i = u16At image (nodeAt i)
 abbrev pub flagsOf : List ℕ → ℕ → ℕ
 flagsOf image i = u16At image (nodeAt i + 2)
 
+-- "The lower byte keeps its old rules": the node's state
+abbrev pub stateOf : List ℕ → ℕ → ℕ
+stateOf image i = flagsOf image i % flagsByte
+
+-- "the upper byte of a node's flags, also on groups": role r is bit r
+abbrev pub rolesAt : List ℕ → ℕ → ℕ
+rolesAt image i = flagsOf image i / flagsByte
+
 -- ---- a relation: from, to, kind
 
 abbrev pub relationAt : ℕ → ℕ → ℕ
@@ -63,9 +71,9 @@ misplaced image =
 
 -- ---- what is wrong with a record
 
--- a parent that does not exist, or flags above 7
+-- a parent that does not exist, or a state above 7
 unfoldable pub badNodeAt : List ℕ → ℕ → Bool
-badNodeAt image i = (not (eqb (parentOf image i) noParent) && leb (nodes image) (parentOf image i)) || ltb maxFlags (flagsOf image i)
+badNodeAt image i = (not (eqb (parentOf image i) noParent) && leb (nodes image) (parentOf image i)) || ltb maxFlags (stateOf image i)
 
 -- a from or a to that does not exist, or a kind above 4
 unfoldable pub badRelationAt : List ℕ → ℕ → Bool

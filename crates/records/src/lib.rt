@@ -2,10 +2,11 @@
 ghost use mathlib.Core.Path.{_≡_};
 ghost use Prim.Native.Nat.{_+_, _*_, _≤_, _<_};
 ghost use lib.ListN.{length};
-ghost use Rattle.paper.specs.Limits.{maxNodes, maxRelations, chartHeader, nodeSize, relationSize};
+ghost use Rattle.paper.specs.Limits.{maxNodes, maxRelations, chartHeader, nodeSize, flagsByte, relationSize};
 ghost use Rattle.sets.specs.Below.{first};
-ghost use Rattle.records.specs.Image.{nodes, relations, nodeAt, parentOf, flagsOf, relationAt, fromOf, toOf, kindOf, outOfRange, misplaced, badNodeAt, badRelationAt, Whole};
+ghost use Rattle.records.specs.Image.{nodes, relations, nodeAt, parentOf, flagsOf, stateOf, rolesAt, relationAt, fromOf, toOf, kindOf, outOfRange, misplaced, badNodeAt, badRelationAt, Whole};
 use paper::CHART_HEADER;
+use paper::FLAGS_BYTE;
 use paper::KINDS;
 use paper::MAX_FLAGS;
 use paper::MAX_NODES;
@@ -40,6 +41,22 @@ pub fn flags_of(image: &[u8], i: usize) -> u16
     ensures { λ r. ⌜ r ≡ flagsOf (now (image .entry)) i ⌝ }
 {
     wire::u16_at(image, CHART_HEADER + NODE_SIZE * i + 2)
+}
+
+// The lower byte of the flags.
+pub fn state_of(image: &[u8], i: usize) -> u16
+    requires { ⌜ nodeAt i + nodeSize ≤ length (now image) ⌝ }
+    ensures { λ r. ⌜ r ≡ stateOf (now (image .entry)) i ⌝ }
+{
+    flags_of(image, i) % FLAGS_BYTE
+}
+
+// The upper byte of the flags.
+pub fn roles_of(image: &[u8], i: usize) -> u8
+    requires { ⌜ nodeAt i + nodeSize ≤ length (now image) ⌝ }
+    ensures { λ r. ⌜ (r ≡ rolesAt (now (image .entry)) i) × (r < flagsByte) ⌝ }
+{
+    (flags_of(image, i) / FLAGS_BYTE) as u8
 }
 
 fn relation_at(n: usize, k: usize) -> usize
@@ -97,7 +114,7 @@ fn bad_node_at(image: &[u8], n: usize, i: usize) -> bool
     ensures { λ r. ⌜ r ≡ badNodeAt (now (image .entry)) i ⌝ }
 {
     let parent = parent_of(image, i);
-    (parent != NO_PARENT) & (n <= parent as usize) | (MAX_FLAGS < flags_of(image, i))
+    (parent != NO_PARENT) & (n <= parent as usize) | (MAX_FLAGS < state_of(image, i))
 }
 
 // The lowest node whose record is bad, or n.

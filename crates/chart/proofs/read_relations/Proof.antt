@@ -15,14 +15,26 @@ read-relations-spec =
     (λ c. search needs)
     (λ c κs. search needs)
     (λ c. relations-bad (c .before .before .before .before .before .before .before .before .before .pre) (c .before .before .gather .ensures .0) (c .refuse .ensures) (c .before .if1 .taken))
-    (λ c κs. (search needs, search needs, search needs, c .before .before .before .gather .ensures .1 (c .before .before .if1 .left) .size))
+    (λ c κs. (search needs, search needs, search needs, c .before .before .before .before .gather .ensures .1 (c .before .before .before .if1 .left) .size, search needs))
     (λ c κs. search needs)
     (λ c κs. search needs)
     (λ c κs. search needs)
     (λ c. search needs)
     (λ c κs. search needs)
-    (λ c. relations-conflict (c .before .before .before .before .before .before .before .before .before .before .before .before .before .before .before .before .before .before .pre) (c .before .before .before .before .before .before .before .before .before .before .before .gather .ensures .0) (c .before .before .before .before .before .before .before .before .before .before .if1 .left) (c .before .before .before .before .before .before .before .before .before .before .before .before .before .before .before .before .event-nodes .ensures) (c .before .before .before .before .before .before .before .before .before .before .before .before .before .before .members .ensures) (c .before .before .before .before .before .before .before .before .before .before .before .gather .ensures .1 (c .before .before .before .before .before .before .before .before .before .before .if1 .left)) (c .before .before .before .before .before .before .before .flatten .ensures) (c .before .before .before .before .before .first-conflict .ensures) (c .before .before .before .before .if2 .taken) (c .before .before .both-at .ensures) (c .before .least .ensures) (c .refuse2 .ensures))
+    (λ c. let f = c .before .before .before .before .before .before .before in
+    let b = f .before .before .before .before in
+    let a = b .before .before .before .before .before .before in
+    relations-conflict (a .before .before .pre) (b .before .gather .ensures .0) (b .if1 .left) (a .event-nodes .ensures) (b .before .before .before .before .members .ensures)
+    (b .before .gather .ensures .1 (b .if1 .left)) (f .flatten .ensures .0) (c .before .before .before .before .before .first-conflict .ensures) (c .before .before .before .before .if2 .taken)
+    (c .before .before .both-at .ensures) (c .before .least .ensures) (c .refuse2 .ensures))
+    (λ c κs. let b = c .before .before .before .before .before .before .before .before in
+    let a = b .before .before .before .before .before .before in
+    (a .before .before .pre .few, flags-in (a .before .before .pre) (a .event-nodes .ensures)))
     (λ c κs. search needs)
-    (λ c κs. search needs)
-    (λ c κs. (c .before .before .before .before .before .before .before .before .before .before .before .before .before .before .before .before .before .before .pre .few, flags-in (c .before .before .before .before .before .before .before .before .before .before .before .before .before .before .before .before .before .before .pre) (c .before .before .before .before .before .before .before .before .before .before .before .before .before .before .before .before .event-nodes .ensures)))
-    (λ c. relations-on (c .before .before .before .before .before .before .before .before .before .before .before .before .before .before .before .before .before .before .before .pre) (c .before .before .before .before .before .before .before .before .before .before .before .before .gather .ensures .0) (c .before .before .before .before .before .before .before .before .before .before .before .if1 .left) (c .before .before .before .before .before .before .before .before .before .before .before .before .before .before .before .before .before .event-nodes .ensures) (c .before .before .before .before .before .before .before .before .before .before .before .before .before .before .before .members .ensures) (c .before .before .before .before .before .before .before .before .before .before .before .before .gather .ensures .1 (c .before .before .before .before .before .before .before .before .before .before .before .if1 .left)) (c .before .before .before .before .before .before .before .before .flatten .ensures) (c .before .before .before .before .before .before .first-conflict .ensures) (c .before .before .before .before .before .if2 .left) (c .before .before .before .before .granted .ensures) (c .before .before .flat-chart .ensures) (c .start-marking .ensures)))
+    (λ c κs. c .before .before .before .before .before .before .before .before .before .before .before .before .before .before .before .before .before .before .before .before .pre .few)
+    (λ c. let f = c .before .before .before .before .before .before .before .before .before in
+    let b = f .before .before .before .before in
+    let a = b .before .before .before .before .before .before in
+    relations-on (a .before .before .pre) (b .before .gather .ensures .0) (b .if1 .left) (a .event-nodes .ensures) (b .before .before .before .before .members .ensures)
+    (b .before .gather .ensures .1 (b .if1 .left)) (f .flatten .ensures .0) (c .before .before .before .before .before .before .before .first-conflict .ensures) (f .flatten .ensures .1)
+    (c .before .before .before .before .before .before .if2 .left) (c .before .before .before .granted .ensures) (c .flat-chart .ensures) (c .before .before .before .before .start-marking .ensures)))
