@@ -88,10 +88,10 @@ pub record Demand1 : Type 0 where
   pub read : (image : List ℕ) → Outcome image (reading image .answer)
   pub readOnly : (image : List ℕ) (a : Answer) → Outcome image a → a ≡ reading image .answer
   pub readRefused : (image : List ℕ) → (reading image .answer .code ≡ 0 → ⊥) → reading image ≡ refused (reading image .answer)
-  -- executing: 14, 10, 11, 12, 13; a refused step returns its marking
-  pub execute : (c : FlatChart) (m : Marking) (e : ℕ) → Executes c m e (executing c m e)
-  pub executeOnly : (c : FlatChart) (m : Marking) (e : ℕ) (s : Step) → Executes c m e s → s ≡ executing c m e
-  pub executeRefused : (c : FlatChart) (m : Marking) (e : ℕ) → (executing c m e .answer .code ≡ 0 → ⊥) → executing c m e .marking ≡ m
+  -- executing: 14, 10, 32, 11, 12, 13; a refused step returns its marking
+  pub execute : (c : FlatChart) (m : Marking) (e r : ℕ) → Executes c m e r (executing c m e r)
+  pub executeOnly : (c : FlatChart) (m : Marking) (e r : ℕ) (s : Step) → Executes c m e r s → s ≡ executing c m e r
+  pub executeRefused : (c : FlatChart) (m : Marking) (e r : ℕ) → (executing c m e r .answer .code ≡ 0 → ⊥) → executing c m e r .marking ≡ m
   -- counting: 14; a refused count is 0 and 64
   pub count : (c : FlatChart) (m : Marking) → CountsOpen c m (counting c m)
   pub countOnly : (c : FlatChart) (m : Marking) (r : OpenCount) → CountsOpen c m r → r ≡ counting c m
@@ -131,7 +131,7 @@ demand-1 =
       readOnly = λ image a o. sym (judged image a .0 o);
       readRefused = refused-empty;
       execute = executes;
-      executeOnly = λ c m e s x. executes-only c m e x;
+      executeOnly = λ c m e r s x. executes-only c m e x;
       executeRefused = refused-kept;
       count = counts-open;
       countOnly = λ c m r x. counts-only c m x;

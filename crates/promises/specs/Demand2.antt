@@ -1,5 +1,6 @@
 -- Demand 2: from a marking and its matching snapshot, chart and derived book grant exactly the same events, and they match again after every
--- step of every sequence. Stated of what the calls give: derive, check, matching, execute and complete. Assumes nothing.
+-- step of every sequence; by request (i) "for steps by a permitted role". Stated of what the calls give: derive, check, matching, execute and complete.
+-- Assumes nothing.
 use Prim.Native.Nat.{ℕ, _*_, _≤_, _<_}
 use mathlib.Core.Path.{_≡_, refl, sym, ap, subst, fun-ext, _∙_}
 use mathlib.Core.Bool.{Bool, true}
@@ -10,14 +11,15 @@ use lib.ListN.{length, take, drop}
 use lib.Dec.{eqb}
 use lib.Seq.{take-at}
 use borrow.Author.Tests.{le-leb, eqb-true, eqb-false}
-use Rattle.paper.specs.Limits.{maxMarks}
+use Rattle.paper.specs.Limits.{maxMarks, notPermitted}
 use Rattle.paper.specs.Answers.{granted}
 use Rattle.paper.specs.declared.Answer.{Answer}
 use Rattle.sets.specs.Cases.{cases}
-use Rattle.graph.specs.Chart.{Fit, FitMarking}
+use Rattle.graph.specs.Chart.{rolesOf, Fit, FitMarking}
+use Rattle.graph.specs.Roles.{Permits}
 use Rattle.graph.specs.Fitness.{fit-tested}
-use Rattle.graph.specs.Steps.{isOpen, after, executing, granting}
-use Rattle.graph.specs.Execution.{Enabled, isDone, open-enabled, granted-enabled, after-executed, executes-only, refused-kept, after-fit, step-fit}
+use Rattle.graph.specs.Steps.{isOpen, after, executing, refusing, granting}
+use Rattle.graph.specs.Execution.{Enabled, isForbidden, isDone, open-enabled, granted-enabled, after-executed, executes-only, refused-kept, after-fit, step-fit}
 use Rattle.graph.specs.declared.FlatChart.{FlatChart}
 use Rattle.graph.specs.declared.Marking.{Marking}
 use Rattle.book.specs.Text.{Snap, snapOf}
@@ -106,29 +108,29 @@ module _ (c : FlatChart) (fit : Fit c) where
     -- ---- one step
 
     -- the order may be any fit one
-    module _ (l : List ℕ) (fitOrder : order.Fit (rulesOf (derivedImage c)) l) (e : ℕ) where
+    module _ (l : List ℕ) (fitOrder : order.Fit (rulesOf (derivedImage c)) l) (e r : ℕ) where
       passes : Passes (derivedImage c)
       passes = derived-passed (rulesIn (derivedImage c)) (omega arith)
 
-      -- chart and book grant the same event
-      pub same-grants : (executing c m e .answer .code ≡ 0) ↔ (completing (derivedImage c) l (matchingOf c m .snapshot) e .answer .code ≡ 0)
-      same-grants = (
-        λ g. let t = granted-enabled c m e .0 g in
-            ap (λ (a : Answer). a .code) (completes (derivedImage c) passes (matchingOf c m .snapshot) e (opened e (t .0 .exists) (t .1)) l fitOrder .granted),
+      -- chart and book grant the same event, if the role may
+      pub same-grants : Permits (rolesOf c e) r → (executing c m e r .answer .code ≡ 0) ↔ (completing (derivedImage c) l (matchingOf c m .snapshot) e .answer .code ≡ 0)
+      same-grants p = (
+        λ g. let t = granted-enabled c m e r .0 g in
+            ap (λ (a : Answer). a .code) (completes (derivedImage c) passes (matchingOf c m .snapshot) e (opened e (t .0 .stands .exists) (t .1)) l fitOrder .granted),
         λ g. let o = granted-only (derivedImage c) l (matchingOf c m .snapshot) e (rw matches matching-long) g .2 in
             let h : e < c .count = rw stages-are at (o .known) in
             let y : snapOf (matchingMarks c m) e ≡ true = rw matches at (o .yes) in
-            granted-enabled c m e .1 (
-              record { chart = fit; marking = marked; exists = h },
+            granted-enabled c m e r .1 (
+              record { stands = record { chart = fit; marking = marked; exists = h }; permitted = p },
               open-enabled c m e .0 (sym (stage-open e h) ∙ y),
             ),
       )
 
       -- where both grant, the book's snapshot matches the chart's next marking
-      matched-after : executing c m e .answer .code ≡ 0 → completing (derivedImage c) l (matchingOf c m .snapshot) e .snapshot .marks ≡ matchingMarks c (after c m e)
+      matched-after : executing c m e r .answer .code ≡ 0 → completing (derivedImage c) l (matchingOf c m .snapshot) e .snapshot .marks ≡ matchingMarks c (after c m e)
       matched-after g =
-          let t = granted-enabled c m e .0 g in
-          let h : e < c .count = t .0 .exists in
+          let t = granted-enabled c m e r .0 g in
+          let h : e < c .count = t .0 .stands .exists in
           let o = opened e h (t .1) in
           let k = completes (derivedImage c) passes (matchingOf c m .snapshot) e o l fitOrder in
           at-same (completing (derivedImage c) l (matchingOf c m .snapshot) e .snapshot .marks) (matchingMarks c (after c m e))
@@ -148,21 +150,21 @@ module _ (c : FlatChart) (fit : Fit c) where
               (subst (λ (S : Snap). Settled (netOf D) (actsOf D S e) S F) (sym q) (derived-settled c fit m e h))
 
       -- after the step, granted or refused, they match again, and the marking is fit
-      pub fit-again : FitMarking (c .count) (executing c m e .marking)
+      pub fit-again : FitMarking (c .count) (executing c m e r .marking)
       fit-again =
-          cases (eqb (executing c m e .answer .code) 0)
-          (λ g. step-fit c m e (eqb-true _ 0 g))
-          (λ g. rw (refused-kept c m e (eqb-false _ 0 g)) marked)
+          cases (eqb (executing c m e r .answer .code) 0)
+          (λ g. step-fit c m e r (eqb-true _ 0 g))
+          (λ g. rw (refused-kept c m e r (eqb-false _ 0 g)) marked)
 
-      pub match-again : completing (derivedImage c) l (matchingOf c m .snapshot) e .snapshot ≡ matchingOf c (executing c m e .marking) .snapshot
-      match-again =
-          cases (eqb (executing c m e .answer .code) 0)
+      pub match-again : Permits (rolesOf c e) r → completing (derivedImage c) l (matchingOf c m .snapshot) e .snapshot ≡ matchingOf c (executing c m e r .marking) .snapshot
+      match-again p =
+          cases (eqb (executing c m e r .answer .code) 0)
           (λ g. let z = eqb-true _ 0 g in
-          let t = granted-enabled c m e .0 z in
-          let n : executing c m e ≡ granting (after c m e) = sym (executes-only c m e (isDone (t .0) (t .1) (after-executed c m e))) in
-          rw n (rw (matches-after (t .0 .exists)) (ap (λ (k : List Bool). whole k) (matched-after z))))
+          let t = granted-enabled c m e r .0 z in
+          let n : executing c m e r ≡ granting (after c m e) = sym (executes-only c m e (isDone (t .0) (t .1) (after-executed c m e))) in
+          rw n (rw (matches-after (t .0 .stands .exists)) (ap (λ (k : List Bool). whole k) (matched-after z))))
           (λ g. let z = eqb-false _ 0 g in
-          rw (refused-kept c m e z) (refusal-hands-back (derivedImage c) l (matchingOf c m .snapshot) e (λ y. z (same-grants .1 y))))
+          rw (refused-kept c m e r z) (refusal-hands-back (derivedImage c) l (matchingOf c m .snapshot) e (λ y. z (same-grants p .1 y))))
         where
           whole : List Bool → Snapshot
           whole k = record { marks = k }
@@ -170,19 +172,30 @@ module _ (c : FlatChart) (fit : Fit c) where
           matches-after : e < c .count → matchingOf c (after c m e) ≡ record { answer = granted; snapshot = record { marks = matchingMarks c (after c m e) } }
           matches-after h = matched c (after c m e) fit (after-fit c m e fit marked h)
 
+      -- a role that may not is refused, and the marking stays
+      pub forbids : (Permits (rolesOf c e) r → ⊥) → e < c .count → executing c m e r ≡ refusing notPermitted 0 m
+      forbids n h = sym (executes-only c m e (isForbidden (record { chart = fit; marking = marked; exists = h }) n))
+
 -- ---- every step of every sequence
 
--- along the events: chart and book grant the same ones, the book's snapshot matches the chart's marking after each, and so on from there
-abbrev pub Alike : FlatChart → List ℕ → Marking → List ℕ → Type 0
-Alike c l m [] = Unit {0}
-Alike c l m (e ∷ events) =
-    ((executing c m e .answer .code ≡ 0) ↔ (completing (derivedImage c) l (matchingOf c m .snapshot) e .answer .code ≡ 0))
-    × (completing (derivedImage c) l (matchingOf c m .snapshot) e .snapshot ≡ matchingOf c (executing c m e .marking) .snapshot)
-    × Alike c l (executing c m e .marking) events
+-- one step by one role: where it is permitted, chart and book grant the same, and the book's snapshot matches the chart's next marking; where it is
+-- not, the chart refuses with 32 and the marking stays
+pub record Agrees (c : FlatChart) (l : List ℕ) (m : Marking) (e r : ℕ) : Type 0 where
+  pub grants : Permits (rolesOf c e) r → (executing c m e r .answer .code ≡ 0) ↔ (completing (derivedImage c) l (matchingOf c m .snapshot) e .answer .code ≡ 0)
+  pub matches : Permits (rolesOf c e) r → completing (derivedImage c) l (matchingOf c m .snapshot) e .snapshot ≡ matchingOf c (executing c m e r .marking) .snapshot
+  pub refuses : (Permits (rolesOf c e) r → ⊥) → e < c .count → executing c m e r ≡ refusing notPermitted 0 m
 
-pub alike : (c : FlatChart) → Fit c → (l : List ℕ) → order.Fit (rulesOf (derivedImage c)) l → (m : Marking) → FitMarking (c .count) m → (events : List ℕ) → Alike c l m events
+-- along the steps, each an event and a role, from each marking to the next
+abbrev pub Alike : FlatChart → List ℕ → Marking → List (ℕ × ℕ) → Type 0
+Alike c l m [] = Unit {0}
+Alike c l m (s ∷ steps) = Agrees c l m (s .0) (s .1) × Alike c l (executing c m (s .0) (s .1) .marking) steps
+
+pub alike : (c : FlatChart) → Fit c → (l : List ℕ) → order.Fit (rulesOf (derivedImage c)) l → (m : Marking) → FitMarking (c .count) m → (steps : List (ℕ × ℕ)) → Alike c l m steps
 alike c t l f m k [] = tt
-alike c t l f m k (e ∷ events) = (same-grants c t m k l f e, match-again c t m k l f e, alike c t l f (executing c m e .marking) (fit-again c t m k l f e) events)
+alike c t l f m k (s ∷ steps) = (
+  record { grants = same-grants c t m k l f (s .0) (s .1); matches = match-again c t m k l f (s .0) (s .1); refuses = forbids c t m k l f (s .0) (s .1) },
+  alike c t l f (executing c m (s .0) (s .1) .marking) (fit-again c t m k l f (s .0) (s .1)) steps,
+)
 
 -- ---- through the calls
 
@@ -199,8 +212,8 @@ pub record Demand2 (c : FlatChart) (bytes room : List ℕ) : Type 0 where
   pub writes : written c bytes ≡ derivedImage c
   -- the check passes it
   pub passes : checking (written c bytes) (length room) ≡ granted
-  -- from any fit marking and its matching snapshot, along any sequence of events, in the order that the check wrote
-  pub agrees : (m : Marking) → FitMarking (c .count) m → (events : List ℕ) → Alike c (ordered (written c bytes) room) m events
+  -- from any fit marking and its matching snapshot, along any sequence of steps, in the order that the check wrote
+  pub agrees : (m : Marking) → FitMarking (c .count) m → (steps : List (ℕ × ℕ)) → Alike c (ordered (written c bytes) room) m steps
 
 pub demand-2 : (c : FlatChart) → Fit c → (bytes room : List ℕ) → length (derivedImage c) ≤ length bytes → rulesIn (derivedImage c) ≤ length room → Demand2 c bytes room
 demand-2 c t bytes room h k =
@@ -210,5 +223,5 @@ demand-2 c t bytes room h k =
       derives = g .0;
       writes = g .1;
       passes = rw (g .1) p;
-      agrees = λ m f events. rw (g .1) (alike c t (ordered (derivedImage c) room) (written-fit (derivedImage c) room (ap (λ (a : Answer). a .code) p)) m f events);
+      agrees = λ m f steps. rw (g .1) (alike c t (ordered (derivedImage c) room) (written-fit (derivedImage c) room (ap (λ (a : Answer). a .code) p)) m f steps);
     }

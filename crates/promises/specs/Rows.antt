@@ -3,17 +3,20 @@ use Prim.Native.Nat.{ℕ, _≤_, _<_}
 use mathlib.Core.Path.{_≡_, refl, sym, ap, ap₂, subst, _∙_}
 use mathlib.Core.Bool.{true, false}
 use mathlib.Core.List.{List, [], _∷_}
+use mathlib.Core.Logic.{inl}
 use native.Mathlib.Omega.{arith}
 use lib.ListN.{length, getD, set, replicate}
 use lib.Count.{trailingZeros}
-use Rattle.paper.specs.Limits.{maxMarks, conditionWanting, includeExclude, loopFound, orderUnfit, stageClosed}
+use Rattle.paper.specs.Limits.{maxEvents, maxMarks, conditionWanting, includeExclude, loopFound, orderUnfit, stageClosed}
 use Rattle.paper.specs.Limits as limit
 use Rattle.paper.specs.Answers.{answer, granted, refusal}
 use Rattle.paper.specs.declared.Answer.{Answer}
 use Rattle.sets.specs.Set.{has}
-use Rattle.graph.specs.Chart.{Fit, FitMarking}
-use Rattle.graph.specs.Tests.{rowSpill, spillAt, spillOf, fitTables, fitChart, fitMarking, fit}
-use Rattle.graph.specs.Steps.{openWith, unmetOf, awaitedOf, afterWith, stepping, executing, refusing, granting, finishing}
+use Rattle.sets.specs.Tables.{zeros-at}
+use Rattle.graph.specs.Chart.{rolesOf, Fit, FitMarking}
+use Rattle.graph.specs.Tests.{rowSpill, spillAt, spillOf, rolesFrom, fitTables, fitChart, fitMarking, fit}
+use Rattle.graph.specs.Roles.{Permits, permits}
+use Rattle.graph.specs.Steps.{openWith, unmetOf, awaitedOf, afterWith, stepping, steppingBy, executing, refusing, granting, finishing}
 use Rattle.graph.specs.Rows.{none, pair, marking}
 use Rattle.graph.specs.Rows as graph
 use Rattle.graph.specs.declared.FlatChart.{FlatChart}
@@ -54,10 +57,10 @@ use Rattle.promises.specs.Demand1.{demand-1}
 module _ (r : Reading) where
   -- the markings after event 0, and then 1
   abbrev pub after0 : Marking
-  after0 = executing (r .chart) (r .marking) 0 .marking
+  after0 = executing (r .chart) (r .marking) 0 0 .marking
 
   abbrev pub after1 : Marking
-  after1 = executing (r .chart) after0 1 .marking
+  after1 = executing (r .chart) after0 1 0 .marking
 
   -- the matching snapshot is granted, and worth so much
   abbrev pub Worth : Marking → ℕ → Type 0
@@ -65,11 +68,11 @@ module _ (r : Reading) where
 
   pub record OnChart : Type 0 where
     -- "P1: the chart's start matches 113. Executing 1 gives 12, place 0."
-    pub p1 : Worth (r .marking) 113 × (executing (r .chart) (r .marking) 1 ≡ refusing conditionWanting 0 (r .marking))
+    pub p1 : Worth (r .marking) 113 × (executing (r .chart) (r .marking) 1 0 ≡ refusing conditionWanting 0 (r .marking))
     -- "P2: after 0: 119."
-    pub p2 : (executing (r .chart) (r .marking) 0 .answer ≡ granted) × Worth after0 119
+    pub p2 : (executing (r .chart) (r .marking) 0 0 .answer ≡ granted) × Worth after0 119
     -- "P3: then 1: 238, finished."
-    pub p3 : (executing (r .chart) after0 1 .answer ≡ granted) × Worth after1 238 × (finishing (r .chart) after1 ≡ record { answer = granted; yes = true })
+    pub p3 : (executing (r .chart) after0 1 0 .answer ≡ granted) × Worth after1 238 × (finishing (r .chart) after1 ≡ record { answer = granted; yes = true })
 
   -- the same by completions of a book along an order, from the snapshot that matching gives
   module _ (book order : List ℕ) where
@@ -103,10 +106,10 @@ pub record Rows : Type 0 where
   pub onChart : OnChart (reading wholeChart)
   pub byBook : (bytes room : List ℕ) → 162 ≤ length bytes → 10 ≤ length room → ByBook (reading wholeChart) bytes room
   -- "P4: an event that is its own response is pending after it ran."
-  pub p4 : executing (pair none (set none 0 1) none) (marking 0 0 1) 0 ≡ granting (marking 1 1 1)
+  pub p4 : executing (pair none (set none 0 1) none) (marking 0 0 1) 0 0 ≡ granting (marking 1 1 1)
   -- "P5: an excluded, unexecuted condition doesn't block. P6: nor an excluded pending milestone."
-  pub p5 : executing (pair (set none 1 1) none none) (marking 0 0 2) 1 ≡ granting (marking 2 0 2)
-  pub p6 : executing (pair none none (set none 1 1)) (marking 0 1 2) 1 ≡ granting (marking 2 1 2)
+  pub p5 : executing (pair (set none 1 1) none none) (marking 0 0 2) 1 0 ≡ granting (marking 2 0 2)
+  pub p6 : executing (pair none none (set none 1 1)) (marking 0 1 2) 1 0 ≡ granting (marking 2 1 2)
   -- "P7: group 0 with members 1, 2 is condition of 3: events 0 and 1 are conditions of 2."
   pub p7 : (reading groupChart .answer ≡ granted) × (reading groupChart .chart .conditions ≡ 0 ∷ (0 ∷ (3 ∷ replicate 61 0)))
   -- "P8: node 3 includes that group, excludes node 1: code 9, places 2, 0."
@@ -129,7 +132,7 @@ whole-is = examples.rows .whole
 
 -- and stage 1 is closed at the start
 on-chart : OnChart (reading wholeChart) × (snapOf (matchingOf (reading wholeChart .chart) (reading wholeChart .marking) .snapshot .marks) 1 ≡ false)
-unfolding matchingOf matchingMarks openWith worth executing stepping fit fitChart fitMarking fitTables spillOf spillAt rowSpill has unmetOf awaitedOf afterWith trailingZeros finishing flat
+unfolding matchingOf matchingMarks openWith worth executing steppingBy stepping permits fit fitChart fitMarking fitTables rolesFrom spillOf spillAt rowSpill has unmetOf awaitedOf afterWith trailingZeros finishing flat
 on-chart =
     subst (λ (r : Reading). OnChart r × (snapOf (matchingOf (r .chart) (r .marking) .snapshot .marks) 1 ≡ false)) (sym whole-is)
     (record { p1 = ((refl, refl), refl); p2 = (refl, (refl, refl)); p3 = (refl, (refl, refl), refl) }, refl)
@@ -184,15 +187,21 @@ module _ (bytes room : List ℕ) (h : 162 ≤ length bytes) (k : 10 ≤ length r
   abbrev l : List ℕ
   l = ordered (written c bytes) room
 
-  -- along 0 and then 1
-  along : Alike c l m (0 ∷ (1 ∷ []))
-  along = met .agrees m (fits .1) (0 ∷ (1 ∷ []))
+  -- along 0 and then 1, by role 0, since the chart names none
+  along : Alike c l m ((0, 0) ∷ ((1, 0) ∷ []))
+  along = met .agrees m (fits .1) ((0, 0) ∷ ((1, 0) ∷ []))
+
+  anyone : (e : ℕ) → Permits (rolesOf c e) 0
+  anyone e = record { known = omega arith; open-or-named = inl (ap (λ (r : Reading). rolesOf (r .chart) e) whole-is ∙ zeros-at maxEvents e) }
+
+  matched1 : completing s l (matchingOf c m .snapshot) 0 .snapshot ≡ matchingOf c (after0 (reading wholeChart)) .snapshot
+  matched1 = along .0 .matches (anyone 0)
 
   granted0 : completing s l (matchingOf c m .snapshot) 0 .answer .code ≡ 0
-  granted0 = along .0 .0 (ap (λ (a : Answer). a .code) (on-chart .0 .p2 .0))
+  granted0 = along .0 .grants (anyone 0) .0 (ap (λ (a : Answer). a .code) (on-chart .0 .p2 .0))
 
   granted1 : completing s l (completing s l (matchingOf c m .snapshot) 0 .snapshot) 1 .answer .code ≡ 0
-  granted1 = rw (along .1) (along .2 .0 .0 (ap (λ (a : Answer). a .code) (on-chart .0 .p3 .0)))
+  granted1 = rw matched1 (along .1 .0 .grants (anyone 1) .0 (ap (λ (a : Answer). a .code) (on-chart .0 .p3 .0)))
 
   closed : completing s l (matchingOf c m .snapshot) 1 ≡ record { answer = refusal stageClosed; snapshot = matchingOf c m .snapshot }
   closed =
@@ -205,10 +214,10 @@ module _ (bytes room : List ℕ) (h : 162 ≤ length bytes) (k : 10 ≤ length r
   on-book : OnBook (reading wholeChart) s l
   on-book =
       let u : Snapshot = completing s l (matchingOf c m .snapshot) 0 .snapshot in
-      let next : completing s l u 1 .snapshot ≡ matchingOf c (after1 (reading wholeChart)) .snapshot = rw (along .1) (along .2 .1) in
+      let next : completing s l u 1 .snapshot ≡ matchingOf c (after1 (reading wholeChart)) .snapshot = rw matched1 (along .1 .0 .matches (anyone 1)) in
       record {
         p1 = closed;
-        p2 = (zero-granted s l (matchingOf c m .snapshot) 0 granted0, ap (λ (x : Snapshot). worth (x .marks)) (along .1) ∙ on-chart .0 .p2 .1 .1);
+        p2 = (zero-granted s l (matchingOf c m .snapshot) 0 granted0, ap (λ (x : Snapshot). worth (x .marks)) matched1 ∙ on-chart .0 .p2 .1 .1);
         p3 = (zero-granted s l u 1 granted1, ap (λ (x : Snapshot). worth (x .marks)) next ∙ on-chart .0 .p3 .1 .1);
       }
 

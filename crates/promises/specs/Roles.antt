@@ -1,0 +1,125 @@
+-- Request (i), of what reading and executing give: an event that names roles is never executed by another, along any sequence of steps; and stored
+-- charts, which name none, read and step as they did. Assumes nothing.
+use Prim.Native.Nat.{ℕ, zero, suc, _+_, _-_, _<_}
+use mathlib.Core.Path.{_≡_, refl, sym, ap, _∙_}
+use mathlib.Core.Bool.{Bool, not, cond, _&&_, and-true}
+use mathlib.Core.Logic.{inl, ⊎-elim}
+use mathlib.Core.List.{List, [], _∷_}
+use native.Mathlib.Omega.{arith}
+use lib.ListN.{getD, replicate}
+use lib.Dec.{eqb, leb}
+use borrow.Author.Tests.{eq-eqb}
+use Rattle.paper.specs.Limits.{maxEvents, maxRoles, noSuchEvent, notPermitted, unfit}
+use Rattle.sets.specs.Cases.{contra}
+use Rattle.sets.specs.Set.{has}
+use Rattle.sets.specs.Laws.{has-empty, has-union, none-zero}
+use Rattle.sets.specs.Tables.{zeros-at}
+use Rattle.graph.specs.Chart.{rolesOf, Fit, FitMarking}
+use Rattle.graph.specs.Tests.{spillOf, rolesFrom, fitMarking, fitTables, fitChart, fit}
+use Rattle.graph.specs.Roles.{Permits, permits-so}
+use Rattle.graph.specs.Steps.{rowOf, refusing, stepping, steppingBy, executing}
+use Rattle.graph.specs.Execution.{granted-enabled, executes-only, isForbidden, refused-kept}
+use Rattle.graph.specs.declared.FlatChart.{FlatChart}
+use Rattle.graph.specs.declared.Marking.{Marking}
+use Rattle.graph.specs.declared.steps.Step.{Step}
+use Rattle.flattening.specs.Flattening.{flatChart}
+use Rattle.chart.specs.Reading.{reading}
+use Rattle.chart.specs.Given.{Names, granted-right, reading-names, reading-fit}
+use Rattle.chart.specs.Stored.{Plain, readingBefore, reads-as-before, all-open}
+use Rattle.chart.specs.declared.Reading.{Reading}
+
+-- ---- along a sequence of steps, each an event and a role: no step of event e by role r is granted, and none changes the marking
+abbrev pub Never : FlatChart → ℕ → ℕ → Marking → List (ℕ × ℕ) → Type 0
+Never c e r m [] = Unit {0}
+Never c e r m (s ∷ steps) =
+    (s .0 ≡ e → s .1 ≡ r → (executing c m e r .answer .code ≡ 0 → ⊥) × (executing c m e r .marking ≡ m))
+    × Never c e r (executing c m (s .0) (s .1) .marking) steps
+
+module _ (c : FlatChart) (e r : ℕ) (no : Permits (rolesOf c e) r → ⊥) where
+  pub not-granted : (m : Marking) → executing c m e r .answer .code ≡ 0 → ⊥
+  not-granted m g = no (granted-enabled c m e r .0 g .0 .permitted)
+
+  pub never : (m : Marking) (steps : List (ℕ × ℕ)) → Never c e r m steps
+  never m [] = tt
+  never m (s ∷ steps) = (λ _ _. (not-granted m, refused-kept c m e r (not-granted m)), never (executing c m (s .0) (s .1) .marking) steps)
+
+  pub told-32 : (m : Marking) → Fit c → FitMarking (c .count) m → e < c .count → executing c m e r ≡ refusing notPermitted 0 m
+  told-32 m f t h = sym (executes-only c m e (isForbidden (record { chart = f; marking = t; exists = h }) no))
+
+-- ---- the buyer's sentence, through the bytes
+
+pub record Buyer (image : List ℕ) (e r : ℕ) : Type 0 where
+  -- from no marking, along no sequence of steps, is e executed by r
+  pub never : (m : Marking) (steps : List (ℕ × ℕ)) → Never (reading image .chart) e r m steps
+  -- and where the marking is fit it is told 32
+  pub told : (m : Marking) → FitMarking (reading image .chart .count) m → executing (reading image .chart) m e r ≡ refusing notPermitted 0 m
+
+-- if an accepted chart's event names roles and r is not among them
+pub buyer : (image : List ℕ) → reading image .answer .code ≡ 0 → (e s r : ℕ) → Names image e s → (Names image e r → ⊥) → Buyer image e r
+unfolding flatChart
+buyer image ok e s r named other =
+    record {
+      never = never (reading image .chart) e r no;
+      told = λ m t. told-32 (reading image .chart) e r no m (fits .0) t there;
+    }
+  where
+    fits : Fit (reading image .chart) × FitMarking (reading image .chart .count) (reading image .marking)
+    fits = reading-fit image ok
+
+    there : e < reading image .chart .count
+    there = rw (ap (λ (x : Reading). x .chart .count) (granted-right image ok .1)) (named .event)
+
+    room : e < maxEvents
+    room = let l = there in let f = fits .0 .few in omega arith
+
+    no : Permits (rolesOf (reading image .chart) e) r → ⊥
+    no p =
+        ⊎-elim
+        (λ z. contra (reading-names image ok e s room .1 named) (ap (λ (x : ℕ). has x s) z ∙ has-empty s))
+        (λ i. other (reading-names image ok e r room .0 i)) (p .open-or-named)
+
+-- ---- charts stored before
+
+-- what a step was before it named a role, in the words of then
+unfoldable pub fitBefore : FlatChart → Marking → Bool
+fitBefore c m =
+    fitMarking (c .count) m
+    && (leb 1 (c .count) && leb (c .count) maxEvents
+    && eqb (spillOf (c .count) (c .conditions) (c .responses) (c .milestones) (c .includes) (c .excludes) maxEvents) 0)
+
+unfoldable pub executingBefore : FlatChart → Marking → ℕ → Step
+executingBefore c m e =
+    cond (not (fitBefore c m)) (refusing unfit 0 m)
+    (cond (leb (c .count) e) (refusing noSuchEvent 0 m)
+    (stepping m e (rowOf c e)))
+
+module _ (c : FlatChart) (plain : c .roles ≡ replicate maxEvents 0) where
+  unnamed : (n k : ℕ) → rolesFrom (c .roles) n k ≡ 0
+  unfolding rolesFrom
+  unnamed n zero = refl
+  unnamed n (suc k) = rw (unnamed n k, plain, zeros-at maxEvents (n + k)) (none-zero _ (λ f. has-union 0 0 f ∙ rw (has-empty f)))
+
+  fits-as-before : (m : Marking) → fit c m ≡ fitBefore c m
+  unfolding fit fitChart fitTables fitBefore
+  fits-as-before m = rw (eq-eqb _ 0 (unnamed (c .count) (maxEvents - c .count)), and-true)
+
+  -- "every step by any role 0 to 7 is what it was"
+  pub steps-as-before : (m : Marking) (e r : ℕ) → r < maxRoles → executing c m e r ≡ executingBefore c m e
+  unfolding executing steppingBy executingBefore
+  steps-as-before m e r h =
+      let z : rolesOf c e ≡ 0 = ap (λ (l : List ℕ). getD l e 0) plain ∙ zeros-at maxEvents e in
+      rw (fits-as-before m, permits-so (rolesOf c e) r .1 (record { known = h; open-or-named = inl z }))
+
+-- of a chart whose nodes have no upper bits: the reading is the one of then, and so is every step by a role 0 to 7
+pub record StoredChart (image : List ℕ) : Type 0 where
+  pub reads : reading image ≡ readingBefore image
+  pub unnamed : reading image .chart .roles ≡ replicate maxEvents 0
+  pub steps : (m : Marking) (e r : ℕ) → r < maxRoles → executing (reading image .chart) m e r ≡ executingBefore (reading image .chart) m e
+
+pub stored : (image : List ℕ) → Plain image → StoredChart image
+stored image p =
+    record {
+      reads = reads-as-before image p;
+      unnamed = all-open image p;
+      steps = steps-as-before (reading image .chart) (all-open image p);
+    }
