@@ -4,7 +4,7 @@
 # only the model knows; a request whose expected line says otherwise is a mistake here and stops the program.
 
 import ozhimka as model
-from chances import (random_chart_image, random_flat, random_nodes, random_order, random_relations, random_snapshot,
+from chances import (NO_ROLES, random_chart_image, random_flat, random_nodes, random_order, random_relations, random_snapshot,
                      sound_book)
 from ozhimka import (AND, BECOME_NO, BECOME_YES, CLEAR, COMPLETED, CONDITION, EXCLUDE, GRANTED, INCLUDE, MILESTONE, NONE, NOT,
                      OR, SET, Book, FlatChart, Marking, Rule, book_image, chart_image, on_completion, without_trigger)
@@ -61,7 +61,7 @@ def node_causes(rng):
         nodes = [FREE] * count
         nodes[n] = (parent, 4)
         yield plain(4, n), read_request(chart_image(nodes, relations))
-    for flags in (8, 9, 15, 16, 32, 64, 128, 255, 256, 32768, 65535):
+    for flags in (8, 9, 15, 16, 32, 64, 128, 255, 256 + 8, 32768 + 128, 65535):  # the lower byte is judged, whatever the upper one
         n = rng.randrange(count)
         nodes = [FREE] * count
         nodes[n] = (NONE, flags)
@@ -71,6 +71,8 @@ def node_causes(rng):
         yield plain(4, first), read_request(chart_image(nodes, relations))
     nodes = [(0, 7)] + [FREE] * (count - 2) + [(NONE, 8)]
     yield plain(4, count - 1), read_request(chart_image(nodes, relations))
+    nodes = [(NONE, 256 * 255 + 7)] * (count - 1) + [(count, 256)]  # no number of the upper byte is a fault
+    yield plain(4, count - 1), read_request(chart_image(nodes, relations))
 
     def loop_case(place, parents, flags=0):
         nodes = [FREE] * 9
@@ -79,7 +81,7 @@ def node_causes(rng):
         return plain(5, place), read_request(chart_image(nodes, [(9, 9, 9)]))
 
     for n in range(0, 9, 2):
-        yield loop_case(n, {n: n}, rng.randrange(8))  # a node that is its own parent
+        yield loop_case(n, {n: n}, rng.randrange(8) + 256 * rng.choice((0, 1, 255)))  # a node that is its own parent
     yield loop_case(2, {2: 5, 5: 2})
     yield loop_case(3, {7: 3, 3: 8, 8: 7})
     yield loop_case(4, {0: 4, 4: 6, 6: 4})  # node 0 leads into the loop and is not on it
@@ -101,6 +103,8 @@ def group_causes(rng):
     bad = [(200, 0, 0)]
     for flags in range(1, 8):
         yield plain(6, 1), read_request(chart_image([FREE, (NONE, flags), (1, 4), FREE], bad))
+        yield plain(6, 1), read_request(chart_image([FREE, (NONE, 256 * rng.randrange(1, 256) + flags), (1, 4), FREE], bad))
+    yield plain(6, 2), read_request(chart_image([(NONE, 256), (0, 512), (1, 256 + 1), (2, 4)], bad))  # groups with roles are none
     yield plain(6, 0), read_request(chart_image([(NONE, 1), (0, 2), (1, 4)], bad))
     yield plain(6, 1), read_request(chart_image([(NONE, 0), (0, 2), (1, 4)], []))
     yield plain(6, 2), read_request(chart_image([(2, 4), (3, 4), (NONE, 4), (NONE, 4)], []))
@@ -108,6 +112,7 @@ def group_causes(rng):
 
     for count in (65, 66, 100, 128):
         yield plain(7, count), read_request(chart_image([FREE] * count, bad))
+        yield plain(7, count), read_request(chart_image([(NONE, 256 * n % 65536 + 4) for n in range(count)], bad))
     for groups in (1, 2, 20, 62):
         nodes = [(NONE, 0)] * groups + [(n % groups, 4) for n in range(65)]
         yield plain(7, 65), read_request(chart_image(nodes, [(0, 1, INCLUDE), (0, 1, EXCLUDE)]))
@@ -167,6 +172,32 @@ def accepted_charts(rng):
     yield GRANTED, read_request(chart_image(everyone, [(0, 0, kind) for kind in (0, 1, 2, 4)]))
 
 
+def charts_with_roles(rng):
+    """Roles on events and on groups: an event has those of its whole chain. Charts with upper bits were refused with 4 once."""
+    for flags in range(8):
+        yield GRANTED, read_request(chart_image([(NONE, 256 * rng.choice((1, 2, 128, 255)) + flags)], []))
+    for role in range(8):  # on the event, on the group, on both, on the group's other member
+        bit = 256 << role
+        for own, above, other in ((bit, 0, 0), (0, bit, 0), (bit, bit, 0), (0, 0, bit), (bit, 256 << (role + 3) % 8, 0)):
+            yield GRANTED, read_request(chart_image([(NONE, above), (0, 4 + own), (0, 4 + other), FREE], [(0, 3, CONDITION)]))
+    # three groups above node 0, two above node 4, none above node 5; each level names other roles, or the same, or none
+    for levels in ((0, 0, 0, 0), (1, 2, 4, 8), (1, 0, 0, 0), (0, 1, 0, 0), (0, 0, 1, 0), (0, 0, 0, 1), (128, 0, 64, 0), (0, 3, 0, 6),
+                   (255, 255, 255, 255), (1, 1, 1, 1), (0, 254, 255, 1)):
+        own, near, middle, top = [256 * byte for byte in levels]
+        nodes = [(1, 4 + own), (2, near), (3, middle), (NONE, top), (2, 6), FREE]
+        yield GRANTED, read_request(chart_image(nodes, [(3, 5, CONDITION), (5, 2, INCLUDE)]))
+        yield GRANTED, read_request(chart_image(nodes[:4], []))
+    for depth in (8, 64, 127):  # a long chain, with roles at its ends or all along it
+        for at in ({depth: 1}, {0: 2}, {0: 2, depth: 4}, {n: 1 << n % 8 for n in range(depth + 1)}, {n: 16 for n in range(1, depth)}):
+            nodes = [(n + 1 if n < depth else NONE, 256 * at.get(n, 0) + (4 if n == 0 else 0)) for n in range(depth + 1)]
+            yield GRANTED, read_request(chart_image(nodes, []))
+    yield GRANTED, read_request(chart_image([(NONE, 256 * (n * 37 % 256) + 4) for n in range(64)], []))
+    everyone = [(NONE, 256 * 32)] + [(0, 4 + 256 * (n % 4)) for n in range(64)]
+    yield GRANTED, read_request(chart_image(everyone, [(0, 0, kind) for kind in (0, 1, 2, 4)]))
+    yield plain(8, 0), read_request(chart_image(everyone, [(0, 65, CONDITION)]))  # a refused chart gives no roles
+    yield plain(9, 0, 0), read_request(chart_image(everyone, [(0, 0, INCLUDE), (0, 0, EXCLUDE)]))
+
+
 # ---- flat charts and markings
 
 def small_flat():
@@ -182,6 +213,11 @@ def small_flat():
 
 def copied(chart, count=None):
     return FlatChart(chart.count if count is None else count, *[[set(entry) for entry in table] for table in chart[1:]])
+
+
+def with_roles(chart, roles):
+    """The chart with these roles, {event: roles}, and no others."""
+    return chart._replace(roles=[set(roles.get(e, ())) for e in range(64)])
 
 
 def unfit_flats(rng):
@@ -200,6 +236,11 @@ def unfit_flats(rng):
             past = model.empty_chart(count)
             past[table][e].add(f)
             yield past
+    for role in range(8):  # a role byte at the count, at the end, between; with roles below the count and without
+        count = rng.choice((1, 4, 31, 63))
+        for e, below in ((count, ()), (63, range(count)), (rng.randrange(count, 64), rng.choice(((), range(count))))):
+            yield with_roles(model.empty_chart(count), {**{f: range(8) for f in below}, e: {role}})
+    yield with_roles(small_flat(), {e: range(8) for e in range(64)})
     for e, f in ((0, 0), (0, 3), (3, 0), (2, 2)):
         both = small_flat()
         both.includes[e].add(f)
@@ -215,9 +256,9 @@ MARKING_CALLS = (count_request, finished_request, matching_request)
 
 
 def unfit_causes(rng):
-    """Code 14 by each cause in each call that gives it; it comes before 10 to 13 and 15."""
+    """Code 14 by each cause in each call that gives it; it comes before 10 to 13, 15 and 32."""
     start = Marking({0}, {1}, {0, 1, 2, 3})
-    makers = (lambda c, m: execute_request(c, m, rng.choice((0, 3, 4, 64, HUGE))),) + MARKING_CALLS
+    makers = (lambda c, m: execute_request(c, m, rng.choice((0, 3, 4, 64, HUGE)), rng.choice((0, 7, 8, HUGE))),) + MARKING_CALLS
     for chart in unfit_flats(rng):
         fit = Marking({0}, {0}, {0}) if chart.count else model.empty_marking()  # so that the chart alone is unfit
         for maker in makers:
@@ -234,43 +275,76 @@ def unfit_causes(rng):
 
 
 def step_causes(rng):
-    """Codes 10 to 13 in their order, and what does not hold an event back."""
+    """Codes 10 to 13 in their order, and what does not hold an event back: events that are open to everyone."""
+    def by_anyone(chart, marking, event):
+        return execute_request(chart, marking, event, rng.randrange(8))
+
     chart, everyone = small_flat(), {0, 1, 2, 3}
     for event in (4, 5, 63, 64, 70000, 65536, 65536 + 1, 1 << 31, HUGE):
-        yield plain(10), execute_request(chart, Marking(set(), set(), everyone), event)
+        yield plain(10), by_anyone(chart, Marking(set(), set(), everyone), event)
     full = model.empty_chart(64)
-    yield plain(10), execute_request(full, Marking(set(), set(), set(range(64))), 64)
-    yield GRANTED, execute_request(full, Marking(set(), set(), set(range(64))), 63)
-    yield plain(11), execute_request(chart, Marking(everyone, set(), {0, 1, 2}), 3)
-    yield plain(11), execute_request(chart, Marking(set(), everyone, {0, 1, 2}), 3)  # before 12 and 13
-    yield plain(12, 0), execute_request(chart, Marking(set(), set(), everyone), 3)
-    yield plain(12, 2), execute_request(chart, Marking({0}, {1, 2}, everyone), 3)  # before 13
-    yield plain(12, 2), execute_request(chart, Marking(set(), set(), {1, 2, 3}), 3)
-    yield plain(13, 1), execute_request(chart, Marking({0, 2}, {1, 2}, everyone), 3)
-    yield plain(13, 2), execute_request(chart, Marking({0, 2}, {0, 2, 3}, everyone), 3)
-    yield plain(13, 2), execute_request(chart, Marking({0, 2}, {1, 2}, {0, 2, 3}), 3)
-    yield GRANTED, execute_request(chart, Marking({0, 2}, {0, 3}, everyone), 3)
-    yield GRANTED, execute_request(chart, Marking(set(), {1}, {3}), 3)
+    yield plain(10), by_anyone(full, Marking(set(), set(), set(range(64))), 64)
+    yield GRANTED, by_anyone(full, Marking(set(), set(), set(range(64))), 63)
+    yield plain(11), by_anyone(chart, Marking(everyone, set(), {0, 1, 2}), 3)
+    yield plain(11), by_anyone(chart, Marking(set(), everyone, {0, 1, 2}), 3)  # before 12 and 13
+    yield plain(12, 0), by_anyone(chart, Marking(set(), set(), everyone), 3)
+    yield plain(12, 2), by_anyone(chart, Marking({0}, {1, 2}, everyone), 3)  # before 13
+    yield plain(12, 2), by_anyone(chart, Marking(set(), set(), {1, 2, 3}), 3)
+    yield plain(13, 1), by_anyone(chart, Marking({0, 2}, {1, 2}, everyone), 3)
+    yield plain(13, 2), by_anyone(chart, Marking({0, 2}, {0, 2, 3}, everyone), 3)
+    yield plain(13, 2), by_anyone(chart, Marking({0, 2}, {1, 2}, {0, 2, 3}), 3)
+    yield GRANTED, by_anyone(chart, Marking({0, 2}, {0, 3}, everyone), 3)
+    yield GRANTED, by_anyone(chart, Marking(set(), {1}, {3}), 3)
     own = model.empty_chart(1)
     own.responses[0].add(0)
-    yield GRANTED, execute_request(own, Marking(set(), set(), {0}), 0)  # P4
-    yield GRANTED, execute_request(own, Marking({0}, {0}, {0}), 0)
+    yield GRANTED, by_anyone(own, Marking(set(), set(), {0}), 0)  # P4
+    yield GRANTED, by_anyone(own, Marking({0}, {0}, {0}), 0)
     for table, answer in ((0, plain(12, 0)), (2, plain(13, 0)), (3, GRANTED), (4, GRANTED)):
         chart = model.empty_chart(1)
         chart[1 + table][0].add(0)
-        yield answer, execute_request(chart, Marking(set(), {0}, {0}), 0)
-        yield GRANTED, execute_request(chart, Marking({0}, set(), {0}), 0)
+        yield answer, by_anyone(chart, Marking(set(), {0}, {0}), 0)
+        yield GRANTED, by_anyone(chart, Marking({0}, set(), {0}), 0)
     free = model.empty_chart(2)
     free.conditions[1].add(0)
-    yield GRANTED, execute_request(free, Marking(set(), set(), {1}), 1)  # P5
+    yield GRANTED, by_anyone(free, Marking(set(), set(), {1}), 1)  # P5
     free = model.empty_chart(2)
     free.milestones[1].add(0)
-    yield GRANTED, execute_request(free, Marking(set(), {0}, {1}), 1)  # P6
+    yield GRANTED, by_anyone(free, Marking(set(), {0}, {1}), 1)  # P6
     wide = model.empty_chart(64)
     wide.conditions[63] |= {40, 62}
     wide.milestones[63] |= {41, 63}
-    yield plain(12, 62), execute_request(wide, Marking({40}, {63}, set(range(64))), 63)
-    yield plain(13, 63), execute_request(wide, Marking({40, 62}, {63}, set(range(64))), 63)
+    yield plain(12, 62), by_anyone(wide, Marking({40}, {63}, set(range(64))), 63)
+    yield plain(13, 63), by_anyone(wide, Marking({40, 62}, {63}, set(range(64))), 63)
+
+
+def role_causes(rng):
+    """Code 32 by each cause, behind 14 and 10 and before 11 to 13; what is granted by a role that is named, or by any of 0 to 7."""
+    open_chart, everyone = small_flat(), {0, 1, 2, 3}
+    ready, held, due = Marking({0, 2}, set(), everyone), Marking(set(), set(), everyone), Marking({0, 2}, {1, 2}, everyone)
+    out = Marking(everyone, set(), {0, 1, 2})
+    for roles in [{role} for role in range(8)] + [{0, 7}, {1, 2, 3}, set(range(8)), set(range(7)), set(range(1, 8)), set()]:
+        chart = with_roles(open_chart, {3: roles, 2: set(range(8)) - roles})
+        for role in range(8):
+            permitted = not roles or role in roles
+            cases = [(ready, GRANTED), (out, plain(11)), (held, plain(12, 0)), (due, plain(13, 1))]
+            for marking, answer in cases if permitted and role in (0, 7) else cases[:1] + rng.sample(cases[1:], 1):
+                yield answer if permitted else plain(32), execute_request(chart, marking, 3, role)
+        for marking in (ready, out, held, due):
+            yield plain(32), execute_request(chart, marking, 3, rng.choice(NO_ROLES))
+        for event in (4, HUGE):
+            yield plain(10), execute_request(chart, ready, event, rng.choice((0, 7) + NO_ROLES))
+        yield plain(14), execute_request(chart, Marking({4}, set(), everyone), 3, rng.choice((0, 7) + NO_ROLES))
+    for role in NO_ROLES:  # open to everyone, and open to each of the eight: to nobody else
+        for chart in (model.empty_chart(1), with_roles(model.empty_chart(1), {0: range(8)})):
+            yield plain(32), execute_request(chart, Marking(set(), set(), {0}), 0, role)
+            yield plain(32), execute_request(chart, Marking(set(), set(), set()), 0, role)
+            yield plain(10), execute_request(chart, Marking(set(), set(), set()), 1, role)
+    last = with_roles(model.empty_chart(64), {63: {5}, 62: {6}})  # another event's roles do not count
+    for event, role, answer in ((63, 5, GRANTED), (63, 6, plain(32)), (62, 6, GRANTED), (62, 5, plain(32)), (61, 5, GRANTED)):
+        yield answer, execute_request(last, Marking(set(), set(), set(range(64))), event, role)
+    for make in MARKING_CALLS:  # no other call asks for a role
+        yield GRANTED, make(with_roles(open_chart, {e: {e} for e in range(4)}), ready)
+        yield GRANTED, make(last, Marking(set(), set(), set(range(64))))
 
 
 def marking_causes(rng):
@@ -300,7 +374,9 @@ def derive_causes(rng):
     """Room of every kind around what is needed."""
     own = model.empty_chart(1)
     own.responses[0].add(0)
-    for chart in (model.empty_chart(1), own, small_flat(), model.read_chart(model.PAPER_CHART)[1], random_flat(rng, 9, 0.4)):
+    named = with_roles(small_flat(), {0: {0}, 3: range(8)})  # books carry no roles
+    assert model.derived_book(named) == model.derived_book(small_flat())
+    for chart in (model.empty_chart(1), own, small_flat(), named, model.read_chart(model.PAPER_CHART)[1], random_flat(rng, 9, 0.4)):
         needed = len(book_image(model.derived_book(chart)))
         for room in (0, 1, 31, 32, needed - 2, needed - 1):
             yield plain(15, needed), derive_request(room, chart)
@@ -671,12 +747,15 @@ def bad_requests(rng):
     for operation in (b'\x00', b'\x09', b'\xff'):
         yield BAD, operation
         yield BAD, operation + rng.randbytes(20)
-    whole = (execute_request(chart, start, 0), count_request(chart, start), finished_request(chart, start),
+    whole = (execute_request(chart, start, 0, 0), count_request(chart, start), finished_request(chart, start),
              matching_request(chart, start), derive_request(100, chart))
     for body in whole:
         yield BAD, body[:-1]
         yield BAD, body[:1]
         yield BAD, body[:rng.randrange(2, len(body))]
+    yield BAD, whole[0][:-4]  # without the role
+    for body in whole:
+        yield BAD, body[:-64]  # as long as it was without role bytes
     yield BAD, check_request(0, b'')[:-1]
     yield BAD, b'\x07'
     yield BAD, b'\x08'
@@ -700,7 +779,7 @@ def request_limits(rng):
     yield BAD, complete_request(0, [True] + [False] * 255, order + [0], image)
     yield BAD, with_number32(whole, 37, HUGE)
     bodies = [make(chart, start) for make in (count_request, finished_request, matching_request)] \
-        + [execute_request(chart, start, 0), derive_request(200, chart)]
+        + [execute_request(chart, start, 0, 0), derive_request(200, chart)]
     for body in bodies:
         for behind in (1, 4, 100):
             yield GRANTED, body + rng.randbytes(behind)
@@ -715,7 +794,8 @@ def largest_chart(rng):
     for n in range(7, 64, 8):  # the deepest group of each chain has a member
         parents[64 + n // 8] = n
     groups = set(parents)
-    nodes = [(parent, 0 if n in groups else rng.choice((4, 6, 5))) for n, parent in enumerate(parents)]
+    flags = [0 if n in groups else rng.choice((4, 6, 5)) for n in range(128)]
+    nodes = [(parent, flags[n] + 256 * rng.choice((0, 1 << n % 8))) for n, parent in enumerate(parents)]
     return nodes, random_relations(rng, nodes, 4096)
 
 
@@ -801,8 +881,10 @@ def refused_listings(rng):
     yield largest + bytes(5000), (3, 0, 0)
     yield with_number16(largest, 2, 4097) + b'\0', (2, 0, 0)
     yield with_number16(largest, 8 + 4 * 127 + 2, 8), (4, 127, 0)
+    yield chart_image([(NONE, 65535)], []), (4, 0, 0)
     yield chart_image([(1, 0), (2, 0), (1, 0), FREE], []), (5, 1, 0)
     yield chart_image([FREE, (NONE, 3), (1, 4), FREE], []), (6, 1, 0)
+    yield chart_image([FREE, (NONE, 256 + 3), (1, 4), FREE], []), (6, 1, 0)
     yield chart_image([FREE] * 100, []), (7, 100, 0)
     yield with_number16(largest, len(largest) - 2, 5), (8, 4095, 0)
     yield chart_image(nested, [(3, 0, INCLUDE), (3, 1, EXCLUDE)]), (9, 2, 0)
@@ -815,6 +897,10 @@ def refused_listings(rng):
 def listed_charts(rng):
     """Images that are listed: the paper's, some of 1 to 64 events, and books that fill 49,152 bytes."""
     yield model.PAPER_CHART
+    nodes, relations = [(NONE, 0), (0, 4), (0, 6), FREE], [(0, 3, CONDITION), (3, 1, EXCLUDE)]
+    named = [(parent, flags + 256 * (n * 80 + 1)) for n, (parent, flags) in enumerate(nodes)]
+    assert model.listing(chart_image(named, relations)) == model.listing(chart_image(nodes, relations))  # books carry no roles
+    yield chart_image(named, relations)
     for count in (1, 2, 5, 10, 11, 30, 63, 64):
         nodes = [(NONE, rng.choice((4, 6, 5, 0)))] * count
         yield chart_image(nodes, random_relations(rng, nodes, 4 * count))
@@ -832,7 +918,7 @@ def listing_causes(rng):
         yield None, listing_request(image)
 
 
-CAUSES = (header_causes, node_causes, group_causes, conflict_causes, accepted_charts, unfit_causes, step_causes,
-          marking_causes, derive_causes, book_header_causes, rule_causes, condition_causes, loop_causes, clash_causes,
+CAUSES = (header_causes, node_causes, group_causes, conflict_causes, accepted_charts, charts_with_roles, unfit_causes, step_causes,
+          role_causes, marking_causes, derive_causes, book_header_causes, rule_causes, condition_causes, loop_causes, clash_causes,
           order_causes, pair_causes, running_order_causes, firing_causes, bad_requests, request_limits, listing_causes)
 LARGEST = (largest_charts, largest_derivings, largest_derived_book, largest_hand_made, wide_conditions)

@@ -2,12 +2,31 @@
 
 import ozhimka as model
 from ozhimka import AND, NONE, NOT, OR, Book, Marking, Rule
-from protocol import (check_request, complete_request, count_request, derive_request, execute_request,
+from protocol import (FLAT_BYTES, check_request, complete_request, count_request, derive_request, execute_request,
                       finished_request, listing_request, matching_request, read_request)
 
 
 def some(rng, population, chance):
     return {e for e in population if rng.random() < chance}
+
+
+# ---- roles
+
+# numbers that are no role: some would pass for one if they were cut to fewer bits, or shifted by
+NO_ROLES = (8, 9, 15, 16, 32, 64, 71, 255, 256, 259, 65536, 1 << 31, (1 << 32) - 8, (1 << 32) - 1)
+
+
+def random_roles(rng):
+    """The upper byte of a node's flags, often 0."""
+    return rng.choice((0, 0, 0, 1 << rng.randrange(8), 1 << rng.randrange(8), rng.randrange(256), 255))
+
+
+def random_role(rng, chart, event):
+    """A role for a step: mostly one that is permitted."""
+    named = sorted(chart.roles[event]) if event < chart.count else []
+    if rng.random() < 0.1:
+        return rng.choice(NO_ROLES)
+    return rng.choice(named) if named and rng.random() < 0.8 else rng.randrange(8)
 
 
 # ---- charts
@@ -30,10 +49,10 @@ def root(parents, n):
 
 
 def random_nodes(rng, count, nesting=0.5):
-    parents = forest(rng, count, nesting)
+    parents, named = forest(rng, count, nesting), rng.random() < 0.6
     groups = set(parents)
-    return [(parent, 0 if n in groups else rng.choice((4, 4, 4, 4, 4, 6, 6, 5, 7, 0, 1, 2, 3)))
-            for n, parent in enumerate(parents)]
+    flags = [0 if n in groups else rng.choice((4, 4, 4, 4, 4, 6, 6, 5, 7, 0, 1, 2, 3)) for n in range(count)]
+    return [(parent, flags[n] + (256 * random_roles(rng) if named else 0)) for n, parent in enumerate(parents)]
 
 
 def random_relations(rng, nodes, count, kinds=(0, 1, 2, 3, 4), conflicts=0.0):
@@ -59,8 +78,10 @@ def random_flat(rng, count=None, chance=None):
     count = count or rng.choice((1, 2, 3, 4, 5, 8, 13, 32, 63, 64))
     chance = rng.choice((0.02, 0.1, 0.3, 0.7)) if chance is None else chance
     chart = model.empty_chart(count)
+    named = rng.random() < 0.6
     for e in range(count):
-        for table in chart[1:]:
+        chart.roles[e] |= model.roles_in(random_roles(rng)) if named else set()
+        for table in model.tables(chart):
             table[e] |= some(rng, range(count), chance)
         for f in chart.includes[e] & chart.excludes[e]:
             rng.choice((chart.includes, chart.excludes))[e].discard(f)
@@ -207,7 +228,8 @@ def steps(rng):
     """One marking of one flat chart, through every call that takes both."""
     chart = random_flat(rng)
     marking = random_marking(rng, chart.count)
-    yield execute_request(chart, marking, rng.randrange(chart.count))
+    event = rng.randrange(chart.count)
+    yield execute_request(chart, marking, event, random_role(rng, chart, event))
     makers = (count_request, finished_request, matching_request)
     yield rng.choice(makers)(chart, marking)
 
@@ -282,7 +304,8 @@ def long_runs(rng, steps_to_go=100):
 
 
 def run_of_both(rng, chart, marking, steps_to_go):
-    """The chart's step and the book's completion, one after the other; the model's two sides must agree at each."""
+    """The chart's step and the book's completion, one after the other; the model's two sides must agree at each step by a permitted role.
+    Other steps are refused and make no completion: the book knows no roles."""
     derived = model.derived_book(chart)
     book, rules = model.book_image(derived), len(derived.rules)
     yield derive_request(len(book), chart)
@@ -294,9 +317,13 @@ def run_of_both(rng, chart, marking, steps_to_go):
     for _ in range(steps_to_go):
         opened = model.open_events(chart, marking)
         event = rng.choice(opened) if opened and rng.random() < 0.8 else rng.randrange(chart.count)
-        yield execute_request(chart, marking, event)
+        role, before = random_role(rng, chart, event), marking
+        yield execute_request(chart, marking, event, role)
+        stepped, marking = model.execute(chart, marking, event, role)
+        if not model.is_permitted(chart, event, role):
+            assert stepped == (32, 0, 0) and marking == before
+            continue
         yield complete_request(event, snapshot, order, book)
-        stepped, marking = model.execute(chart, marking, event)
         completed, snapshot = model.complete(book, order, snapshot, event)
         assert (stepped[0] in (11, 12, 13) and completed[0] == 30) or stepped == completed == model.GRANTED
         assert snapshot == model.matching(chart, marking)[1]
@@ -324,6 +351,16 @@ def damaged_charts(rng):
     yield read_request(with_bytes_changed(rng, random_chart_image(rng)))
 
 
+def badly_flagged(rng):
+    """A chart of which some nodes have roles, and in the lower byte what a node or a group may not have."""
+    nodes = random_nodes(rng, rng.randrange(1, 12), rng.choice((0, 0.6)))
+    for _ in range(rng.choice((1, 1, 2))):
+        n = rng.randrange(len(nodes))
+        lower = rng.choice((1, 4, 7, 8, 9, 16, 128, 255))
+        nodes[n] = (nodes[n][0], lower + 256 * rng.choice((0, 1, 2, 127, 128, 255)))
+    yield read_request(model.chart_image(nodes, random_relations(rng, nodes, 2)))
+
+
 def listings(rng):
     yield listing_request(random_chart_image(rng, conflicts=rng.choice((0, 0, 0.5))))
     yield listing_request(with_bytes_changed(rng, random_chart_image(rng)))
@@ -343,12 +380,15 @@ def damaged_books(rng):
 def damaged_flats(rng):
     """A flat chart and a marking with a few bits turned."""
     chart = random_flat(rng)
-    body = bytearray(execute_request(chart, random_marking(rng, chart.count), rng.randrange(chart.count + 2)))
+    event = rng.randrange(chart.count + 2)
+    body = bytearray(execute_request(chart, random_marking(rng, chart.count), event, random_role(rng, chart, event)))
+    roles_at = 1 + FLAT_BYTES - 64
     for _ in range(rng.choice((1, 1, 2))):
-        body[rng.randrange(5, len(body) - 4)] ^= 1 << rng.randrange(8)
+        places = rng.choice(((5, roles_at), (5, len(body) - 8), (roles_at, roles_at + 64), (roles_at + chart.count - 1, roles_at + 64)))
+        body[rng.randrange(*places)] ^= 1 << rng.randrange(8)
     body[0] = rng.choice((2, 3, 4, 5))
-    yield bytes(body) if body[0] == 2 else bytes(body[:-4])
+    yield bytes(body) if body[0] == 2 else bytes(body[:-8])
 
 
-SMALL = (charts, wild_checks, wild_completions, sound_books, sound_runs, damaged_charts, damaged_books, listings)
-WIDE = (steps, derivings, side_by_side, damaged_flats)  # their requests carry a flat chart of 2,564 bytes
+SMALL = (charts, wild_checks, wild_completions, sound_books, sound_runs, damaged_charts, badly_flagged, damaged_books, listings)
+WIDE = (steps, derivings, side_by_side, damaged_flats)  # their requests carry a flat chart of 2,628 bytes

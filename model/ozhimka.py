@@ -46,19 +46,30 @@ NONE = 65535
 EXECUTED, PENDING, INCLUDED = 1, 2, 4
 CONDITION, RESPONSE, MILESTONE, INCLUDE, EXCLUDE = range(5)
 
-Node = namedtuple('Node', 'parent flags')
+# the two bytes of a node's flags: the lower one as a number, the upper one as the set of its roles
+Node = namedtuple('Node', 'parent flags roles')
 Relation = namedtuple('Relation', 'origin to kind')
-# five tables of 64 sets: who holds e back (conditions, milestones), and what e does (responses, includes, excludes)
-FlatChart = namedtuple('FlatChart', 'count conditions responses milestones includes excludes')
+# five tables of 64 sets: who holds e back (conditions, milestones), and what e does (responses, includes, excludes); then the roles
+# that e is open to, none for everyone
+FlatChart = namedtuple('FlatChart', 'count conditions responses milestones includes excludes roles')
 Marking = namedtuple('Marking', 'executed pending included')
 
 
 def empty_chart(count=0):
-    return FlatChart(count, *[[set() for e in range(64)] for table in range(5)])
+    return FlatChart(count, *[[set() for e in range(64)] for table in range(6)])
+
+
+def tables(chart):
+    """The five tables of relations."""
+    return chart[1:6]
 
 
 def empty_marking():
     return Marking(set(), set(), set())
+
+
+def roles_in(byte):
+    return {role for role in range(8) if byte >> role & 1}
 
 
 def chain_above(nodes, n):
@@ -79,7 +90,7 @@ def chart_records(image):
     refuse_if(3, nodes_at != 8 or relations_at != 8 + 4 * node_count)
     refuse_if(3, len(image) != 8 + 4 * node_count + 6 * relation_count)
 
-    nodes = [Node(number16(image, at), number16(image, at + 2)) for at in range(8, relations_at, 4)]
+    nodes = [Node(number16(image, at), image[at + 2], roles_in(image[at + 3])) for at in range(8, relations_at, 4)]
     refuse_lowest(4, [n for n, node in enumerate(nodes)
                       if (node.parent >= node_count and node.parent != NONE) or node.flags > 7])
     refuse_lowest(5, [n for n in range(node_count) if n in chain_above(nodes, n)])
@@ -105,6 +116,7 @@ def flatten(nodes, events, relations):
     for e, node in enumerate(events):
         for n in [node] + chain_above(nodes, node):
             members[n].add(e)
+            chart.roles[e].update(nodes[n].roles)
     for relation in set(relations):
         sources, targets = members[relation.origin], members[relation.to]
         for f in targets:
@@ -136,8 +148,9 @@ def read_chart(image):
 
 def is_fit_chart(chart):
     return (1 <= chart.count <= 64
-            and all(f < chart.count for table in chart[1:] for entry in table for f in entry)
-            and all(not table[e] for table in chart[1:] for e in range(chart.count, 64))
+            and all(f < chart.count for table in tables(chart) for entry in table for f in entry)
+            and all(not table[e] for table in tables(chart) for e in range(chart.count, 64))
+            and all(not chart.roles[e] for e in range(chart.count, 64))
             and not any(chart.includes[e] & chart.excludes[e] for e in range(64)))
 
 
@@ -169,10 +182,16 @@ def open_events(chart, marking):
     return [e for e in range(chart.count) if is_open(chart, marking, e)]
 
 
-def execute(chart, marking, event):
+def is_permitted(chart, event, role):
+    """An event whose whole chain names no role stays open to everyone; there are no other roles than 0 to 7."""
+    return role <= 7 and (not chart.roles[event] or role in chart.roles[event])
+
+
+def execute(chart, marking, event, role):
     try:
         refuse_unfit(chart, marking)
         refuse_if(10, event >= chart.count)
+        refuse_if(32, not is_permitted(chart, event, role))
         refuse_if(11, event not in marking.included)
         refuse_lowest(12, wanting_conditions(chart, marking, event))
         refuse_lowest(13, wanting_milestones(chart, marking, event))
@@ -604,19 +623,19 @@ def settled_examples():
     answer, order = check_book(image, [0] * 10)
     assert answer == GRANTED
     snapshot = matching(chart, start)[1]
-    assert worth(snapshot) == 113 and execute(chart, start, 1)[0] == (12, 0, 0)  # P1
-    after, snapshot = execute(chart, start, 0)[1], complete(image, order, snapshot, 0)[1]
+    assert worth(snapshot) == 113 and execute(chart, start, 1, 0)[0] == (12, 0, 0)  # P1
+    after, snapshot = execute(chart, start, 0, 0)[1], complete(image, order, snapshot, 0)[1]
     assert worth(matching(chart, after)[1]) == worth(snapshot) == 119  # P2
-    after, snapshot = execute(chart, after, 1)[1], complete(image, order, snapshot, 1)[1]
+    after, snapshot = execute(chart, after, 1, 0)[1], complete(image, order, snapshot, 1)[1]
     assert worth(matching(chart, after)[1]) == worth(snapshot) == 238 and finished(chart, after)[1]  # P3
 
     free = (NONE, INCLUDED)
     answer, chart, start = read_chart(chart_image([free], [(0, 0, RESPONSE)]))
-    assert execute(chart, start, 0)[1].pending == {0}  # P4
+    assert execute(chart, start, 0, 0)[1].pending == {0}  # P4
     answer, chart, start = read_chart(chart_image([(NONE, 0), free], [(0, 1, CONDITION)]))
-    assert execute(chart, start, 1)[0] == GRANTED  # P5
+    assert execute(chart, start, 1, 0)[0] == GRANTED  # P5
     answer, chart, start = read_chart(chart_image([(NONE, PENDING), free], [(0, 1, MILESTONE)]))
-    assert execute(chart, start, 1)[0] == GRANTED  # P6
+    assert execute(chart, start, 1, 0)[0] == GRANTED  # P6
     nested = [(NONE, 0), (0, 4), (0, 4), free]
     answer, chart, start = read_chart(chart_image(nested, [(0, 3, CONDITION)]))
     assert chart.count == 3 and chart.conditions[2] == {0, 1}  # P7
@@ -640,6 +659,27 @@ def settled_examples():
         assert check_book(book_image(deep), [])[0] == code
 
 
+def role_examples():
+    """Node 0 in group 1 in group 2 in group 3; node 4 in group 2; node 5 alone."""
+    def byte(*roles):
+        return 256 * sum(1 << role for role in roles)
+
+    nodes = [(1, INCLUDED + byte(0)), (2, byte(3)), (3, 0), (NONE, byte(3, 7)), (2, 0), (NONE, INCLUDED)]
+    answer, chart, start = read_chart(chart_image(nodes, []))
+    assert answer == GRANTED and chart.roles[:4] == [{0, 3, 7}, {3, 7}, set(), set()]
+    assert start == Marking(set(), set(), {0, 2})
+    for role in range(8):
+        assert execute(chart, start, 0, role)[0] == (GRANTED if role in (0, 3, 7) else (32, 0, 0))
+        assert execute(chart, start, 1, role)[0] == ((11, 0, 0) if role in (3, 7) else (32, 0, 0))
+        assert execute(chart, start, 2, role)[0] == GRANTED
+    for role in (8, 255, 256, 1 << 31, (1 << 32) - 1):
+        assert [execute(chart, start, event, role)[0] for event in range(4)] == [(32, 0, 0)] * 3 + [(10, 0, 0)]
+    chart.roles[3].add(0)
+    assert not is_fit_chart(chart) and execute(chart, start, 3, 8)[0] == (14, 0, 0)
+    assert read_chart(chart_image([(NONE, 8 + byte(1))], []))[0] == (4, 0, 0)
+    assert read_chart(chart_image([(NONE, 1 + byte(1)), (0, 4)], []))[0] == (6, 0, 0)
+
+
 def orders_agree():
     """Small random books without a loop get one running order from both functions that make it."""
     rng = random.Random(1)
@@ -661,5 +701,6 @@ if __name__ == '__main__':
             sys.stdout.write(listing(chart_file.read()))
     else:
         settled_examples()
+        role_examples()
         orders_agree()
         print('the settled examples hold')

@@ -5,7 +5,7 @@ import zlib
 import ozhimka as model
 
 FILL = 165  # the byte that room is filled with before a call
-FLAT_BYTES = 4 + 5 * 64 * 8
+FLAT_BYTES = 4 + 5 * 64 * 8 + 64
 MARKING_BYTES = 3 * 8
 MAX_BODY = 262144
 MAX_ROOM_BYTES = 200000
@@ -29,7 +29,8 @@ def set_bytes(members):
 
 
 def flat_bytes(chart):
-    return bytes32(chart.count) + b''.join(set_bytes(entry) for table in chart[1:] for entry in table)
+    sets = b''.join(set_bytes(entry) for table in model.tables(chart) for entry in table)
+    return bytes32(chart.count) + sets + bytes(worth(entry) for entry in chart.roles)
 
 
 def marking_bytes(marking):
@@ -44,8 +45,8 @@ def read_request(image):
     return b'\x01' + image
 
 
-def execute_request(chart, marking, event):
-    return b'\x02' + flat_bytes(chart) + marking_bytes(marking) + bytes32(event)
+def execute_request(chart, marking, event, role):
+    return b'\x02' + flat_bytes(chart) + marking_bytes(marking) + bytes32(event) + bytes32(role)
 
 
 def count_request(chart, marking):
@@ -99,8 +100,10 @@ def worth(entry):
 
 
 def flat_at(body, at):
-    sets = [members(int.from_bytes(body[i:i + 8], 'little')) for i in range(at + 4, at + FLAT_BYTES, 8)]
-    return model.FlatChart(model.number32(body, at), *[sets[i:i + 64] for i in range(0, 320, 64)])
+    roles_at = at + FLAT_BYTES - 64
+    sets = [members(int.from_bytes(body[i:i + 8], 'little')) for i in range(at + 4, roles_at, 8)]
+    roles = [members(byte) for byte in body[roles_at:roles_at + 64]]
+    return model.FlatChart(model.number32(body, at), *[sets[i:i + 64] for i in range(0, 320, 64)], roles)
 
 
 def marking_at(body, at):
@@ -122,7 +125,7 @@ def line_for(body):
     if operation == 1:
         return read_line(body)
     if operation in (2, 3, 4, 5):
-        needed = 1 + FLAT_BYTES + MARKING_BYTES + (4 if operation == 2 else 0)
+        needed = 1 + FLAT_BYTES + MARKING_BYTES + (8 if operation == 2 else 0)
         return chart_line(operation, body) if len(body) >= needed else BAD
     if operation == 6:
         return derive_line(body) if len(body) >= 5 + FLAT_BYTES else BAD
@@ -139,7 +142,7 @@ def read_line(body):
     answer, chart, start = model.read_chart(body[1:])
     values = [chart.count] + [worth(entry) for entry in start]
     for e in range(chart.count):
-        values += [worth(table[e]) for table in chart[1:]]
+        values += [worth(table[e]) for table in model.tables(chart) + (chart.roles,)]
     return line('read', answer, values)
 
 
@@ -147,7 +150,8 @@ def chart_line(operation, body):
     chart = flat_at(body, 1)
     marking = marking_at(body, 1 + FLAT_BYTES)
     if operation == 2:
-        answer, after = model.execute(chart, marking, model.number32(body, 1 + FLAT_BYTES + MARKING_BYTES))
+        event, role = [model.number32(body, 1 + FLAT_BYTES + MARKING_BYTES + at) for at in (0, 4)]
+        answer, after = model.execute(chart, marking, event, role)
         return line('execute', answer, [worth(entry) for entry in after])
     if operation == 3:
         answer, count, lowest = model.count_open(chart, marking)

@@ -21,12 +21,14 @@ MAX_RULES = 8384
 MAX_CONDITIONS = 256
 MAX_WORDS = 41024
 MAX_STACK = 16
+MAX_ROLES = 8
 CHART_HEADER = 8
 NODE_SIZE = 4
 RELATION_SIZE = 6
 NO_PARENT = 65535
 MAX_FLAGS = 7
 KINDS = 5
+FLAGS_BYTE = 256
 BOOK_HEADER = 32
 RULE_SIZE = 10
 CONDITION_SIZE = 8
@@ -45,9 +47,9 @@ REFUSALS = {
     1: ('CHART_SHORT', 'the chart is too short to have a header, which takes {CHART_HEADER} bytes'),
     2: ('CHART_COUNT', 'the header has a count out of range: a chart has 1 to {MAX_NODES} nodes and up to {MAX_RELATIONS:,} relations'),
     3: ('CHART_LENGTH', "the header's offsets, or the length of the file, do not fit its counts"),
-    4: ('BAD_NODE', '{node} is a bad record: its parent is no node of the chart, or its flags are above {MAX_FLAGS}'),
+    4: ('BAD_NODE', '{node} is a bad record: its parent is no node of the chart, or the lower byte of its flags is above {MAX_FLAGS}'),
     5: ('PARENTS_LOOP', '{node} is on a loop of parents'),
-    6: ('GROUP_FLAGS', '{node} is a group, since other nodes have it as parent, and a group has no flags'),
+    6: ('GROUP_FLAGS', '{node} is a group, since other nodes have it as parent, and a group has no flags but its roles'),
     7: ('MANY_EVENTS', 'the chart has {place} events, and at most {MAX_EVENTS} are allowed'),
     8: ('BAD_RELATION', '{relation} is a bad record: it names a node that is not there, or a kind that is none of 0 to 4'),
     9: ('INCLUDE_EXCLUDE', '{event} both includes and excludes {other_event}, itself or through groups'),
@@ -70,6 +72,7 @@ REFUSALS = {
     29: ('NO_SUCH_STAGE', 'there is no such stage'),
     30: ('STAGE_CLOSED', 'the stage is closed'),
     31: ('ORDER_ROOM', 'the order takes room for {place:,} numbers, more than there is'),
+    32: ('NOT_PERMITTED', 'the event names other roles, or the role is none of 0 to 7'),
 }
 
 

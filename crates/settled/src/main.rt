@@ -3,6 +3,7 @@ mod books;
 mod charts;
 mod checks;
 mod completions;
+mod roles;
 mod runs;
 mod show;
 
@@ -10,6 +11,7 @@ fn main() {
     charts::run();
     books::run();
     runs::run();
+    roles::run();
     checks::run();
     completions::run();
 }

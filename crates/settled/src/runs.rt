@@ -3,9 +3,12 @@ use crate::show;
 use graph::FlatChart;
 use graph::Marking;
 
+// The chart names no roles, so any may.
+const ROLE: u32 = 0;
+
 // The step is taken, and then so many events are open, the lowest first.
 fn step(name: &[u8], chart: FlatChart, marking: Marking, event: u32) -> Marking {
-    let taken = marking.execute(chart, event);
+    let taken = marking.execute(chart, event, ROLE);
     let open = taken.marking.count_open(chart);
     show::counted(name, taken.answer, open.count, open.lowest);
     taken.marking
@@ -24,12 +27,12 @@ fn mortgage() {
     let appraised = step(b"mortgage-on-site-appraisal", chart, appointed, 3);
     show::line(
         b"mortgage-assess-too-soon",
-        appraised.execute(chart, 7).answer,
+        appraised.execute(chart, 7, ROLE).answer,
     );
     let collected = step(b"mortgage-collect-documents", chart, appraised, 0);
     show::line(
         b"mortgage-assess-unscreened",
-        collected.execute(chart, 7).answer,
+        collected.execute(chart, 7, ROLE).answer,
     );
     let submitted = step(b"mortgage-submit-budget", chart, collected, 5);
     let screened = step(b"mortgage-approve-screening", chart, submitted, 6);

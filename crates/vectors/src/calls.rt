@@ -31,13 +31,14 @@ pub fn read(body: &[u8], line: &mut [u8; LINE]) -> usize {
 }
 
 pub fn execute(body: &[u8], line: &mut [u8; LINE]) -> usize {
-    if body.len() < FIELDS + FLAT + MARKING + 4 {
+    if body.len() < FIELDS + FLAT + MARKING + 8 {
         return show::bad_request(line);
     }
     let chart = fields::chart_at(body, FIELDS);
     let marking = fields::marking_at(body, FIELDS + FLAT);
     let event = wire::u32_at(body, FIELDS + FLAT + MARKING);
-    let step = marking.execute(chart, event);
+    let role = wire::u32_at(body, FIELDS + FLAT + MARKING + 4);
+    let step = marking.execute(chart, event, role);
     let at = show::answer(line, b"execute", step.answer);
     show::marking(line, at, step.marking)
 }

@@ -9,13 +9,16 @@ use paper::MAX_EVENTS;
 use paper::MAX_MARKS;
 
 // Bytes of a flat chart, of a marking and of a snapshot.
-pub const FLAT: usize = 2564;
+pub const FLAT: usize = 2628;
 
 pub const MARKING: usize = 24;
 
 pub const SNAPSHOT: usize = 32;
 
 const TABLE: usize = 512;
+
+// Where the role bytes stand in a flat chart: behind the count and the five tables.
+const ROLES: usize = 4 + 5 * TABLE;
 
 fn paired(low: u32, high: u32) -> u64 {
     low as u64 | (high as u64) << 32
@@ -39,8 +42,20 @@ fn table_at(body: &[u8], at: usize) -> [u64; MAX_EVENTS]
     table
 }
 
+fn roles_at(body: &[u8], at: usize) -> [u8; MAX_EVENTS]
+    requires { ⌜ at + 64 ≤ length (now body) ⌝ }
+{
+    let mut roles = [0u8; MAX_EVENTS];
+    let mut e = 0;
+    while e < MAX_EVENTS {
+        roles[e] = body[at + e];
+        e += 1;
+    }
+    roles
+}
+
 pub fn chart_at(body: &[u8], at: usize) -> FlatChart
-    requires { ⌜ at + 2564 ≤ length (now body) ⌝ }
+    requires { ⌜ at + 2628 ≤ length (now body) ⌝ }
 {
     FlatChart {
         count: wire::u32_at(body, at),
@@ -49,6 +64,7 @@ pub fn chart_at(body: &[u8], at: usize) -> FlatChart
         milestones: table_at(body, at + 4 + 2 * TABLE),
         includes: table_at(body, at + 4 + 3 * TABLE),
         excludes: table_at(body, at + 4 + 4 * TABLE),
+        roles: roles_at(body, at + ROLES),
     }
 }
 
@@ -62,7 +78,7 @@ pub fn marking_at(body: &[u8], at: usize) -> Marking
     }
 }
 
-fn wide(b: u8) -> u64 {
+pub fn wide(b: u8) -> u64 {
     b as u64
 }
 

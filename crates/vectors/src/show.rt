@@ -1,6 +1,7 @@
 // Printing: a line is put together in a buffer, number by number, and written at its end.
 ghost use Prim.Native.Nat.{_+_, _≤_};
 ghost use lib.ListN.{length};
+use crate::fields;
 use book::Snapshot;
 use graph::FlatChart;
 use graph::Marking;
@@ -55,7 +56,7 @@ pub fn marking(line: &mut [u8; LINE], at: usize, m: Marking) -> usize {
     number(line, at, m.included)
 }
 
-// The five sets of each event.
+// The five sets of each event, and its role byte.
 pub fn chart(line: &mut [u8; LINE], start: usize, c: FlatChart) -> usize {
     let n = c.count as usize;
     let mut at = start;
@@ -66,6 +67,7 @@ pub fn chart(line: &mut [u8; LINE], start: usize, c: FlatChart) -> usize {
         at = number(line, at, c.milestones[e]);
         at = number(line, at, c.includes[e]);
         at = number(line, at, c.excludes[e]);
+        at = number(line, at, fields::wide(c.roles[e]));
         e += 1;
     }
     at
