@@ -20,7 +20,7 @@ static size_t image_length, book_length, rules;
 static struct flat_chart chart;
 static struct marking marking;
 static struct snapshot snapshot;
-static const uint32_t event = 1;
+static const uint32_t event = 1, role = 1;
 
 // the same chart, marking and snapshot under the library's names
 static struct ozhimka_chart own_chart;
@@ -42,6 +42,7 @@ static void share(void)
     memcpy(own_chart.milestones, chart.milestones, sizeof chart.milestones);
     memcpy(own_chart.includes, chart.includes, sizeof chart.includes);
     memcpy(own_chart.excludes, chart.excludes, sizeof chart.excludes);
+    memcpy(own_chart.roles, chart.roles, sizeof chart.roles);
     own_marking = (struct ozhimka_marking){.executed = marking.executed, .pending = marking.pending, .included = marking.included};
     memcpy(own_snapshot.marks, snapshot.marks, sizeof snapshot.marks);
 }
@@ -68,8 +69,8 @@ static union {
 
 static void plain_1(void) { plain_out.reading = plain_read_chart(image, image_length); }
 static void own_1(void) { own_out.reading = ozhimka_read_chart(image, image_length); }
-static void plain_2(void) { plain_out.step = plain_execute(chart, marking, event); }
-static void own_2(void) { own_out.step = ozhimka_execute(own_chart, own_marking, event); }
+static void plain_2(void) { plain_out.step = plain_execute(chart, marking, event, role); }
+static void own_2(void) { own_out.step = ozhimka_execute(own_chart, own_marking, event, role); }
 static void plain_3(void) { plain_out.open_count = plain_count_open(chart, marking); }
 static void own_3(void) { own_out.open_count = ozhimka_count_open(own_chart, own_marking); }
 static void plain_4(void) { plain_out.finish = plain_finished(chart, marking); }
@@ -106,6 +107,7 @@ static bool same_reading(void)
            && memcmp(plain->milestones, own->milestones, sizeof own->milestones) == 0
            && memcmp(plain->includes, own->includes, sizeof own->includes) == 0
            && memcmp(plain->excludes, own->excludes, sizeof own->excludes) == 0
+           && memcmp(plain->roles, own->roles, sizeof own->roles) == 0
            && same_marking(&plain_out.reading.start, &own_out.reading.marking);
 }
 

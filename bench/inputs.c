@@ -2,7 +2,7 @@
 #include "inputs.h"
 
 enum { CONDITION, RESPONSE, MILESTONE, INCLUDE, EXCLUDE };
-enum { NO_PARENT = 65535, INCLUDED = 4 };
+enum { NO_PARENT = 65535, INCLUDED = 4, FLAGS_BYTE = 256, MAX_ROLES = 8 };
 enum { STAGES = 64, MARKS = 256, RULES = 8384, CONDITIONS = 256, WORDS = 41024, OR = 65534, NOT = 65535 };
 
 static uint8_t *put16(uint8_t *at, uint32_t number)
@@ -22,6 +22,12 @@ static uint8_t *put32(uint8_t *at, uint32_t number)
 static uint8_t *put_chart_header(uint8_t *at, uint32_t nodes, uint32_t relations)
 {
     return put16(put16(put16(put16(at, nodes), relations), 8), 8 + 4 * nodes);
+}
+
+// Every node names one role, its number modulo 8.
+static uint8_t *put_node(uint8_t *at, uint32_t node, uint32_t parent, uint32_t flags)
+{
+    return put16(put16(at, parent), flags + (FLAGS_BYTE << node % MAX_ROLES));
 }
 
 static uint8_t *put_relation(uint8_t *at, uint32_t from, uint32_t to, uint32_t kind)
@@ -45,7 +51,7 @@ size_t full_chart(uint8_t *image, uint32_t n)
                                  {odd, odd, INCLUDE},   {even, odd, EXCLUDE}, {odd, even, EXCLUDE}};
     uint8_t *at = put_chart_header(image, 2 * n, n * n);
     for (uint32_t node = 0; node < 2 * n; node++)
-        at = put16(put16(at, full_parent(node, n)), node < n ? INCLUDED : 0);
+        at = put_node(at, node, full_parent(node, n), node < n ? INCLUDED : 0);
     for (uint32_t i = 0; i < n * n; i++)
         at = i < 7 ? put_relation(at, wide[i][0], wide[i][1], wide[i][2]) : put_relation(at, i / n, i % n, i % INCLUDE);
     return (size_t)(at - image);
@@ -76,9 +82,9 @@ size_t sparse_chart(uint8_t *image, uint32_t n)
     size_t length = (size_t)(at - image);
     at = put_chart_header(image, nodes, (uint32_t)(length - (size_t)(start - image)) / 6);
     for (uint32_t e = 0; e < n; e++)
-        at = put16(put16(at, n + e / 4), INCLUDED);
+        at = put_node(at, e, n + e / 4, INCLUDED);
     for (uint32_t g = n; g < nodes; g++)
-        at = put16(put16(at, NO_PARENT), 0);
+        at = put_node(at, g, NO_PARENT, 0);
     return length;
 }
 

@@ -8,10 +8,10 @@
 enum { CHART_BYTES = 25096, BOOK_BYTES = 167968, ORDER_NUMBERS = 8384 };
 
 // A chart of n events below n groups, nested in two chains, with n times n relations: every event is a condition, a response and a
-// milestone of every event, and includes or excludes it. Gives its length.
+// milestone of every event, and includes or excludes it. Every node names a role, event 1 role 1. Gives its length.
 size_t full_chart(uint8_t *image, uint32_t n);
 
-// A chart of n events, four to a group, with two or three relations to an event. Gives its length.
+// A chart of n events, four to a group, with two or three relations to an event. Every node names a role, event 1 role 1. Gives its length.
 size_t sparse_chart(uint8_t *image, uint32_t n);
 
 // The largest book, 64 stages, 256 marks, 8,384 rules, 256 conditions and 41,024 words. Every mark is set and cleared under a condition

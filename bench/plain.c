@@ -4,7 +4,7 @@
 #include <string.h>
 
 enum { NO_PARENT = 65535, NO_RULE = 65535 };
-enum { MAX_NODES = 128, MAX_RELATIONS = 4096, MAX_EVENTS = 64 };
+enum { MAX_NODES = 128, MAX_RELATIONS = 4096, MAX_EVENTS = 64, MAX_ROLES = 8, FLAGS_BYTE = 256 };
 enum { MAX_STAGES = 64, MAX_MARKS = 256, MAX_RULES = 8384, MAX_CONDITIONS = 256, MAX_WORDS = 41024, MAX_HELD = 16 };
 enum { AND = 65533, OR = 65534, NOT = 65535 };
 enum { NO_TRIGGER, COMPLETED, BECOME_YES, BECOME_NO };
@@ -96,7 +96,7 @@ static struct answer read_nodes(const uint8_t *image, size_t length, struct node
     nodes->count = count;
     for (uint32_t n = 0; n < count; n++) {
         uint32_t parent = get16(image + 8 + 4 * n), flags = get16(image + 10 + 4 * n);
-        if ((parent >= count && parent != NO_PARENT) || flags > 7)
+        if ((parent >= count && parent != NO_PARENT) || flags % FLAGS_BYTE > 7)
             return refused(4, n, 0);
         nodes->parent[n] = parent;
         nodes->flags[n] = flags;
@@ -116,7 +116,7 @@ static struct answer number_events(const struct nodes *nodes, uint8_t *event, ui
             group[nodes->parent[n]] = true;
     uint32_t count = 0;
     for (uint32_t n = 0; n < nodes->count; n++) {
-        if (group[n] && nodes->flags[n] != 0)
+        if (group[n] && nodes->flags[n] % FLAGS_BYTE != 0)
             return refused(6, n, 0);
         if (!group[n])
             event[count++] = (uint8_t)n;
@@ -125,7 +125,7 @@ static struct answer number_events(const struct nodes *nodes, uint8_t *event, ui
     return count > MAX_EVENTS ? refused(7, count, 0) : granted;
 }
 
-// Refusals 8 and 9. Relations are gathered at their nodes; an event then takes what stands at it and at the groups above it.
+// Refusals 8 and 9. Relations are gathered at their nodes; an event then takes what stands at it and at the groups above it, roles too.
 static struct answer flatten(const struct nodes *nodes, const uint8_t *event, const uint8_t *at, uint32_t relations,
                              struct flat_chart *chart)
 {
@@ -150,6 +150,7 @@ static struct answer flatten(const struct nodes *nodes, const uint8_t *event, co
             chart->milestones[e] |= gathered[2][n];
             chart->includes[e] |= gathered[3][n];
             chart->excludes[e] |= gathered[4][n];
+            chart->roles[e] |= (uint8_t)(nodes->flags[n] / FLAGS_BYTE);
         }
         uint64_t both = chart->includes[e] & chart->excludes[e];
         if (both != 0)
@@ -198,7 +199,7 @@ static bool fit_chart(const struct flat_chart *chart)
         both |= chart->includes[e] & chart->excludes[e];
     }
     for (uint32_t e = count; e < MAX_EVENTS; e++)
-        past |= chart->conditions[e] | chart->responses[e] | chart->milestones[e] | chart->includes[e] | chart->excludes[e];
+        past |= chart->conditions[e] | chart->responses[e] | chart->milestones[e] | chart->includes[e] | chart->excludes[e] | chart->roles[e];
     uint64_t outside = count == 64 ? 0 : ~(uint64_t)0 << count;
     return (within & outside) == 0 && past == 0 && both == 0;
 }
@@ -221,7 +222,12 @@ static uint64_t open_set(const struct flat_chart *chart, struct marking marking)
     return open & marking.included;
 }
 
-struct step plain_execute(struct flat_chart chart, struct marking marking, uint32_t event)
+static bool permitted(uint8_t roles, uint32_t role)
+{
+    return role < MAX_ROLES && (roles == 0 || (roles >> role & 1) != 0);
+}
+
+struct step plain_execute(struct flat_chart chart, struct marking marking, uint32_t event, uint32_t role)
 {
     struct step step = {granted, marking};
     if (!fit(&chart, marking)) {
@@ -230,6 +236,10 @@ struct step plain_execute(struct flat_chart chart, struct marking marking, uint3
     }
     if (event >= chart.count) {
         step.answer = refused(10, 0, 0);
+        return step;
+    }
+    if (!permitted(chart.roles[event], role)) {
+        step.answer = refused(32, 0, 0);
         return step;
     }
     if ((marking.included & only(event)) == 0) {

@@ -11,10 +11,12 @@ struct answer {
     uint32_t code, place, other;
 };
 
-// conditions[e] and milestones[e] hold e back; responses[e], includes[e] and excludes[e] are what e does
+// conditions[e] and milestones[e] hold e back; responses[e], includes[e] and excludes[e] are what e does; role r may execute e where bit r of
+// roles[e] is set, and everyone where none is
 struct flat_chart {
     uint32_t count;
     uint64_t conditions[64], responses[64], milestones[64], includes[64], excludes[64];
+    uint8_t roles[64];
 };
 
 struct marking {
@@ -52,7 +54,7 @@ struct settled {
 };
 
 struct reading plain_read_chart(const uint8_t *image, size_t length);
-struct step plain_execute(struct flat_chart chart, struct marking marking, uint32_t event);
+struct step plain_execute(struct flat_chart chart, struct marking marking, uint32_t event, uint32_t role);
 struct open_count plain_count_open(struct flat_chart chart, struct marking marking);
 struct finish plain_finished(struct flat_chart chart, struct marking marking);
 struct settled plain_matching(struct flat_chart chart, struct marking marking);

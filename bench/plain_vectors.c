@@ -6,7 +6,7 @@
 #include <stdlib.h>
 #include <string.h>
 
-enum { MAX_BODY = 262144, MAX_BYTES = 200000, MAX_NUMBERS = 10000, FLAT = 4 + 5 * 64 * 8, MARKING = 24, FILL = 165 };
+enum { MAX_BODY = 262144, MAX_BYTES = 200000, MAX_NUMBERS = 10000, FLAT = 4 + 5 * 64 * 8 + 64, MARKING = 24, FILL = 165 };
 
 static uint8_t body[MAX_BODY];
 
@@ -65,6 +65,7 @@ static struct flat_chart flat_at(const uint8_t *at)
     for (int t = 0; t < 5; t++)
         for (int e = 0; e < 64; e++)
             tables[t][e] = number(at + 4 + 8 * (64 * t + e), 8);
+    memcpy(chart.roles, at + FLAT - 64, 64);
     return chart;
 }
 
@@ -80,19 +81,20 @@ static void read_chart(const uint8_t *image, size_t length)
     printf(" %" PRIu32, reading.chart.count);
     say_marking(reading.start);
     for (uint32_t e = 0; e < reading.chart.count; e++)
-        printf(" %" PRIu64 " %" PRIu64 " %" PRIu64 " %" PRIu64 " %" PRIu64, reading.chart.conditions[e],
+        printf(" %" PRIu64 " %" PRIu64 " %" PRIu64 " %" PRIu64 " %" PRIu64 " %u", reading.chart.conditions[e],
                reading.chart.responses[e], reading.chart.milestones[e], reading.chart.includes[e],
-               reading.chart.excludes[e]);
+               reading.chart.excludes[e], (unsigned)reading.chart.roles[e]);
 }
 
 static bool on_chart(int operation, const uint8_t *at, size_t length)
 {
-    if (length < (size_t)(FLAT + MARKING + (operation == 2 ? 4 : 0)))
+    if (length < (size_t)(FLAT + MARKING + (operation == 2 ? 8 : 0)))
         return false;
     struct flat_chart chart = flat_at(at);
     struct marking marking = marking_at(at + FLAT);
     if (operation == 2) {
-        struct step step = plain_execute(chart, marking, (uint32_t)number(at + FLAT + MARKING, 4));
+        const uint8_t *numbers = at + FLAT + MARKING;
+        struct step step = plain_execute(chart, marking, (uint32_t)number(numbers, 4), (uint32_t)number(numbers + 4, 4));
         say("execute", step.answer);
         say_marking(step.marking);
     } else if (operation == 3) {

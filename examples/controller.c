@@ -1,11 +1,13 @@
-// A small controller: loads a chart, derives its rule book, has it checked, and completes stages by number from standard input.
+// A small controller: loads a chart, derives its rule book, has it checked, and takes steps from standard input.
 //
-//   controller CHART < STAGES
+//   controller CHART < STEPS
 //
-// At the start it prints the open stages, and `finished` where no included event is pending. Each stage number gets one line: the
-// same after a completion, or the refusal, which leaves everything as it was and does not count as a failure. A word that is no stage
-// number is said on standard error and passed over; one of over 32 characters, which may be no text at all, ends the run.
-// Exit status: 0; 1 if the chart is refused or a word was no stage number; 2 usage, or no such chart; 3 if input or output failed.
+// A step is a line: the numbers of an event and of the role that executes it, as `5 1`. Where the chart names no roles the event alone will
+// do, and the role is 0. The chart says whether the role is permitted, which no rule book knows; the stage is then completed in the book.
+// At the start it prints the open stages, and `finished` where no included event is pending. Each step gets one line: the same after it, or
+// the refusal, which leaves everything as it was and does not count as a failure. A line that is no step is said on standard error and
+// passed over, an empty one in silence; one of over 64 characters, which may be no text at all, ends the run.
+// Exit status: 0; 1 if the chart is refused or a line was no step; 2 usage, or no such chart; 3 if input or output failed.
 #include "ozhimka.h"
 
 #include <ctype.h>
@@ -18,7 +20,9 @@ static uint8_t image[OZHIMKA_MAX_CHART + 1], book[OZHIMKA_MAX_DERIVED]; // one b
 static uint16_t order[OZHIMKA_MAX_RULES];
 static size_t image_length, book_length;
 static struct ozhimka_counts counts;
-static struct ozhimka_snapshot now;
+static struct ozhimka_chart chart;
+static struct ozhimka_marking marking;
+static struct ozhimka_snapshot now; // what the marking is in the book's marks
 
 static bool granted(FILE *file, const char *call, struct ozhimka_answer answer)
 {
@@ -52,8 +56,18 @@ static bool load(void)
     if (!granted(stderr, "check", ozhimka_check(book, book_length, order, OZHIMKA_MAX_RULES)))
         return false;
     struct ozhimka_settled start = ozhimka_matching(reading.chart, reading.marking);
+    chart = reading.chart;
+    marking = reading.marking;
     now = start.snapshot;
     return granted(stderr, "matching", start.answer);
+}
+
+static bool names_roles(void)
+{
+    for (uint32_t e = 0; e < chart.count; e++)
+        if (chart.roles[e] != 0)
+            return true;
+    return false;
 }
 
 // Marks e, n + e, 2n + e and 3n + e of a derived book of n stages: e is open, executed, included, answered.
@@ -73,43 +87,89 @@ static void print_open(void)
     printf("%s%s\n", none ? " none" : "", finished ? ", finished" : "");
 }
 
-enum word { END, STAGE, BAD, LONG };
+enum { LONGEST = 64 };
 
-// The next word of standard input: decimal digits, at most 2^32 - 1.
-static enum word next_word(uint32_t *stage)
+struct line {
+    unsigned char text[LONGEST];
+    size_t length;
+    bool cut; // it goes on
+};
+
+// The next line of standard input, without its end; false where there is none.
+static bool next_line(struct line *line)
 {
-    char text[32]; // for the message, with ? for what is not to be printed
-    size_t length = 0;
-    uint64_t value = 0;
-    bool digits = true;
     int c = getchar();
-    while (c != EOF && isspace(c))
-        c = getchar();
     if (c == EOF)
-        return END;
-    for (; c != EOF && !isspace(c) && length < sizeof text; c = getchar()) {
-        digits = digits && c >= '0' && c <= '9';
-        if (digits && value <= UINT32_MAX)
-            value = 10 * value + (uint64_t)(c - '0');
-        text[length++] = c > ' ' && c <= '~' ? (char)c : '?';
-    }
-    if (ferror(stdin)) // the word may be cut
-        return END;
-    bool cut = c != EOF && !isspace(c);
-    *stage = (uint32_t)value;
-    if (digits && value <= UINT32_MAX && !cut)
-        return STAGE;
-    fprintf(stderr, "no stage number: %.*s (%s)\n", (int)length, text,
-            cut ? "over 32 characters, nothing behind it is read" : digits ? "above 4294967295" : "decimal digits only");
-    return cut ? LONG : BAD;
+        return false;
+    line->length = 0;
+    for (; c != EOF && c != '\n' && line->length < LONGEST; c = getchar())
+        line->text[line->length++] = (unsigned char)c;
+    line->cut = c != EOF && c != '\n';
+    return !ferror(stdin); // else a part of the line may be missing
 }
 
-static void complete(uint32_t stage)
+static size_t behind_spaces(const struct line *line, size_t at)
 {
-    char call[32];
-    snprintf(call, sizeof call, "complete %" PRIu32, stage);
-    struct ozhimka_settled next = ozhimka_complete(book, book_length, order, counts.rules, now, stage);
-    now = next.snapshot; // as it was where the call is refused
+    while (at < line->length && isspace(line->text[at]))
+        at++;
+    return at;
+}
+
+// Reads the number that begins at `at`, decimal digits up to 2^32 - 1, and goes behind it; says what is wrong with it, or gives null.
+static const char *read_number(const struct line *line, size_t *at, uint32_t *number)
+{
+    uint64_t value = 0;
+    for (; *at < line->length && !isspace(line->text[*at]); ++*at) {
+        unsigned char c = line->text[*at];
+        if (c < '0' || c > '9')
+            return "decimal digits only";
+        value = 10 * value + (uint64_t)(c - '0');
+        if (value > UINT32_MAX)
+            return "above 4294967295";
+    }
+    *number = (uint32_t)value;
+    return NULL;
+}
+
+// Reads the numbers of a line, none to two; says what is wrong with it, or gives null.
+static const char *read_step(const struct line *line, uint32_t numbers[2], int *count)
+{
+    size_t at = behind_spaces(line, 0);
+    const char *wrong = line->cut ? "over 64 characters, nothing behind it is read" : NULL;
+    for (*count = 0; wrong == NULL && at < line->length && *count < 2; ++*count) {
+        wrong = read_number(line, &at, &numbers[*count]);
+        at = behind_spaces(line, at);
+    }
+    if (wrong == NULL && at < line->length)
+        return "an event and a role, and something behind them";
+    if (wrong == NULL && *count == 1 && names_roles())
+        return "an event without a role, and this chart names roles";
+    return wrong;
+}
+
+static void say_no_step(const struct line *line, const char *wrong)
+{
+    char text[LONGEST]; // with ? for what is not to be printed
+    for (size_t i = 0; i < line->length; i++) {
+        unsigned char c = line->text[i];
+        text[i] = c >= ' ' && c <= '~' ? (char)c : '?';
+    }
+    fprintf(stderr, "no step: %.*s (%s)\n", (int)line->length, text, wrong);
+}
+
+static void take(uint32_t event, uint32_t role)
+{
+    char call[64];
+    struct ozhimka_step step = ozhimka_execute(chart, marking, event, role);
+    snprintf(call, sizeof call, "execute %" PRIu32 " by %" PRIu32, event, role);
+    if (step.answer.code == OZHIMKA_NOT_PERMITTED) {
+        granted(stdout, call, step.answer);
+        return;
+    }
+    snprintf(call, sizeof call, "complete %" PRIu32, event);
+    struct ozhimka_settled next = ozhimka_complete(book, book_length, order, counts.rules, now, event);
+    marking = step.marking; // this and the snapshot as they were where the step is refused, which chart and book do alike
+    now = next.snapshot;
     if (granted(stdout, call, next.answer))
         print_open();
 }
@@ -117,7 +177,7 @@ static void complete(uint32_t stage)
 int main(int argc, char **argv)
 {
     if (argc != 2) {
-        fprintf(stderr, "usage: controller CHART < STAGES\n");
+        fprintf(stderr, "usage: controller CHART < STEPS\n");
         return 2;
     }
     if (!read_file(argv[1]))
@@ -126,15 +186,17 @@ int main(int argc, char **argv)
         return 1;
     print_open();
     int status = 0;
-    while (fflush(stdout) == 0) { // a program at the other end of a pipe gets each line at once
-        uint32_t stage;
-        enum word word = next_word(&stage);
-        if (word == BAD || word == LONG)
+    struct line line = {.cut = false};
+    while (fflush(stdout) == 0 && !line.cut && next_line(&line)) { // a program at the other end of a pipe gets each line at once
+        uint32_t numbers[2] = {0, 0};
+        int count;
+        const char *wrong = read_step(&line, numbers, &count);
+        if (wrong != NULL) {
+            say_no_step(&line, wrong);
             status = 1;
-        if (word == END || word == LONG)
-            break;
-        if (word == STAGE)
-            complete(stage);
+        } else if (count > 0) {
+            take(numbers[0], numbers[1]);
+        }
     }
     if (ferror(stdin) || ferror(stdout)) {
         fprintf(stderr, "standard %s: %s\n", ferror(stdin) ? "input" : "output", strerror(errno));

@@ -1,5 +1,5 @@
-// Tries on the library what the header says of null pointers, of a book's length, of the words for each code, and of the stack. Prints what
-// does not hold; exit status 0 if nothing, else 1. Wants POSIX contexts, to run a call on a stack that was painted before.
+// Tries on the library what the header says of null pointers, of a book's length, of roles, of the words for each code, and of the stack.
+// Prints what does not hold; exit status 0 if nothing, else 1. Wants POSIX contexts, to run a call on a stack that was painted before.
 #define _XOPEN_SOURCE 700
 #include "ozhimka.h"
 
@@ -31,7 +31,8 @@ static void put16(uint8_t *at, size_t number)
     at[1] = (uint8_t)(number >> 8);
 }
 
-// A chart of 64 groups, each in the one before, with an event in each, and 4,096 relations: all kinds but exclude.
+// A chart of 64 groups, each in the one before, with an event in each, and 4,096 relations: all kinds but exclude. The first group names
+// role 0, and the last event role 7.
 static void largest_chart(void)
 {
     size_t nodes = OZHIMKA_MAX_NODES, events = OZHIMKA_MAX_EVENTS, relations_at = OZHIMKA_CHART_HEADER + OZHIMKA_NODE_SIZE * nodes;
@@ -44,6 +45,8 @@ static void largest_chart(void)
         put16(node, n == 0 ? OZHIMKA_NO_PARENT : n < events ? n - 1 : n - events);
         put16(node + 2, n < events ? 0 : OZHIMKA_FLAG_INCLUDED);
     }
+    image[OZHIMKA_CHART_HEADER + 3] = 1;
+    image[relations_at - 1] = 1 << (OZHIMKA_MAX_ROLES - 1);
     for (size_t k = 0; k < OZHIMKA_MAX_RELATIONS; k++) {
         uint8_t *relation = image + relations_at + OZHIMKA_RELATION_SIZE * k;
         put16(relation, events + k % events);
@@ -57,7 +60,7 @@ static void largest_chart(void)
 
 static void no_call(void) {}
 static void read_chart(void) { reading = ozhimka_read_chart(image, image_length); }
-static void execute(void) { reading.marking = ozhimka_execute(reading.chart, reading.marking, 0).marking; }
+static void execute(void) { reading.marking = ozhimka_execute(reading.chart, reading.marking, 0, 0).marking; }
 static void count_open(void) { order[0] = (uint16_t)ozhimka_count_open(reading.chart, reading.marking).count; }
 static void finished(void) { settled.snapshot.marks[0] = ozhimka_finished(reading.chart, reading.marking).yes; }
 static void matching(void) { settled = ozhimka_matching(reading.chart, reading.marking); }
@@ -131,11 +134,30 @@ static void try_null(void)
     expect(ozhimka_book_length(no_rules) == sizeof no_rules, "the length of a book without rules");
 }
 
+// What the header says of the roles in ozhimka_chart and of the order of ozhimka_execute's refusals.
+static void try_roles(void)
+{
+    struct ozhimka_chart chart = reading.chart;
+    struct ozhimka_marking marking = {0, 0, 0};
+    uint32_t last = OZHIMKA_MAX_EVENTS - 1, role = OZHIMKA_MAX_ROLES - 1;
+    expect(chart.roles[0] == 1 && chart.roles[last] == 129, "an event has its roles and those of the groups above it");
+    expect(is(ozhimka_execute(chart, marking, last, role).answer, OZHIMKA_NOT_INCLUDED, 0), "a role that the event names");
+    expect(is(ozhimka_execute(chart, marking, 0, role).answer, OZHIMKA_NOT_PERMITTED, 0), "another event's role");
+    expect(is(ozhimka_execute(chart, marking, OZHIMKA_MAX_EVENTS, role).answer, OZHIMKA_NO_SUCH_EVENT, 0), "no event, whatever the role");
+    chart.roles[0] = 0;
+    expect(is(ozhimka_execute(chart, marking, 0, role).answer, OZHIMKA_NOT_INCLUDED, 0), "an event that is open to everyone");
+    expect(is(ozhimka_execute(chart, marking, 0, role + 1).answer, OZHIMKA_NOT_PERMITTED, 0), "a number that is no role");
+    struct ozhimka_chart none = {.count = 1};
+    none.roles[last] = 1;
+    expect(is(ozhimka_execute(none, marking, last, role + 1).answer, OZHIMKA_UNFIT, 0), "a role past the count");
+    expect(is(ozhimka_count_open(none, marking).answer, OZHIMKA_UNFIT, 0), "a role past the count in another call");
+}
+
 static void try_reasons(void)
 {
     const char *unknown = ozhimka_reason(UINT32_MAX);
-    for (uint32_t code = 0; code <= OZHIMKA_ORDER_ROOM; code++) {
-        bool known = code <= OZHIMKA_BOOK_ROOM || code >= OZHIMKA_BOOK_SHORT;
+    for (uint32_t code = 0; code <= OZHIMKA_NOT_PERMITTED + 1; code++) {
+        bool known = code <= OZHIMKA_BOOK_ROOM || (code >= OZHIMKA_BOOK_SHORT && code <= OZHIMKA_NOT_PERMITTED);
         expect((strcmp(ozhimka_reason(code), unknown) != 0) == known, "words for each code and for no other number");
     }
 }
@@ -145,6 +167,7 @@ int main(void)
     open.marks[0] = true;
     try_stack();
     try_null();
+    try_roles();
     try_reasons();
     return failures == 0 ? 0 : 1;
 }

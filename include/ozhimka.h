@@ -8,23 +8,25 @@
 // for as many elements as the count says, and nobody else writes them during the call. A pointer to uint16_t is even. Room that is lent
 // to be written overlaps nothing else that the call is given. A `bool` is 0 or 1.
 //
-// Stack, at most, with the copies that the caller's code makes there of structs that go in or come back by value (ozhimka_chart takes 2,568
-// bytes, ozhimka_reading 2,608), and without what the C library and the dynamic linker take: ozhimka_check 72 KiB, ozhimka_complete
+// Stack, at most, with the copies that the caller's code makes there of structs that go in or come back by value (ozhimka_chart takes 2,632
+// bytes, ozhimka_reading 2,672), and without what the C library and the dynamic linker take: ozhimka_check 72 KiB, ozhimka_complete
 // 56 KiB, ozhimka_read_chart 17 KiB, every other call 6 KiB.
 //
 // Every answer is a code, a place and an other. Code 0 is granted; any other refuses, and then
 //   - a marking or a snapshot that was handed in is handed back as it was;
 //   - no byte of lent room is written.
-// Place and other are 0 where the list below names nothing. Of several reasons the lowest code is given (14 before 10 to 13),
-// within a code the lowest place, then the lowest other.
+// Place and other are 0 where the list below names nothing. Of several reasons the lowest code is given, in ozhimka_execute the first of
+// 14, 10, 32, 11, 12, 13; within a code the lowest place, then the lowest other.
 //
 // Chart image. Numbers of 16 bits, little-endian, and nothing behind the last:
 //   header       count of nodes N (1 to 128), count of relations K (0 to 4,096), 8, 8 + 4 N
-//   N nodes      parent (a node, or 65,535 for none), flags (sum of 1 executed, 2 pending, 4 included)
+//   N nodes      parent (a node, or 65,535 for none), flags: the lower byte is the sum of 1 executed, 2 pending, 4 included, the upper byte
+//                the roles that the node names, role r (0 to 7) worth 256 times 2 to the r
 //   K relations  from (a node), to (a node), kind: 0 from is a condition of to, 1 to is a response of from, 2 from is a milestone of to,
 //                3 from includes to, 4 from excludes to
-// A node that is nobody's parent is an event; events are numbered from 0 in node order. Any other node is a group, and its flags are 0.
-// Parents form no loop, also none of one node. A relation of a group holds for each event below it; repeats mean nothing more.
+// A node that is nobody's parent is an event; events are numbered from 0 in node order. Any other node is a group, and the lower byte of
+// its flags is 0. Parents form no loop, also none of one node. A relation of a group holds for each event below it; repeats mean nothing
+// more. An event is open to the roles that it names and to those that the groups above it name; where its whole chain names none, to all.
 //
 // Book image, little-endian, and nothing behind the last word:
 //   header, 32 bits each        stages S (0 to 64), marks M (S to 256), rules R (0 to 8,384), conditions Q (0 to 256),
@@ -81,16 +83,18 @@ enum {
     OZHIMKA_MAX_RULES = 8384,                    // rules of a book, and numbers of an order
     OZHIMKA_MAX_CONDITIONS = 256,                // conditions of a book
     OZHIMKA_MAX_WORDS = 41024,                   // words of a book
-    OZHIMKA_MAX_STACK = 16                       // values that a condition's text holds at once
+    OZHIMKA_MAX_STACK = 16,                      // values that a condition's text holds at once
+    OZHIMKA_MAX_ROLES = 8                        // roles, which are 0 to 7
 };
 
-// The chart image: sizes in bytes, flags of a node, kinds of a relation.
+// The chart image: sizes in bytes, flags and roles of a node, kinds of a relation.
 enum {
     OZHIMKA_CHART_HEADER = 8,
     OZHIMKA_NODE_SIZE = 4,
     OZHIMKA_RELATION_SIZE = 6,
     OZHIMKA_MAX_CHART = OZHIMKA_CHART_HEADER + OZHIMKA_NODE_SIZE * OZHIMKA_MAX_NODES + OZHIMKA_RELATION_SIZE * OZHIMKA_MAX_RELATIONS,
-    OZHIMKA_NO_PARENT = 65535
+    OZHIMKA_NO_PARENT = 65535,
+    OZHIMKA_FLAGS_BYTE = 256                     // a node's flags: what is below it in the lower byte, role r worth it times 2 to the r
 };
 
 enum ozhimka_flag {
@@ -150,9 +154,9 @@ enum ozhimka_code {
     OZHIMKA_CHART_SHORT = 1,       // chart under 8 bytes
     OZHIMKA_CHART_COUNT = 2,       // N or K is out of range
     OZHIMKA_CHART_LENGTH = 3,      // not 8 and 8 + 4 N in the header, or the length is not 8 + 4 N + 6 K
-    OZHIMKA_BAD_NODE = 4,          // a parent from N to 65,534, or flags above 7; place: node
+    OZHIMKA_BAD_NODE = 4,          // a parent from N to 65,534, or the lower byte of the flags above 7; place: node
     OZHIMKA_PARENTS_LOOP = 5,      // parents loop; place: lowest node on a loop
-    OZHIMKA_GROUP_FLAGS = 6,       // group with flags; place: node
+    OZHIMKA_GROUP_FLAGS = 6,       // group with flags in the lower byte; place: node
     OZHIMKA_MANY_EVENTS = 7,       // over 64 events; place: how many
     OZHIMKA_BAD_RELATION = 8,      // from or to not below N, or a kind above 4; place: relation
     OZHIMKA_INCLUDE_EXCLUDE = 9,   // include and exclude of one pair; place: from event, other: to event
@@ -175,7 +179,8 @@ enum ozhimka_code {
     OZHIMKA_MARK_ABOVE = 28,       // a mark of the snapshot at or above M is yes
     OZHIMKA_NO_SUCH_STAGE = 29,
     OZHIMKA_STAGE_CLOSED = 30,
-    OZHIMKA_ORDER_ROOM = 31        // room for the order too short; place: numbers needed
+    OZHIMKA_ORDER_ROOM = 31,       // room for the order too short; place: numbers needed
+    OZHIMKA_NOT_PERMITTED = 32     // the event names roles and this is none of them, or the role is above 7
 };
 
 struct ozhimka_answer {
@@ -183,12 +188,14 @@ struct ozhimka_answer {
 };
 
 // A flat chart: sets of events, event f at bit f. conditions[e] and milestones[e] hold event e back; responses[e] become pending,
-// includes[e] included and excludes[e] excluded when e is executed. It is fit if count is 1 to 64, no set has a bit at or above
-// count, every entry at or above count is 0, and no entry's includes and excludes have a bit in common.
+// includes[e] included and excludes[e] excluded when e is executed. Role r may execute e where bit r of roles[e] is set; where roles[e] is
+// 0, e is open to everyone, which is to roles 0 to 7. The chart is fit if count is 1 to 64, no set has a bit at or above count, every entry
+// at or above count is 0, in roles too, and no entry's includes and excludes have a bit in common.
 struct ozhimka_chart {
     uint32_t count;
     uint64_t conditions[OZHIMKA_MAX_EVENTS], responses[OZHIMKA_MAX_EVENTS], milestones[OZHIMKA_MAX_EVENTS];
     uint64_t includes[OZHIMKA_MAX_EVENTS], excludes[OZHIMKA_MAX_EVENTS];
+    uint8_t roles[OZHIMKA_MAX_EVENTS];
 };
 
 // Which events were executed, are pending, are included. It is fit for a chart if no bit stands at or above the chart's count.
@@ -229,9 +236,9 @@ struct ozhimka_settled {
 };
 
 // The sizes that the archive is built with: a compiler that lays the structs out in another way stops here.
-typedef char ozhimka_sizes[sizeof(size_t) == 8 && sizeof(struct ozhimka_answer) == 12 && sizeof(struct ozhimka_chart) == 2568
+typedef char ozhimka_sizes[sizeof(size_t) == 8 && sizeof(struct ozhimka_answer) == 12 && sizeof(struct ozhimka_chart) == 2632
                                    && sizeof(struct ozhimka_marking) == 24 && sizeof(struct ozhimka_snapshot) == 256
-                                   && sizeof(struct ozhimka_reading) == 2608 && sizeof(struct ozhimka_step) == 40
+                                   && sizeof(struct ozhimka_reading) == 2672 && sizeof(struct ozhimka_step) == 40
                                    && sizeof(struct ozhimka_open_count) == 20 && sizeof(struct ozhimka_finish) == 16
                                    && sizeof(struct ozhimka_settled) == 268
                                ? 1
@@ -243,13 +250,16 @@ struct ozhimka_counts {
 };
 
 // The flat chart and the start marking of a chart image of `length` bytes. Refuses with 1 to 9, and then gives a chart of count 0
-// with every set empty, and an empty marking.
+// with every set empty and no roles, and an empty marking.
 struct ozhimka_reading ozhimka_read_chart(const uint8_t *image, size_t length);
 
-// The marking after an event is executed, which has to be open: included, each included condition of it executed, no included milestone
-// of it pending. It is then executed and, unless it is its own response, pending no more; its responses are pending, what it excludes is
-// excluded, what it includes included. Refuses with 10 to 14, and then hands the marking back.
-struct ozhimka_step ozhimka_execute(struct ozhimka_chart chart, struct ozhimka_marking marking, uint32_t event);
+// The marking after an event is executed by a role. The role has to be permitted: 0 to 7, and one of roles[event] unless that is 0; for a
+// chart that names no roles any of 0 to 7 will do. The event has to be open: included, each included condition of it executed, no included
+// milestone of it pending. It is then executed and, unless it is its own response, pending no more; its responses are pending, what it
+// excludes is excluded, what it includes included. Refuses with the first that holds of 14 (unfit chart or marking), 10 (no such event), 32
+// (role not permitted), 11 (not included), 12 (condition wanting), 13 (milestone wanting), and then hands the marking back.
+// No other call takes a role, and a rule book carries none: a controller that runs the book asks here whether the role is permitted.
+struct ozhimka_step ozhimka_execute(struct ozhimka_chart chart, struct ozhimka_marking marking, uint32_t event, uint32_t role);
 
 // How many events are open, and the lowest of them, OZHIMKA_NO_EVENT if none is. Refuses with 14, and then gives 0 and OZHIMKA_NO_EVENT.
 struct ozhimka_open_count ozhimka_count_open(struct ozhimka_chart chart, struct ozhimka_marking marking);
@@ -309,9 +319,9 @@ static inline const char *ozhimka_reason(uint32_t code)
     case OZHIMKA_CHART_SHORT: return "the chart is too short to have a header";
     case OZHIMKA_CHART_COUNT: return "the chart's count of nodes or of relations is out of range";
     case OZHIMKA_CHART_LENGTH: return "the chart's offsets or its length do not fit its counts";
-    case OZHIMKA_BAD_NODE: return "a node's parent is no node of the chart, or its flags are above 7 (place: the node)";
+    case OZHIMKA_BAD_NODE: return "a node's parent is no node of the chart, or the lower byte of its flags is above 7 (place: the node)";
     case OZHIMKA_PARENTS_LOOP: return "parents form a loop (place: the lowest node on one)";
-    case OZHIMKA_GROUP_FLAGS: return "a group has flags (place: its node)";
+    case OZHIMKA_GROUP_FLAGS: return "a group has flags in the lower byte (place: its node)";
     case OZHIMKA_MANY_EVENTS: return "the chart has over 64 events (place: how many)";
     case OZHIMKA_BAD_RELATION: return "a relation names no node of the chart, or no kind (place: the relation)";
     case OZHIMKA_INCLUDE_EXCLUDE: return "an event both includes and excludes another (place: the one, other: the other)";
@@ -333,6 +343,7 @@ static inline const char *ozhimka_reason(uint32_t code)
     case OZHIMKA_NO_SUCH_STAGE: return "the book has no such stage";
     case OZHIMKA_STAGE_CLOSED: return "the stage is closed";
     case OZHIMKA_ORDER_ROOM: return "the room for the order is too short (place: numbers needed)";
+    case OZHIMKA_NOT_PERMITTED: return "the event names other roles, or the role is none of 0 to 7";
     default: return "no code of this library";
     }
 }
