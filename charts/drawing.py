@@ -4,7 +4,7 @@ import os
 from collections import namedtuple
 
 from files import image_sort
-from words import CHART_HEADER, MAX_EVENTS, MAX_NODES, MAX_RELATIONS, NODE_SIZE, NO_PARENT
+from words import CHART_HEADER, FLAGS_BYTE, MAX_EVENTS, MAX_NODES, MAX_RELATIONS, MAX_ROLES, NODE_SIZE, NO_PARENT
 
 FLAGS = {'executed': 1, 'pending': 2, 'included': 4}
 KINDS = {'condition': 0, 'response': 1, 'milestone': 2, 'include': 3, 'exclude': 4}
@@ -16,6 +16,7 @@ MAX_TEXT = 1048576
 SHOWN = 40
 
 Relation = namedtuple('Relation', 'line origin kind to')
+Role = namedtuple('Role', 'line name number')
 
 
 class Mistake(Exception):
@@ -29,12 +30,14 @@ class Node:
         self.sort, self.name, self.line = sort, name, line
         self.group = None
         self.flags = 0
+        self.roles = []  # names, as the line has them
 
 
 class Drawing:
-    """The nodes by name and the relations, both in the order of their lines."""
+    """The roles and the nodes by name, and the relations, all in the order of their lines."""
 
     def __init__(self):
+        self.roles = {}
         self.nodes = {}
         self.relations = []
 
@@ -47,6 +50,11 @@ class Drawing:
         while node is not None:
             yield node
             node = self.nodes.get(node.group)
+
+    def roles_of(self, node):
+        """The roles that a node and the groups above it name, by number; none is open to everyone."""
+        named = {name for above in self.above(node) for name in above.roles}
+        return sorted((self.roles[name] for name in named), key=lambda role: role.number)
 
 
 def text_path(path):
@@ -73,7 +81,7 @@ def read(data):
                 raise mistake(number, 'a character here cannot be printed')
         if words:
             READERS.get(words[0], read_relation)(drawing, number, words)
-    for check in (check_any, check_groups, check_names):
+    for check in (check_any, check_groups, check_roles, check_names):
         check(drawing)
     return drawing
 
@@ -133,6 +141,25 @@ def read_in(node, words):
     return words[2:]
 
 
+def read_by(node, words):
+    """`by ROLE and ROLE ..`; whether there are such roles is seen when all lines are read, as with groups."""
+    if node.roles:
+        raise mistake(node.line, '%s is by %s already; write `and` between several roles', node.name, node.roles[0])
+    at, joined = 0, 'by'
+    while words[at:at + 1] == [joined]:
+        name = ''.join(words[at + 1:at + 2])
+        if not name or name in JOINING:
+            raise mistake(node.line, 'a role is missing behind `%s`', joined)
+        if name in node.roles:
+            raise mistake(node.line, '%s is by %s twice', node.name, name)
+        node.roles.append(name)
+        check_room(node.line, name, 'role', len(node.roles), MAX_ROLES)
+        at, joined = at + 2, 'and'
+    if at < len(words) and words[at] not in JOINING:
+        raise mistake(node.line, '%s stands behind the role %s: write `and` between several roles', words[at], name)
+    return words[at:]
+
+
 def read_flag(node, words):
     if words[0] not in FLAGS:
         raise mistake(node.line, '%s is none of executed, pending, included', words[0])
@@ -142,9 +169,26 @@ def read_flag(node, words):
     return words[1:]
 
 
+def read_role(drawing, line, words):
+    if len(words) != 3:
+        raise mistake(line, 'expected role NAME NUMBER, as role intern 3')
+    name, number = words[1:]
+    if name in READERS or name in JOINING:
+        raise mistake(line, '%s has a meaning of its own and cannot be the name of a role', name)
+    if name in drawing.roles:
+        raise mistake(line, 'the role %s is there already (line %s)', name, drawing.roles[name].line)
+    check_room(line, name, 'role', len(drawing.roles) + 1, MAX_ROLES)
+    if number not in map(str, range(MAX_ROLES)):
+        raise mistake(line, '%s is no number of a role, which are 0 to %s', number, MAX_ROLES - 1)
+    for other in drawing.roles.values():
+        if other.number == int(number):
+            raise mistake(line, 'the number %s is that of the role %s (line %s)', number, other.name, other.line)
+    drawing.roles[name] = Role(line, name, int(number))
+
+
 def read_relation(drawing, line, words):
     if len(words) != 3:
-        raise mistake(line, 'expected event NAME, group NAME, or NAME %s NAME' % '|'.join(KINDS))
+        raise mistake(line, 'expected event NAME, group NAME, role NAME NUMBER, or NAME %s NAME' % '|'.join(KINDS))
     if words[1] not in KINDS:
         raise mistake(line, '%s is none of ' + ', '.join(KINDS), words[1])
     drawing.relations.append(Relation(line, *words))
@@ -157,8 +201,10 @@ def check_room(line, name, sort, count, limit):
 
 
 # What begins a line, and what stands behind a node's name: the flags and these.
-READERS = {'event': read_node, 'group': read_node}
-CLAUSES = {'in': read_in}
+READERS = {'event': read_node, 'group': read_node, 'role': read_role}
+CLAUSES = {'in': read_in, 'by': read_by}
+# What cannot be the name of a role, since it stands behind one.
+JOINING = {'and', *CLAUSES, *FLAGS}
 
 
 # ---- What has to hold between the lines
@@ -181,6 +227,13 @@ def check_groups(drawing):
     for node in drawing.nodes.values():
         if node.sort == 'group' and node.name not in filled:
             raise mistake(node.line, 'nothing is in the group %s, so it would be an event', node.name)
+
+
+def check_roles(drawing):
+    for node in drawing.nodes.values():
+        for name in node.roles:
+            if name not in drawing.roles:
+                raise mistake(node.line, 'there is no role %s', name)
 
 
 def check_loops(drawing):
@@ -262,7 +315,8 @@ def image(drawing):
     nodes, relations = drawing.nodes.values(), drawing.relations
     numbers = [len(nodes), len(relations), CHART_HEADER, CHART_HEADER + NODE_SIZE * len(nodes)]
     for node in nodes:
-        numbers += [NO_PARENT if node.group is None else place[node.group], node.flags]
+        roles = sum(1 << drawing.roles[name].number for name in node.roles)
+        numbers += [NO_PARENT if node.group is None else place[node.group], node.flags + FLAGS_BYTE * roles]
     for relation in relations:
         numbers += [place[relation.origin], place[relation.to], KINDS[relation.kind]]
     return b''.join(one.to_bytes(2, 'little') for one in numbers)
