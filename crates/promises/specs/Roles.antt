@@ -3,14 +3,14 @@
 use Prim.Native.Nat.{ℕ, zero, suc, _+_, _-_, _<_}
 use mathlib.Core.Path.{_≡_, refl, sym, ap, _∙_}
 use mathlib.Core.Bool.{Bool, not, cond, _&&_, and-true}
-use mathlib.Core.Logic.{inl, ⊎-elim}
+use mathlib.Core.Logic.{_↔_, _⊎_, inl, inr, ⊎-elim}
 use mathlib.Core.List.{List, [], _∷_}
 use native.Mathlib.Omega.{arith}
 use lib.ListN.{getD, replicate}
 use lib.Dec.{eqb, leb}
 use borrow.Author.Tests.{eq-eqb}
 use Rattle.paper.specs.Limits.{maxEvents, maxRoles, noSuchEvent, notPermitted, unfit}
-use Rattle.sets.specs.Cases.{contra}
+use Rattle.sets.specs.Cases.{contra, not-so}
 use Rattle.sets.specs.Set.{has}
 use Rattle.sets.specs.Laws.{has-empty, has-union, none-zero}
 use Rattle.sets.specs.Tables.{zeros-at}
@@ -77,6 +77,21 @@ buyer image ok e s r named other =
         ⊎-elim
         (λ z. contra (reading-names image ok e s room .1 named) (ap (λ (x : ℕ). has x s) z ∙ has-empty s))
         (λ i. other (reading-names image ok e r room .0 i)) (p .open-or-named)
+
+-- of an accepted chart's event: permitted are the roles of its whole chain, and every one of 0 to 7 where that names none
+pub permitted-so : (image : List ℕ) → reading image .answer .code ≡ 0 → (e r : ℕ) → e < maxEvents
+    → Permits (rolesOf (reading image .chart) e) r ↔ ((r < maxRoles) × (((s : ℕ) → Names image e s → ⊥) ⊎ Names image e r))
+permitted-so image ok e r h = (
+  λ p. (
+    p .known,
+    ⊎-elim (λ z. inl (λ s n. contra (reading-names image ok e s h .1 n) (ap (λ (x : ℕ). has x s) z ∙ has-empty s)))
+    (λ i. inr (reading-names image ok e r h .0 i)) (p .open-or-named),
+  ),
+  λ t. record {
+    known = t .0;
+    open-or-named = ⊎-elim (λ n. inl (none-zero _ (λ s. not-so (λ i. n s (reading-names image ok e s h .0 i))))) (λ n. inr (reading-names image ok e r h .1 n)) (t .1);
+  },
+)
 
 -- ---- charts stored before
 
