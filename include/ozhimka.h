@@ -94,7 +94,7 @@ enum {
     OZHIMKA_RELATION_SIZE = 6,
     OZHIMKA_MAX_CHART = OZHIMKA_CHART_HEADER + OZHIMKA_NODE_SIZE * OZHIMKA_MAX_NODES + OZHIMKA_RELATION_SIZE * OZHIMKA_MAX_RELATIONS,
     OZHIMKA_NO_PARENT = 65535,
-    OZHIMKA_FLAGS_BYTE = 256                     // a node's flags: what is below it in the lower byte, role r worth it times 2 to the r
+    OZHIMKA_FLAGS_BYTE = 256                     // role r of a node's flags is worth this times 2 to the r
 };
 
 enum ozhimka_flag {
@@ -283,7 +283,8 @@ struct ozhimka_answer ozhimka_check(const uint8_t *book, size_t length, uint16_t
 
 // The snapshot after a stage is completed: goes once through the order, which has one number for each rule of the book (as
 // ozhimka_check writes it; any fit order ends alike), and fires each rule whose trigger and condition hold. The book is checked
-// anew in every call. Refuses with 20 to 30, and then hands the snapshot back.
+// anew in every call. Books carry no roles: who may complete a stage is for ozhimka_execute to say first. Refuses with 20 to 30, and then
+// hands the snapshot back.
 struct ozhimka_settled ozhimka_complete(const uint8_t *book, size_t length, const uint16_t *order, size_t count,
                                         struct ozhimka_snapshot snapshot, uint32_t stage);
 

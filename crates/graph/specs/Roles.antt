@@ -10,7 +10,7 @@ use Rattle.sets.specs.Cases.{both, either, or-right}
 use Rattle.sets.specs.Set.{has}
 use Rattle.graph.specs.Chart.{In}
 
--- "32, role not permitted or not 0 to 7"; "An event whose whole chain names no role stays open to everyone."
+-- "32, role not permitted or not 0 to 7"; "An event whose whole chain names no role stays open to everyone"
 pub record Permits (roles r : ℕ) : Type 0 where
   pub known : r < maxRoles
   pub open-or-named : (roles ≡ 0) ⊎ In roles r

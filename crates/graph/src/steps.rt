@@ -67,7 +67,7 @@ pub fn permits(roles: u8, role: u32) -> bool
     (role < MAX_ROLES) & ((roles == 0) | sets::member(roles as u64, role as usize))
 }
 
-// The sets of event e, out of lent tables.
+// The sets and the roles of event e, out of lent tables.
 pub fn row_at<'a>(
     e: usize,
     conditions: &'a [u64; MAX_EVENTS],

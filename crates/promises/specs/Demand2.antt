@@ -179,7 +179,7 @@ module _ (c : FlatChart) (fit : Fit c) where
 -- ---- every step of every sequence
 
 -- one step by one role: where it is permitted, chart and book grant the same, and the book's snapshot matches the chart's next marking; where it is
--- not, the chart refuses with 32 and the marking stays
+-- not, the chart refuses an event that it has with 32 and the marking stays
 pub record Agrees (c : FlatChart) (l : List ℕ) (m : Marking) (e r : ℕ) : Type 0 where
   pub grants : Permits (rolesOf c e) r → (executing c m e r .answer .code ≡ 0) ↔ (completing (derivedImage c) l (matchingOf c m .snapshot) e .answer .code ≡ 0)
   pub matches : Permits (rolesOf c e) r → completing (derivedImage c) l (matchingOf c m .snapshot) e .snapshot ≡ matchingOf c (executing c m e r .marking) .snapshot

@@ -29,17 +29,17 @@ use Rattle.chart.specs.Stored.{Plain, readingBefore, reads-as-before, all-open}
 use Rattle.chart.specs.declared.Reading.{Reading}
 
 -- ---- along a sequence of steps, each an event and a role: no step of event e by role r is granted, and none changes the marking
-abbrev pub Never : FlatChart → ℕ → ℕ → Marking → List (ℕ × ℕ) → Type 0
-Never c e r m [] = Unit {0}
-Never c e r m (s ∷ steps) =
+abbrev pub NeverBy : FlatChart → ℕ → ℕ → Marking → List (ℕ × ℕ) → Type 0
+NeverBy c e r m [] = Unit {0}
+NeverBy c e r m (s ∷ steps) =
     (s .0 ≡ e → s .1 ≡ r → (executing c m e r .answer .code ≡ 0 → ⊥) × (executing c m e r .marking ≡ m))
-    × Never c e r (executing c m (s .0) (s .1) .marking) steps
+    × NeverBy c e r (executing c m (s .0) (s .1) .marking) steps
 
 module _ (c : FlatChart) (e r : ℕ) (no : Permits (rolesOf c e) r → ⊥) where
   pub not-granted : (m : Marking) → executing c m e r .answer .code ≡ 0 → ⊥
   not-granted m g = no (granted-enabled c m e r .0 g .0 .permitted)
 
-  pub never : (m : Marking) (steps : List (ℕ × ℕ)) → Never c e r m steps
+  pub never : (m : Marking) (steps : List (ℕ × ℕ)) → NeverBy c e r m steps
   never m [] = tt
   never m (s ∷ steps) = (λ _ _. (not-granted m, refused-kept c m e r (not-granted m)), never (executing c m (s .0) (s .1) .marking) steps)
 
@@ -50,7 +50,7 @@ module _ (c : FlatChart) (e r : ℕ) (no : Permits (rolesOf c e) r → ⊥) wher
 
 pub record Buyer (image : List ℕ) (e r : ℕ) : Type 0 where
   -- from no marking, along no sequence of steps, is e executed by r
-  pub never : (m : Marking) (steps : List (ℕ × ℕ)) → Never (reading image .chart) e r m steps
+  pub never : (m : Marking) (steps : List (ℕ × ℕ)) → NeverBy (reading image .chart) e r m steps
   -- and where the marking is fit it is told 32
   pub told : (m : Marking) → FitMarking (reading image .chart .count) m → executing (reading image .chart) m e r ≡ refusing notPermitted 0 m
 
@@ -85,7 +85,7 @@ permitted-so image ok e r h = (
   λ p. (
     p .known,
     ⊎-elim (λ z. inl (λ s n. contra (reading-names image ok e s h .1 n) (ap (λ (x : ℕ). has x s) z ∙ has-empty s)))
-    (λ i. inr (reading-names image ok e r h .0 i)) (p .open-or-named),
+        (λ i. inr (reading-names image ok e r h .0 i)) (p .open-or-named),
   ),
   λ t. record {
     known = t .0;
