@@ -8,20 +8,20 @@ use lib.Dec.{eqb, ltb}
 use lib.ListN.{length}
 use borrow.Author.Tests.{eqb-true, ne-eqb, lt-ltb, le-ltb}
 use Rattle.paper.specs.Limits.{maxEvents}
-use Rattle.sets.specs.Cases.{contra, cases, either}
+use Rattle.general.specs.Cases.{contra, cases, either}
 use Rattle.sets.specs.Set.{has}
 use Rattle.graph.specs.Chart.{setOf, condition, response, milestone, include, exclude}
 use Rattle.graph.specs.declared.FlatChart.{FlatChart}
 use Rattle.book.specs.Text.{elem}
 use Rattle.book.specs.Book.{ruleOf, textOf, noRule}
 use Rattle.book.specs.Firing.{refers, awaits, reads}
-use Rattle.book.specs.Lists.{flat, All, all-append, all-flat, all-at}
+use Rattle.general.specs.Lists.{flat, All, all-append, all-flat, all-at}
 use Rattle.book.specs.declared.Rule.{Rule}
-use Rattle.orders.specs.Order.{NoLoop}
-use Rattle.orders.specs.Running.{turn}
-use Rattle.ordering.specs.Rules.{netOf}
+use Rattle.order_theory.specs.Order.{NoLoop}
+use Rattle.order_theory.specs.Running.{turn}
+use Rattle.rule_order.specs.Rules.{netOf}
 use Rattle.clashes.specs.Clash.{clash, opposed, apart, otherStages, completesOther, oppositeSenses, isWritten, isNegated, NoClash}
-use Rattle.derived.specs.Derived.{executedMark, includedMark, answeredMark, on, opens, closes, listed, clause, textFor, inclusion, responding, answering, executing, derivedText, derivedBook, derivedRules, derived-text, join}
+use Rattle.derived.specs.Derived.{executedMark, includedMark, answeredMark, on, opens, closes, listed, clause, textFor, inclusion, responding, answering, settingExecuted, derivedText, derivedBook, derivedRules, derived-text, join}
 
 all-elem : (P : ℕ → Type 0) (l : List ℕ) → All P l → (k : ℕ) → elem k l ≡ true → P k
 unfolding elem
@@ -60,7 +60,7 @@ module _ (c : FlatChart) where
       let q : 3 * n + f - 3 * n ≡ f = omega arith in
       wrote d (3 * n + f) b (rw (le-ltb (3 * n + f) (2 * n) (omega arith), le-ltb (3 * n + f) (3 * n) (omega arith), q) e) (omega arith) (omega arith)
 
-  writes-executed : (d : ℕ) → d < c .count → Shape (executing (c .count) d)
+  writes-executed : (d : ℕ) → d < c .count → Shape (settingExecuted (c .count) d)
   unfolding value
   writes-executed d h = let n : ℕ = c .count in wrote d (n + d) true (rw (lt-ltb (n + d) (2 * n) (omega arith))) (omega arith) (omega arith)
 

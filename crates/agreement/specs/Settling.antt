@@ -5,7 +5,7 @@ use mathlib.Core.Bool.{Bool, true, false, not, _&&_, _||_, or-true, or-false}
 use native.Mathlib.Omega.{arith}
 use lib.Dec.{eqb, ltb}
 use borrow.Author.Tests.{eqb-true, eq-eqb, ltb-true, ltb-false, not-true, not-false}
-use Rattle.sets.specs.Cases.{contra, cases, both}
+use Rattle.general.specs.Cases.{contra, cases, both}
 use Rattle.sets.specs.Set.{has, minus, only}
 use Rattle.sets.specs.Laws.{has-union, has-minus, has-only}
 use Rattle.graph.specs.Chart.{setOf, response, include, exclude, Fit}
@@ -15,10 +15,10 @@ use Rattle.graph.specs.declared.Marking.{Marking}
 use Rattle.book.specs.Text.{holds}
 use Rattle.book.specs.Book.{textOf, noRule}
 use Rattle.book.specs.Firing.{fires, triggered, allowed}
-use Rattle.book.specs.Lists.{all-at, at-all}
+use Rattle.general.specs.Lists.{all-at, at-all}
 use Rattle.book.specs.declared.Rule.{Rule}
-use Rattle.orders.specs.Settle.{Settled}
-use Rattle.ordering.specs.Rules.{netOf, actsOf}
+use Rattle.order_theory.specs.Settle.{Settled}
+use Rattle.rule_order.specs.Rules.{netOf, actsOf}
 use Rattle.deriver.specs.Matching.{markOf}
 use Rattle.derived.specs.Derived.{executedMark, includedMark, answeredMark, on, inclusion, responding, answering, derivedText, derivedBook, derivedRules, derived-text, Parts, join, parts}
 use Rattle.agreement.specs.Matching.{match-stage, match-executed, match-included, match-answered, match-past}
@@ -58,15 +58,15 @@ module _ (c : FlatChart) (fit : Fit c) (m : Marking) (e : ℕ) (he : e < c .coun
   abbrev Fired : Rule → Bool
   Fired x = triggered (markOf c m) e (x .trigger) (markOf c next) && allowed (textOf (derivedBook c)) (x .sense) (markOf c next)
 
-  abbrev Wrote : Rule → Type 0
-  Wrote x = Fired x ≡ true → markOf c next (x .target) ≡ x .effect
+  abbrev Writes : Rule → Type 0
+  Writes x = Fired x ≡ true → markOf c next (x .target) ≡ x .effect
 
   -- a rule on a completion has written if it is on e's
-  on-wrote : (d : ℕ) (b : Bool) (k : ℕ) → (d ≡ e → markOf c next k ≡ b) → Wrote (on d b k)
+  on-wrote : (d : ℕ) (b : Bool) (k : ℕ) → (d ≡ e → markOf c next k ≡ b) → Writes (on d b k)
   unfolding triggered allowed
   on-wrote d b k w f = w (eqb-true d e (both (eqb d e) true f .0))
 
-  all-wrote : Parts c Wrote
+  all-wrote : Parts c Writes
   unfolding triggered allowed inclusion responding answering
   all-wrote =
       record {
@@ -146,6 +146,6 @@ module _ (c : FlatChart) (fit : Fit c) (m : Marking) (e : ℕ) (he : e < c .coun
   unfolding netOf actsOf derivedBook fires
   derived-settled =
       record {
-        wrote = λ r h f. all-at Wrote noRule (derivedRules c) (join c Wrote all-wrote) r h f;
+        wrote = λ r h f. all-at Writes noRule (derivedRules c) (join c Writes all-wrote) r h f;
         stayed = λ k h. stayed k (parts c (Idle k) (at-all (Idle k) noRule (derivedRules c) (λ r i q. h r i q)));
       }

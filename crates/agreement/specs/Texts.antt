@@ -7,8 +7,8 @@ use native.Mathlib.Omega.{arith}
 use lib.Dec.{eqb}
 use borrow.Author.Tests.{ne-eqb, eq-eqb, eqb-true}
 use Rattle.paper.specs.Limits.{maxEvents, andWord, orWord, notWord}
-use Rattle.sets.specs.Cases.{contra, cases, all3, not-so, same-test}
-use Rattle.sets.specs.Below.{every, every-at, every-of, every-same}
+use Rattle.general.specs.Cases.{contra, cases, all3, not-so, same-test}
+use Rattle.general.specs.Below.{every, every-at, every-of, every-same}
 use Rattle.sets.specs.Set.{has, inter}
 use Rattle.sets.specs.Laws.{has-inter, has-minus, has-empty, none-zero}
 use Rattle.graph.specs.Chart.{setOf, condition, milestone, In, Fit}
@@ -16,7 +16,7 @@ use Rattle.graph.specs.Steps.{isOpen, openWith, unmetOf, awaitedOf}
 use Rattle.graph.specs.declared.FlatChart.{FlatChart}
 use Rattle.graph.specs.declared.Marking.{Marking}
 use Rattle.book.specs.Text.{Snap, push, top1, top2, eval, top, holds}
-use Rattle.book.specs.Lists.{flat}
+use Rattle.general.specs.Lists.{flat}
 use Rattle.deriver.specs.Matching.{markOf}
 use Rattle.derived.specs.Derived.{executedMark, includedMark, answeredMark, listed, clause, textFor, derivedText}
 use Rattle.agreement.specs.Matching.{match-executed, match-included, match-answered}

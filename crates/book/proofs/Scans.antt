@@ -4,7 +4,7 @@ use mathlib.Core.Bool.{Bool, true, false, not}
 use Prim.Native.Nat.{ℕ, _+_, _≤_, _<_}
 use native.Mathlib.Omega.{arith}
 use borrow.Author.Count.{below-more}
-use Rattle.sets.specs.Below.{first, first-found, first-none}
+use Rattle.general.specs.Below.{first, first-found, first-none}
 
 -- every number below r passes, and r does not lie past k
 pub record Passed (k : ℕ) (f : ℕ → Bool) (r : ℕ) : Type 0 where

@@ -7,7 +7,7 @@ use Prim.Native.Nat.{_<_}
 use lib.ListN.{length, getD, set, length-set, replicate}
 use lib.Seq.{getD-set-same, set-getD}
 use Rattle.paper.specs.Limits.{maxMarks}
-use Rattle.sets.specs.Cases.{contra, cases}
+use Rattle.general.specs.Cases.{contra, cases}
 use Rattle.book.specs.declared.Rule.{Rule}
 use Rattle.book.specs.declared.Snapshot.{Snapshot}
 

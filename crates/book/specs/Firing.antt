@@ -5,7 +5,7 @@ use mathlib.Core.List.{List}
 use Prim.Native.Nat.{ℕ}
 use lib.Dec.{eqb}
 use borrow.Author.Tests.{eq-eqb}
-use Rattle.sets.specs.Cases.{or-left, or-right}
+use Rattle.general.specs.Cases.{or-left, or-right}
 use Rattle.book.specs.Text.{Snap, elem, holds, holds-local}
 use Rattle.book.specs.Book.{Book, ruleOf, textOf}
 use Rattle.book.specs.declared.Rule.{Rule}

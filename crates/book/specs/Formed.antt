@@ -12,14 +12,14 @@ use borrow.Author.Tests.{lt-ltb}
 use Rattle.paper.specs.Limits.{maxEvents, maxMarks, maxRules, maxConditions, maxWords, bookHeader, ruleSize}
 use Rattle.wire.specs.Wire.{u16At, bytes16}
 use Rattle.wire.specs.Laws.{u16-first, u16-second}
-use Rattle.book.specs.Good.{GoodText}
+use Rattle.book.specs.GoodTexts.{GoodText}
 use Rattle.book.specs.Book.{Book, noRule, conditionOf, textOf}
 use Rattle.book.specs.Image.{stagesIn, marksIn, rulesIn, conditionsIn, wordsIn, rulePlace, conditionPlace, conditionFrom}
-use Rattle.book.specs.Lists.{All, all-at}
+use Rattle.general.specs.Lists.{All, all-at}
 use Rattle.book.specs.ImageOf.{Local, read-behind, kindByte, triggerNumber, senseByte, conditionNumber, effectByte, ruleRecord, ruleBytes, length-rule, number16, heads, conditionRun, wordRun, header-at, length-header, image-length, imageOf, book-of-image}
 use Rattle.book.specs.Read.{condition-read, text-read}
 use Rattle.book.specs.Judging.{triggerFits, senseFits, ruleFits}
-use Rattle.book.specs.Using.{triggerExists, senseExists, RuleFormed}
+use Rattle.book.specs.WellRead.{triggerExists, senseExists, RuleFormed}
 use Rattle.book.specs.WellFormed.{ConditionIn, RuleIn, Headed, WellFormed, rule-says}
 use Rattle.book.specs.declared.Rule.{Rule}
 use Rattle.book.specs.declared.Trigger.{Trigger}

@@ -5,7 +5,7 @@ use mathlib.Core.List.{List}
 use lib.ListN.{getD}
 use lib.Dec.{eqb}
 use Rattle.paper.specs.Limits.{bookHeader, ruleSize, conditionSize, wordSize}
-use Rattle.sets.specs.Tables.{tabulate}
+use Rattle.general.specs.Tables.{tabulate}
 use Rattle.wire.specs.Wire.{u16At, u32At}
 use Rattle.book.specs.Book.{Book, Condition}
 use Rattle.book.specs.declared.Rule.{Rule}

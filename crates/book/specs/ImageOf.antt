@@ -9,12 +9,12 @@ use lib.Dec.{eqb}
 use lib.ListN.{length, getD, length-append, List·getD-append}
 use lib.Seq.{getD-append-add}
 use Rattle.paper.specs.Limits.{maxEvents, maxMarks, maxRules, maxConditions, maxWords, bookHeader, ruleSize, conditionSize, wordSize}
-use Rattle.sets.specs.Tables.{tabulate}
+use Rattle.general.specs.Tables.{tabulate}
 use Rattle.wire.specs.Wire.{u16At, u32At, bytes16, bytes32}
 use Rattle.wire.specs.Laws.{u16-first, u16-second, u32-first, u32-second, u16-bytes, u32-bytes, length-bytes16, length-bytes32}
 use Rattle.book.specs.Book.{Book, Condition, noRule, noCondition}
 use Rattle.book.specs.Image.{rulePlace, conditionPlace, wordPlace, triggerFrom, senseFrom, ruleFrom, conditionFrom, bookOf}
-use Rattle.book.specs.Lists.{All, all-append, packed, packed-all, length-packed, tabulated}
+use Rattle.general.specs.Lists.{All, all-append, packed, packed-all, length-packed, tabulated}
 use Rattle.book.specs.declared.Rule.{Rule}
 use Rattle.book.specs.declared.Trigger.{Trigger}
 use Rattle.book.specs.declared.Trigger.the-variants.{None, Completed, BecomeYes, BecomeNo}

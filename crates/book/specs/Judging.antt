@@ -7,9 +7,9 @@ use lib.Dec.{eqb, ltb, leb}
 use Rattle.paper.specs.Limits.{maxEvents, maxMarks, maxRules, maxConditions, maxWords, bookHeader, wordSize, bookShort, bookCount, bookLength, badRule, badCondition}
 use Rattle.paper.specs.Answers.{answer, granted, refusal}
 use Rattle.paper.specs.declared.Answer.{Answer}
-use Rattle.sets.specs.Below.{first}
+use Rattle.general.specs.Below.{first}
 use Rattle.wire.specs.Wire.{u16At, u32At}
-use Rattle.book.specs.Good.{good}
+use Rattle.book.specs.GoodTexts.{good}
 use Rattle.book.specs.Image.{stagesIn, marksIn, rulesIn, conditionsIn, wordsIn, rulePlace, conditionPlace, wordPlace}
 use Rattle.book.specs.Read.{wordsFrom}
 use Rattle.book.specs.declared.Counts.{Counts}

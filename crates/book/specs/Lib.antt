@@ -1,7 +1,6 @@
 -- The root of the crate's specs.
-pub mod Lists
 pub mod Text
-pub mod Good
+pub mod GoodTexts
 pub mod Book
 pub mod Firing
 pub mod Image
@@ -10,7 +9,7 @@ pub mod Formed
 pub mod Read
 pub mod Judging
 pub mod WellFormed
-pub mod Using
+pub mod WellRead
 pub mod Marks
 pub mod Effects
 pub mod Reading

@@ -9,7 +9,7 @@ use lib.Seq.{getD-set-same, getD-set-other}
 use lib.Dec.{eqb, ltb}
 use borrow.Author.Tests.{eqb-true, eqb-false, eq-eqb, ne-eqb, ltb-true, ltb-false}
 use Rattle.paper.specs.Limits.{maxMarks}
-use Rattle.sets.specs.Cases.{cases}
+use Rattle.general.specs.Cases.{cases}
 use Rattle.sets.specs.Set.{has, union, only}
 use Rattle.sets.specs.Laws.{has-union, has-only, has-empty}
 use Rattle.book.specs.Text.{elem}

@@ -6,7 +6,7 @@ use native.Mathlib.Omega.{arith}
 use lib.ListN.{length, getD, take, drop, length-drop}
 use lib.Seq.{ext-getD, getD-take, getD-drop, length-take-le}
 use Rattle.paper.specs.Limits.{wordSize}
-use Rattle.sets.specs.Tables.{tabulate, length-tabulate, getD-tabulate}
+use Rattle.general.specs.Tables.{tabulate, length-tabulate, getD-tabulate}
 use Rattle.wire.specs.Wire.{u16At}
 use Rattle.book.specs.Book.{Condition, noRule, noCondition, ruleOf, conditionOf, textOf}
 use Rattle.book.specs.Image.{rulesIn, conditionsIn, wordsIn, rulePlace, conditionPlace, wordPlace, ruleFrom, conditionFrom, bookOf}

@@ -7,7 +7,7 @@ use lib.Dec.{eqb}
 use borrow.Author.Tests.{eq-eqb}
 pub use Rattle.paper.specs.Snapshots.{Snap, snapOf}
 use Rattle.paper.specs.Limits.{andWord, orWord, notWord}
-use Rattle.sets.specs.Cases.{or-right}
+use Rattle.general.specs.Cases.{or-right}
 
 -- ---- what a text says
 

@@ -10,10 +10,10 @@ use borrow.Author.Tests.{eqb-true, eqb-false, eq-eqb, ltb-true, ltb-false, lt-lt
 use Rattle.paper.specs.Limits.{maxEvents, maxMarks, maxRules, maxConditions, maxWords, bookHeader, bookShort, bookCount, bookLength, badRule, badCondition}
 use Rattle.paper.specs.Answers.{answer, granted, refusal}
 use Rattle.paper.specs.declared.Answer.{Answer}
-use Rattle.sets.specs.Cases.{contra, cases, both, all3, not-so}
-use Rattle.sets.specs.Below.{first, first-is, first-found, first-none}
+use Rattle.general.specs.Cases.{contra, cases, both, all3, not-so}
+use Rattle.general.specs.Below.{first, first-is, first-found, first-none}
 use Rattle.wire.specs.Wire.{u16At, u32At}
-use Rattle.book.specs.Good.{GoodText, good, good-text, text-good}
+use Rattle.book.specs.GoodTexts.{GoodText, good, good-text, text-good}
 use Rattle.book.specs.Book.{Condition}
 use Rattle.book.specs.Image.{stagesIn, marksIn, rulesIn, conditionsIn, wordsIn, rulePlace, conditionPlace, wordPlace, conditionFrom}
 use Rattle.book.specs.Read.{textFrom}

@@ -4,7 +4,7 @@ ghost use mathlib.Core.Bool.{not};
 ghost use Prim.Native.Nat.{ℕ, _+_, _*_, _≤_};
 ghost use lib.ListN.{length};
 ghost use Rattle.paper.specs.Limits.{bookHeader, ruleSize};
-ghost use Rattle.sets.specs.Below.{first};
+ghost use Rattle.general.specs.Below.{first};
 ghost use Rattle.book.specs.Image.{rulePlace, triggerFrom, senseFrom, ruleFrom};
 ghost use Rattle.book.specs.Judging.{triggerFits, senseFits, ruleFits};
 use crate::Rule;

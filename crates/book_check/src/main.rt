@@ -1,7 +1,7 @@
 // Reads a rule book from standard input, checks it, and prints the answer, and of a book that passes the counts and the running order.
 ghost use Prim.Native.Nat.{_<_, _≤_};
 ghost use Rattle.paper.specs.Limits.{maxRules};
-ghost use Rattle.judge.specs.Checking.{Passed};
+ghost use Rattle.judge.specs.Checking.{CheckPasses};
 use libc::STDIN_FILENO;
 use paper::BOOK_HEADER;
 use paper::CONDITION_SIZE;
@@ -39,7 +39,7 @@ fn order_line(buffer: &mut [u8; ROOM], at: usize, order: &[u16; MAX_RULES], rule
 
 // What is printed of a book that passes, behind the answer.
 fn passed_lines(buffer: &mut [u8; ROOM], at: usize, book: &[u8], order: &[u16; MAX_RULES]) -> usize
-    requires { ⌜ (at < 4096) × (Passed (now book) maxRules) ⌝ }
+    requires { ⌜ (at < 4096) × (CheckPasses (now book) maxRules) ⌝ }
     ensures { λ r. ⌜ r < 4096 ⌝ }
 {
     let h = book::header::counts_at(book);

@@ -9,9 +9,9 @@ use lib.ListN.{length}
 use lib.Dec.{eqb, leb, ltb}
 use borrow.Author.Tests.{lt-ltb, le-ltb, ltb-true, ltb-false, le-leb, leb-true, eq-eqb, ne-eqb, eqb-true, eqb-false, not-true, not-false}
 use Rattle.paper.specs.Limits.{maxNodes, maxRelations, chartHeader, noParent, maxFlags, kinds}
-use Rattle.sets.specs.Cases.{contra, cases, both, either, neither, all3, or-left, or-right, not-so}
+use Rattle.general.specs.Cases.{contra, cases, both, either, neither, all3, or-left, or-right, not-so}
 use Rattle.sets.specs.Set.{has}
-use Rattle.sets.specs.Below.{some, some-of, some-at, some-none, first, first-is, first-found, Lowest}
+use Rattle.general.specs.Below.{some, some-of, some-at, some-none, first, first-is, first-found, Lowest}
 use Rattle.graph.specs.Chart.{Kind, include, exclude}
 use Rattle.records.specs.Image.{nodes, relations, nodesOffset, relationsOffset, nodeAt, relationAt, parentOf, stateOf, rolesAt, fromOf, toOf, kindOf, outOfRange, misplaced, badNodeAt, badRelationAt}
 use Rattle.nesting.specs.Nesting.{parent, Nested, AtOrAbove, OnLoop, nested, atOrAbove, onLoopAt, isGroup, eventCount, eventNode, flaggedGroupAt, nested-so}

@@ -6,10 +6,10 @@ use lib.ListN.{replicate}
 use Rattle.paper.specs.Limits.{badNode, groupFlags, includeExclude}
 use Rattle.paper.specs.Answers.{answer, granted}
 use Rattle.sets.specs.Set.{has, collect}
-use Rattle.sets.specs.Below.{some, first, tally}
-use Rattle.sets.specs.Tables.{tabulate}
+use Rattle.general.specs.Below.{some, first, tally}
+use Rattle.general.specs.Tables.{tabulate}
 use Rattle.wire.specs.Wire.{u16At}
-use Rattle.reach.specs.Closure.{within}
+use Rattle.closure.specs.Closure.{within}
 use Rattle.chart.specs.declared.Reading.{Reading}
 use Rattle.records.specs.Image.{outOfRange, misplaced, badNodeAt, badRelationAt}
 use Rattle.nesting.specs.Nesting.{parent, nested, atOrAbove, onLoopAt, isGroup, eventNode, flaggedGroupAt}
@@ -74,7 +74,7 @@ badRoleChart =
     4 ∷ 0 ∷ 0 ∷ 0 ∷ 8 ∷ 0 ∷ 24 ∷ 0
     ∷ 255 ∷ 255 ∷ 2 ∷ 8 ∷ 0 ∷ 0 ∷ 8 ∷ 1 ∷ 0 ∷ 0 ∷ 4 ∷ 0 ∷ 255 ∷ 255 ∷ 4 ∷ 0 ∷ []
 
-pub record Rows : Type 0 where
+pub record Examples : Type 0 where
   pub whole : reading wholeChart ≡ wholeReading
   pub p7-granted : reading groupChart .answer ≡ granted
   -- events 0 and 1 are conditions of 2
@@ -87,6 +87,6 @@ pub record Rows : Type 0 where
   pub flagged-group : reading flaggedRoleChart ≡ refused (answer groupFlags 0 0)
   pub bad-state : reading badRoleChart ≡ refused (answer badNode 1 0)
 
-pub rows : Rows
+pub examples : Examples
 unfolding outOfRange misplaced badNodeAt badRelationAt parent nested atOrAbove onLoopAt isGroup eventNode flaggedGroupAt leads related entered flatSet flatTable namesAt named flatRoles roleTable flatChart flagged startMarking conflict conflictAt conflictFrom conflictTo readingRelations readingNodes reading has collect some first tally tabulate u16At within
-rows = record { whole = refl; p7-granted = refl; p7-conditions = refl; p8 = refl; roles-granted = refl; roles = refl; flagged-group = refl; bad-state = refl }
+examples = record { whole = refl; p7-granted = refl; p7-conditions = refl; p8 = refl; roles-granted = refl; roles = refl; flagged-group = refl; bad-state = refl }

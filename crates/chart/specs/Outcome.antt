@@ -11,8 +11,8 @@ use borrow.Author.Tests.{lt-ltb, le-ltb, ltb-true, ltb-false}
 use Rattle.paper.specs.Limits.{maxEvents, chartHeader, chartShort, chartCount, chartLength, badNode, parentsLoop, groupFlags, manyEvents, badRelation, includeExclude}
 use Rattle.paper.specs.Answers.{answer, granted, refusal}
 use Rattle.paper.specs.declared.Answer.{Answer}
-use Rattle.sets.specs.Cases.{contra, cases}
-use Rattle.sets.specs.Below.{some, first, Lowest}
+use Rattle.general.specs.Cases.{contra, cases}
+use Rattle.general.specs.Below.{some, first, Lowest}
 use Rattle.chart.specs.declared.Reading.{Reading}
 use Rattle.records.specs.Image.{nodes, relations, outOfRange, misplaced, badNodeAt, badRelationAt}
 use Rattle.nesting.specs.Nesting.{OnLoop, onLoopAt, flaggedGroupAt, eventCount}

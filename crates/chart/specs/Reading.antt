@@ -7,7 +7,7 @@ use lib.Dec.{ltb}
 use Rattle.paper.specs.Limits.{maxEvents, chartHeader, chartShort, chartCount, chartLength, badNode, parentsLoop, groupFlags, manyEvents, badRelation, includeExclude}
 use Rattle.paper.specs.Answers.{answer, granted, refusal}
 use Rattle.paper.specs.declared.Answer.{Answer}
-use Rattle.sets.specs.Below.{some, first}
+use Rattle.general.specs.Below.{some, first}
 use Rattle.graph.specs.Chart.{emptyChart, emptyMarking}
 use Rattle.chart.specs.declared.Reading.{Reading}
 use Rattle.records.specs.Image.{nodes, relations, outOfRange, misplaced, badNodeAt, badRelationAt}

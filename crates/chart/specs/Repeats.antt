@@ -6,13 +6,13 @@ use mathlib.Core.List.{List}
 use native.Mathlib.Omega.{arith}
 use lib.Dec.{eqb, ltb}
 use borrow.Author.Tests.{ltb-true}
-use Rattle.sets.specs.Cases.{cases, same-test}
+use Rattle.general.specs.Cases.{cases, same-test}
 use Rattle.sets.specs.Set.{has, collect}
-use Rattle.sets.specs.Below.{some, some-of, some-at, some-same, first, first-same, tally-same}
-use Rattle.sets.specs.Tables.{tabulate-same}
-use Rattle.reach.specs.Closure.{within}
+use Rattle.general.specs.Below.{some, some-of, some-at, some-same, first, first-same, tally-same}
+use Rattle.general.specs.Tables.{tabulate-same}
+use Rattle.closure.specs.Closure.{within}
 use Rattle.graph.specs.Chart.{Kind, condition, response, milestone, include, exclude}
-use Rattle.records.specs.Scan.{collect-same}
+use Rattle.sets.specs.Collecting.{collect-same}
 use Rattle.records.specs.Image.{nodes, relations, parentOf, flagsOf, fromOf, toOf, kindOf, badNodeAt, badRelationAt}
 use Rattle.nesting.specs.Nesting.{parent, nested, atOrAbove, onLoopAt, isGroup, isEvent, number, eventCount, eventNode, flaggedGroupAt}
 use Rattle.flattening.specs.Flattening.{kindNumber, holdsBack, leads, related, entered, flatSet, flatTable, flatChart, flagged, startMarking, conflict, conflictAt}
@@ -22,7 +22,7 @@ use Rattle.chart.specs.declared.Reading.{Reading}
 use Rattle.chart.specs.Reading.{refuseFirst, conflictFrom, conflictTo, readingRelations, readingNodes, reading}
 use Rattle.chart.specs.Conditions.{Never, BadRelation, relation-bad, never-none}
 use Rattle.chart.specs.Outcome.{HeaderRight, header-on}
-use Rattle.chart.specs.Given.{event-node}
+use Rattle.chart.specs.ReadingGives.{event-node}
 
 -- the same node records
 pub record SameNodes (a b : List ℕ) : Type 0 where

@@ -10,9 +10,9 @@ use lib.Dec.{eqb, leb, ltb}
 use borrow.Author.Tests.{eqb-true, eqb-false}
 use Rattle.paper.specs.Limits.{maxEvents, noParent, maxFlags, chartHeader, chartShort, chartCount, chartLength, badNode, parentsLoop, groupFlags, manyEvents, badRelation, includeExclude}
 use Rattle.paper.specs.Answers.{answer, granted, refusal}
-use Rattle.sets.specs.Cases.{cases}
-use Rattle.sets.specs.Below.{some, some-same, first-same}
-use Rattle.sets.specs.Tables.{tabulate}
+use Rattle.general.specs.Cases.{cases}
+use Rattle.general.specs.Below.{some, some-same, first-same}
+use Rattle.general.specs.Tables.{tabulate}
 use Rattle.graph.specs.Chart.{condition, response, milestone, include, exclude, emptyChart}
 use Rattle.graph.specs.declared.FlatChart.{FlatChart}
 use Rattle.chart.specs.declared.Reading.{Reading}
@@ -20,7 +20,7 @@ use Rattle.records.specs.Image.{nodes, relations, parentOf, flagsOf, stateOf, r
 use Rattle.nesting.specs.Nesting.{isGroup, onLoopAt, flaggedGroupAt, eventCount}
 use Rattle.flattening.specs.Flattening.{flatTable, flatRoles, roleTable, flatChart, startMarking, conflictAt}
 use Rattle.chart.specs.Reading.{refuseIf, refuseFirst, conflictFrom, conflictTo, readingRelations, readingNodes, reading}
-use Rattle.chart.specs.Given.{refused-empty, granted-right, chain-open}
+use Rattle.chart.specs.ReadingGives.{refused-empty, granted-right, chain-open}
 
 module _ (image : List ℕ) where
   -- no node has upper bits, "since stored charts have none"

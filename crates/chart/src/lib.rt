@@ -5,7 +5,7 @@ ghost use lib.ListN.{length, getD};
 ghost use Rattle.paper.specs.Limits.{maxEvents, nodeSize};
 ghost use Rattle.paper.specs.Answers.{answer};
 ghost use Rattle.records.specs.Image.{nodeAt, Whole};
-ghost use Rattle.flattening.specs.Cells.{chartOf, markingBy};
+ghost use Rattle.flattening.specs.Cells.{chartFrom, markingBy};
 ghost use Rattle.flattening.specs.Meaning.{Ground};
 ghost use Rattle.chart.specs.Reading.{refused, readingRelations, readingNodes, reading};
 use flattening::CELLS;
@@ -50,7 +50,7 @@ fn refuse(code: u32, place: u32, other: u32) -> Reading
 
 fn flat_chart(events: usize, tables: &[u64; CELLS], roles: &[u8; MAX_EVENTS]) -> FlatChart
     requires { ⌜ events ≤ maxEvents ⌝ }
-    ensures { λ r. ⌜ r ≡ chartOf events (now (tables .entry)) (now (roles .entry)) ⌝ }
+    ensures { λ r. ⌜ r ≡ chartFrom events (now (tables .entry)) (now (roles .entry)) ⌝ }
 {
     FlatChart {
         count: events as u32,

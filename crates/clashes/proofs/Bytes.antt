@@ -8,7 +8,7 @@ use lib.Dec.{eqb, ltb}
 use lib.ListN.{length, getD, set, replicate}
 use borrow.Author.Tests.{eqb-true, eqb-false, ne-eqb, lt-ltb, ltb-true}
 use Rattle.paper.specs.Limits.{maxMarks, maxEvents, ruleSize}
-use Rattle.sets.specs.Cases.{cases}
+use Rattle.general.specs.Cases.{cases}
 use Rattle.sets.specs.Set.{union, inter, only, allBelow}
 use Rattle.wire.specs.Wire.{u16At}
 use Rattle.book.specs.Book.{ruleOf}
@@ -16,7 +16,7 @@ use Rattle.book.specs.Image.{rulesIn, rulePlace, triggerFrom, senseFrom, ruleFr
 use Rattle.book.specs.Read.{rules-count, rule-read}
 use Rattle.book.specs.declared.Rule.{Rule}
 use Rattle.book.specs.WellFormed.{WellFormed}
-use Rattle.book.specs.Using.{triggerExists, known-wider, rule-known, rule-inside}
+use Rattle.book.specs.WellRead.{triggerExists, known-wider, rule-known, rule-inside}
 use Rattle.clashes.specs.Clash.{completesOther, otherStages, isWritten, isNegated, oppositeSenses, apart}
 use Rattle.clashes.specs.Chains.{side, does, undoes, stagesOf, Chained}
 use Rattle.clashes.proofs.Links.{Linked, linked-start, linked-more, linked-end}

@@ -10,15 +10,15 @@ use lib.ListN.{length, getD, set, length-set, replicate, getD-replicate, length-
 use lib.Seq.{getD-set-same, getD-set-other}
 use borrow.Author.Tests.{eqb-true, eqb-false, eq-eqb, ne-eqb, leb-true, leb-false, le-leb, lt-leb, ltb-true, ltb-false}
 use Rattle.paper.specs.Limits.{maxMarks, maxRules, maxEvents}
-use Rattle.sets.specs.Cases.{contra, cases, both, or-left, or-right, not-so, lt-suc}
+use Rattle.general.specs.Cases.{contra, cases, both, or-left, or-right, not-so, lt-suc}
 use Rattle.sets.specs.Set.{has, union, inter, only, allBelow}
 use Rattle.sets.specs.Laws.{has-union, has-only, has-all, apart-not}
-use Rattle.sets.specs.Below.{some-of, first-is, first-found, first-none, first-same}
+use Rattle.general.specs.Below.{some-of, first-is, first-found, first-none, first-same}
 use Rattle.book.specs.Book.{Book, ruleOf}
 use Rattle.book.specs.declared.Rule.{Rule}
 use Rattle.book.specs.declared.Trigger.{Trigger}
 use Rattle.book.specs.declared.Trigger.the-variants.{None, Completed, BecomeYes, BecomeNo}
-use Rattle.book.specs.Using.{triggerExists}
+use Rattle.book.specs.WellRead.{triggerExists}
 use Rattle.clashes.specs.Clash.{completesOther, otherStages, apart, opposed, clash}
 use Rattle.clashes.specs.Pairs.{clashing, clashFirst, clashSecond, clashing-of, clashing-low, alone-some}
 use Rattle.clashes.specs.Chains.{side, does, undoes, nextFrom, stagesOf, Opposed, Chained}

@@ -6,7 +6,7 @@ use Prim.Native.Nat.{ℕ, suc, _+_, _*_, _≤_, _<_}
 use lib.Dec.{eqb, leb}
 use lib.ListN.{length, getD}
 use Rattle.paper.specs.Limits.{maxEvents}
-use Rattle.sets.specs.Below.{first}
+use Rattle.general.specs.Below.{first}
 use Rattle.sets.specs.Set.{only, allBelow}
 use Rattle.book.specs.Book.{Book, ruleOf}
 use Rattle.book.specs.declared.Trigger.{Trigger}

@@ -9,7 +9,7 @@ use native.Mathlib.Decide.{decLt}
 use lib.Dec.{eqb}
 use lib.ListN.{length}
 use borrow.Author.Tests.{eqb-true, eq-eqb, ne-eqb, not-true}
-use Rattle.sets.specs.Cases.{contra, cases, both, either, or-right, not-so}
+use Rattle.general.specs.Cases.{contra, cases, both, either, or-right, not-so}
 use Rattle.book.specs.Text.{Snap, holds}
 use Rattle.book.specs.Book.{Book, ruleOf, textOf}
 use Rattle.book.specs.Firing.{fires, triggered, allowed}
@@ -18,8 +18,8 @@ use Rattle.book.specs.declared.Trigger.{Trigger}
 use Rattle.book.specs.declared.Trigger.the-variants.{None, Completed, BecomeYes, BecomeNo}
 use Rattle.book.specs.declared.Sense.{Sense}
 use Rattle.book.specs.declared.Sense.the-variants.{NoCondition, AsWritten, Negated}
-use Rattle.orders.specs.Settle.{Calm}
-use Rattle.ordering.specs.Rules.{netOf, actsOf}
+use Rattle.order_theory.specs.Settle.{Calm}
+use Rattle.rule_order.specs.Rules.{netOf, actsOf}
 
 -- ---- "Two rules that set and clear one mark are apart if their triggers are completions of different stages, or if they use one condition
 -- record in opposite senses. Otherwise they clash."

@@ -7,8 +7,8 @@ use native.Mathlib.Omega.{arith}
 use lib.Dec.{ltb}
 use lib.ListN.{length}
 use borrow.Author.Tests.{ltb-true, ltb-false, lt-ltb, le-ltb}
-use Rattle.sets.specs.Cases.{contra, cases, both, not-so}
-use Rattle.sets.specs.Below.{some, some-of, some-at, some-none, first, first-is, first-found, first-none}
+use Rattle.general.specs.Cases.{contra, cases, both, not-so}
+use Rattle.general.specs.Below.{some, some-of, some-at, some-none, first, first-is, first-found, first-none}
 use Rattle.book.specs.Book.{Book, ruleOf}
 use Rattle.clashes.specs.Clash.{clash, Clashes, clashes-so, NoClash}
 

@@ -7,7 +7,7 @@ ghost use lib.ListN.{length};
 ghost use Rattle.paper.specs.Limits.{maxMarks, maxEvents, ruleSize};
 ghost use Rattle.book.specs.Book.{ruleOf};
 ghost use Rattle.book.specs.Image.{rulesIn, rulePlace, ruleFrom, bookOf};
-ghost use Rattle.book.specs.Using.{triggerExists};
+ghost use Rattle.book.specs.WellRead.{triggerExists};
 ghost use Rattle.book.specs.WellFormed.{WellFormed};
 ghost use Rattle.clashes.specs.Clash.{otherStages, oppositeSenses, apart};
 ghost use Rattle.clashes.specs.Pairs.{clashFirst, clashSecond};

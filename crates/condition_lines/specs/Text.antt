@@ -4,7 +4,7 @@ use mathlib.Core.Bool.{cond}
 use mathlib.Core.List.{List, _++_}
 use lib.Dec.{eqb}
 use Rattle.paper.specs.Limits.{andWord, orWord, notWord}
-use Rattle.book.specs.Lists.{packed}
+use Rattle.general.specs.Lists.{packed}
 use Rattle.writing.specs.Text.{ascii, named}
 
 -- ---- "Condition lines, after all rules: `cond`, condition number and colon, then its words in order, the three operators by name."

@@ -8,12 +8,12 @@ use borrow.Author.Tests.{ne-eqb}
 use Rattle.paper.specs.Limits.{wordSize, andWord, orWord, notWord}
 use Rattle.wire.specs.Wire.{u16At, u32At}
 use Rattle.book.specs.Image.{conditionPlace, wordPlace}
-use Rattle.book.specs.Lists.{flat, packed, packed-one, each, length-each, getD-each}
+use Rattle.general.specs.Lists.{flat, packed, packed-one, each, length-each, getD-each}
 use Rattle.book.specs.Read.{wordsFrom, length-words, getD-words}
 use Rattle.book.specs.Reading.{spanFrom}
 use Rattle.book.specs.declared.Span.{Span}
-use Rattle.derived.specs.Writing.{Wrote}
-use Rattle.derived.specs.Loops.{Upto, upto-fits, upto-more, upto-done}
+use Rattle.general.specs.Writing.{Wrote}
+use Rattle.derived.specs.WritingLoops.{Upto, upto-fits, upto-more, upto-done}
 use Rattle.writing.specs.Text.{ascii, named}
 use Rattle.writing.specs.Writers.{Space, Lines, lines-fits, lines-more}
 use Rattle.condition_lines.specs.Text.{wordText, conditionLine}

@@ -2,9 +2,9 @@
 ghost use Prim.Native.Nat.{_+_, _*_, _≤_};
 ghost use lib.ListN.{length};
 ghost use Rattle.paper.specs.Limits.{wordSize};
-ghost use Rattle.book.specs.Lists.{flat, packed};
+ghost use Rattle.general.specs.Lists.{flat, packed};
 ghost use Rattle.book.specs.Read.{wordsFrom};
-ghost use Rattle.derived.specs.Writing.{Wrote};
+ghost use Rattle.general.specs.Writing.{Wrote};
 ghost use Rattle.writing.specs.Writers.{Space};
 ghost use Rattle.condition_lines.specs.Text.{wordText, conditionLine};
 ghost use Rattle.condition_lines.specs.Writers.{conditionLineAt, ConditionsIn};

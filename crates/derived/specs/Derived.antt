@@ -9,7 +9,7 @@ use Rattle.sets.specs.Set.{has}
 use Rattle.graph.specs.Chart.{condition, response, milestone, include, exclude, setOf}
 use Rattle.graph.specs.declared.FlatChart.{FlatChart}
 use Rattle.book.specs.Book.{Book, Condition, noCondition, textOf}
-use Rattle.book.specs.Lists.{flat, each, getD-each, cut-flat, All, all-append, append-all, all-flat, flat-all}
+use Rattle.general.specs.Lists.{flat, each, getD-each, cut-flat, All, all-append, append-all, all-flat, flat-all}
 use Rattle.book.specs.declared.Rule.{Rule}
 use Rattle.book.specs.declared.Trigger.the-variants.{None, Completed}
 use Rattle.book.specs.declared.Sense.the-variants.{NoCondition, AsWritten, Negated}
@@ -59,11 +59,11 @@ module _ (n e : ℕ) where
   answering r = cond (has r e) [] (on e true (answeredMark n e) ∷ [])
 
   -- "set executed e"
-  abbrev pub executing : Rule
-  executing = on e true (executedMark n e)
+  abbrev pub settingExecuted : Rule
+  settingExecuted = on e true (executedMark n e)
 
   unfoldable pub completion : ℕ → ℕ → ℕ → List Rule
-  completion i x r = flat n (inclusion i x) ++ (flat n (responding r) ++ (answering r ++ (executing ∷ [])))
+  completion i x r = flat n (inclusion i x) ++ (flat n (responding r) ++ (answering r ++ (settingExecuted ∷ [])))
 
 -- ---- "Its text: included e; for each condition f rising: included f, not, executed f, or, and; then the same for each milestone with answered f."
 
@@ -118,7 +118,7 @@ module _ (c : FlatChart) where
       pub inclusions : (e : ℕ) → e < c .count → (f : ℕ) → f < c .count → All P (inclusion (c .count) e (setOf c include e) (setOf c exclude e) f)
       pub responses : (e : ℕ) → e < c .count → (f : ℕ) → f < c .count → All P (responding (c .count) e (setOf c response e) f)
       pub answers : (e : ℕ) → e < c .count → All P (answering (c .count) e (setOf c response e))
-      pub executed : (e : ℕ) → e < c .count → P (executing (c .count) e)
+      pub executed : (e : ℕ) → e < c .count → P (settingExecuted (c .count) e)
       pub opened : (e : ℕ) → e < c .count → P (opens e)
       pub closed : (e : ℕ) → e < c .count → P (closes e)
 
@@ -139,12 +139,12 @@ module _ (c : FlatChart) where
         let one : (e : ℕ) → e < c .count → All P (eventRules e) = flat-all P (c .count) eventRules (t .0) in
         let two : (e : ℕ) → e < c .count → All P (stageRules e) = flat-all P (c .count) stageRules (t .1) in
         let x : (e : ℕ) → e < c .count → All P (flat (c .count) (inclusion (c .count) e (setOf c include e) (setOf c exclude e)))
-        × All P (flat (c .count) (responding (c .count) e (setOf c response e)) ++ (answering (c .count) e (setOf c response e) ++ (executing (c .count) e ∷ []))) =
+        × All P (flat (c .count) (responding (c .count) e (setOf c response e)) ++ (answering (c .count) e (setOf c response e) ++ (settingExecuted (c .count) e ∷ []))) =
         λ e h. append-all P (flat (c .count) (inclusion (c .count) e (setOf c include e) (setOf c exclude e))) _ (one e h) in
         let y : (e : ℕ) → e < c .count → All P (flat (c .count) (responding (c .count) e (setOf c response e)))
-        × All P (answering (c .count) e (setOf c response e) ++ (executing (c .count) e ∷ [])) =
+        × All P (answering (c .count) e (setOf c response e) ++ (settingExecuted (c .count) e ∷ [])) =
         λ e h. append-all P (flat (c .count) (responding (c .count) e (setOf c response e))) _ (x e h .1) in
-        let z : (e : ℕ) → e < c .count → All P (answering (c .count) e (setOf c response e)) × All P (executing (c .count) e ∷ []) =
+        let z : (e : ℕ) → e < c .count → All P (answering (c .count) e (setOf c response e)) × All P (settingExecuted (c .count) e ∷ []) =
         λ e h. append-all P (answering (c .count) e (setOf c response e)) _ (y e h .1) in
         record {
           inclusions = λ e h. flat-all P (c .count) _ (x e h .0);

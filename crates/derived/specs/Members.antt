@@ -12,12 +12,12 @@ use lib.Dec.{ltb}
 use lib.ListN.{length, length-append}
 use borrow.Author.Tests.{eq-eqb, ne-eqb, lt-ltb, ltb-true}
 use Rattle.paper.specs.Limits.{maxEvents}
-use Rattle.sets.specs.Cases.{contra, cases, lt-suc}
-use Rattle.sets.specs.Below.{tally, tally-same}
+use Rattle.general.specs.Cases.{contra, cases, lt-suc}
+use Rattle.general.specs.Below.{tally, tally-same}
 use Rattle.sets.specs.Set.{has, minus, only, size, lowest, within, collect}
 use Rattle.sets.specs.Laws.{ext, has-minus, has-only, has-empty, has-collect, size-collect, lowest-lt, lowest-has, lowest-least, minus-le, within-lt}
 use Rattle.derived.specs.Derived.{listed}
-use Rattle.book.specs.Lists.{flat, flat-none, packed, packed-append}
+use Rattle.general.specs.Lists.{flat, flat-none, packed, packed-append}
 
 -- ---- how many
 

@@ -8,13 +8,13 @@ use lib.Dec.{eqb}
 use lib.ListN.{length, getD, length-append}
 use borrow.Author.Tests.{eq-eqb, ne-eqb, eqb-true}
 use Rattle.paper.specs.Limits.{maxEvents, maxRules, maxWords, bookHeader, ruleSize, conditionSize, wordSize}
-use Rattle.sets.specs.Cases.{cases, either}
-use Rattle.sets.specs.Below.{tally, tally-le}
+use Rattle.general.specs.Cases.{cases, either}
+use Rattle.general.specs.Below.{tally, tally-le}
 use Rattle.sets.specs.Set.{has, union, only, size, within}
 use Rattle.sets.specs.Laws.{has-union, has-only, has-empty, within-lt, lt-within}
 use Rattle.graph.specs.Chart.{Kind, condition, response, milestone, include, exclude, setOf, Fit}
 use Rattle.graph.specs.declared.FlatChart.{FlatChart}
-use Rattle.book.specs.Lists.{total, total-same, total-le, flat, flat-same, length-flat, length-each}
+use Rattle.general.specs.Lists.{total, total-same, total-le, flat, flat-same, length-flat, length-each}
 use Rattle.book.specs.ImageOf.{imageOf, image-length}
 use Rattle.book.specs.declared.Rule.{Rule}
 use Rattle.derived.specs.Derived.{listed, executedMark, answeredMark, on, inclusion, responding, answering, completion, clause, textFor, stageRules, eventRules, derivedRules, derivedText, derivedCondition, derivedBook}

@@ -15,14 +15,14 @@ use Rattle.graph.specs.declared.FlatChart.{FlatChart}
 use Rattle.graph.specs.Chart.{Fit}
 use Rattle.graph.specs.Tests.{fitChart}
 use Rattle.graph.specs.Fitness.{tested-fit}
-use Rattle.book.specs.Lists.{flat, packed, packed-append}
+use Rattle.general.specs.Lists.{flat, packed, packed-append}
 use Rattle.book.specs.Image.{conditionPlace, wordPlace}
 use Rattle.book.specs.ImageOf.{imageOf, image-length, headerBytes, ruleBytes, conditionBytes}
 use Rattle.derived.specs.Derived.{stageRules, eventRules, derivedRules, derivedText, derivedCondition, derivedBook}
 use Rattle.derived.specs.Sizes.{completionsSize, textsSize, rulesNeeded, wordsNeeded, rules-length, words-length, conditions-length, rules-most}
-use Rattle.derived.specs.Tables.{completionAt, CompletionsIn, completions-in, textAt, TextsIn, texts-in, conditionPart}
-use Rattle.derived.specs.Writing.{Fits, Wrote, then, fits-first, fits-then, wrote-whole}
-use Rattle.derived.specs.Written.{number-wrote}
+use Rattle.derived.specs.Parts.{completionAt, CompletionsIn, completions-in, textAt, TextsIn, texts-in, conditionPart}
+use Rattle.general.specs.Writing.{Fits, Wrote, then, fits-first, fits-then, wrote-whole}
+use Rattle.derived.specs.RuleBytes.{number-wrote}
 
 abbrev pub derivedImage : FlatChart → List ℕ
 derivedImage c = imageOf (derivedBook c)

@@ -9,14 +9,14 @@ use lib.ListN.{length, take}
 use borrow.Author.Tests.{ne-eqb, lt-ltb, leb-true, ltb-true}
 use Rattle.paper.specs.Limits.{maxEvents, maxMarks, andWord, orWord, notWord, maxWords}
 use Rattle.paper.specs.Answers.{granted}
-use Rattle.sets.specs.Cases.{cases, both}
+use Rattle.general.specs.Cases.{cases, both}
 use Rattle.sets.specs.Set.{has}
 use Rattle.graph.specs.Chart.{condition, response, milestone, include, exclude, setOf, Fit}
 use Rattle.graph.specs.declared.FlatChart.{FlatChart}
 use Rattle.book.specs.Text.{Snap, push, eval}
-use Rattle.book.specs.Good.{GoodText, after, follows, goodFrom, good, good-text, length-push}
+use Rattle.book.specs.GoodTexts.{GoodText, depthAfter, follows, goodFrom, good, good-text, length-push}
 use Rattle.book.specs.Book.{conditionOf, noCondition, textOf}
-use Rattle.book.specs.Lists.{flat, length-each, getD-each, flat-part, All, all-append, all-flat, all-map}
+use Rattle.general.specs.Lists.{flat, length-each, getD-each, flat-part, All, all-append, all-flat, all-map}
 use Rattle.book.specs.ImageOf.{triggerNumber, conditionNumber, SmallRule, SmallCondition, WithinLimits, Byte, image-bytes}
 use Rattle.book.specs.declared.Rule.{Rule}
 use Rattle.book.specs.declared.Trigger.{Trigger}
@@ -25,7 +25,7 @@ use Rattle.book.specs.declared.Sense.{Sense}
 use Rattle.book.specs.declared.Sense.the-variants.{NoCondition, AsWritten, Negated}
 use Rattle.book.specs.Judging.{imageAnswer}
 use Rattle.book.specs.WellFormed.{WellFormed, well-granted}
-use Rattle.book.specs.Using.{triggerExists, senseExists, RuleFormed}
+use Rattle.book.specs.WellRead.{triggerExists, senseExists, RuleFormed}
 use Rattle.book.specs.Formed.{FormedBook, formed-image}
 use Rattle.derived.specs.Derived.{includedMark, executedMark, answeredMark, listed, clause, on, inclusion, responding, answering, textFor, derivedRules, derivedText, derivedCondition, derivedBook, derived-text, join}
 use Rattle.derived.specs.Sizes.{conditions-length, rules-most, words-most}
@@ -36,7 +36,7 @@ use Rattle.deriver.specs.Deriving.{derivedImage}
 -- whether the stack, of depth d before the text, never holds more than b values
 unfoldable pub deepest : ℕ → List ℕ → ℕ → Bool
 deepest b [] d = leb d b
-deepest b (w ∷ ws) d = leb d b && deepest b ws (after w d)
+deepest b (w ∷ ws) d = leb d b && deepest b ws (depthAfter w d)
 
 pub depth-says : (b : ℕ) (s : Snap) (ws : List ℕ) (st : List Bool) → deepest b ws (length st) ≡ true → (k : ℕ) → length (eval s (take k ws) st) ≤ b
 unfolding deepest eval
@@ -44,7 +44,7 @@ depth-says b s [] st h zero = leb-true (length st) b h
 depth-says b s [] st h (suc k) = leb-true (length st) b h
 depth-says b s (w ∷ ws) st h zero = leb-true (length st) b (both (leb (length st) b) _ h .0)
 depth-says b s (w ∷ ws) st h (suc k) =
-    depth-says b s ws (push (s w) w st) (rw (length-push (s w) w st) (both (leb (length st) b) (deepest b ws (after w (length st))) h .1)) k
+    depth-says b s ws (push (s w) w st) (rw (length-push (s w) w st) (both (leb (length st) b) (deepest b ws (depthAfter w (length st))) h .1)) k
 
 -- ---- a derived text, clause by clause: a stack of one value stays one
 
@@ -58,7 +58,7 @@ module _ (M : ℕ) where
     plain m h = (ne-eqb m andWord (λ e. omega arith), ne-eqb m orWord (λ e. omega arith), ne-eqb m notWord (λ e. omega arith))
 
     one-clause : (a b : ℕ) (t : List ℕ) → a < M → b < M → fine t 1 ≡ true → fine (a ∷ (notWord ∷ (b ∷ (orWord ∷ (andWord ∷ t))))) 1 ≡ true
-    unfolding goodFrom deepest follows after
+    unfolding goodFrom deepest follows depthAfter
     one-clause a b t h k f =
         let p = plain a h in
         let q = plain b k in
@@ -84,7 +84,7 @@ module _ (c : FlatChart) (fit : Fit c) where
   few = fit .few
 
   text-fine : (e : ℕ) → e < n → fine (4 * n) (derivedText c e) 0 ≡ true
-  unfolding derivedText textFor goodFrom deepest follows after
+  unfolding derivedText textFor goodFrom deepest follows depthAfter
   text-fine e h =
       let m : n ≤ maxEvents = few in
       let l : 4 * n ≤ maxMarks = omega arith in

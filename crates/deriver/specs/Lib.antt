@@ -2,4 +2,4 @@
 pub mod Deriving
 pub mod Formed
 pub mod Matching
-pub mod Rows
+pub mod Examples

@@ -12,7 +12,7 @@ use borrow.Author.Tests.{not-true, not-false, lt-ltb, le-ltb, ltb-true, ltb-fals
 use Rattle.paper.specs.Limits.{maxEvents, maxMarks, unfit}
 use Rattle.paper.specs.Answers.{granted, refusal}
 use Rattle.paper.specs.declared.Answer.{Answer}
-use Rattle.sets.specs.Cases.{cases}
+use Rattle.general.specs.Cases.{cases}
 use Rattle.sets.specs.Set.{has, minus, allBelow}
 use Rattle.sets.specs.Laws.{has-minus, has-all, has-collect}
 use Rattle.graph.specs.Tests.{fit}
@@ -21,9 +21,9 @@ use Rattle.graph.specs.Steps.{isOpen, openAmong}
 use Rattle.graph.specs.declared.FlatChart.{FlatChart}
 use Rattle.graph.specs.declared.Marking.{Marking}
 use Rattle.book.specs.Text.{Snap, snapOf}
-use Rattle.book.specs.Lists.{flat-step, flat-same, each, length-each, getD-each}
+use Rattle.general.specs.Lists.{flat-step, flat-same, each, length-each, getD-each}
 use Rattle.deriver.specs.declared.Matched.{Matched}
-use Rattle.derived.specs.Writing.{sets-append}
+use Rattle.general.specs.Writing.{sets-append}
 
 module _ (c : FlatChart) (m : Marking) where
   unfoldable pub matchingMarks : List Bool

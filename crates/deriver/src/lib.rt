@@ -5,7 +5,7 @@ ghost use lib.ListN.{length};
 ghost use Rattle.paper.specs.Limits.{maxEvents, maxRules, bookHeader};
 ghost use Rattle.graph.specs.Chart.{chartOf};
 ghost use Rattle.book.specs.ImageOf.{headerBytes};
-ghost use Rattle.derived.specs.Writing.{Wrote};
+ghost use Rattle.general.specs.Writing.{Wrote};
 ghost use Rattle.deriver.specs.Deriving.{derivingAnswer, derivedRoom, bookRuns, BookReady};
 ghost use Rattle.deriver.specs.Matching.{matchingOf};
 use book::Snapshot;

@@ -5,7 +5,7 @@ ghost use lib.Seq.{sets};
 ghost use Rattle.paper.specs.Limits.{maxMarks};
 ghost use Rattle.sets.specs.Set.{has};
 ghost use Rattle.graph.specs.Chart.{chartOf};
-ghost use Rattle.book.specs.Lists.{each};
+ghost use Rattle.general.specs.Lists.{each};
 ghost use Rattle.deriver.specs.Matching.{matchingOf};
 use crate::Matched;
 use book::Snapshot;

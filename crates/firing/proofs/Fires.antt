@@ -7,7 +7,7 @@ use lib.Dec.{eqb}
 use borrow.Author.Tests.{ltb-true, not-true, not-false}
 use Rattle.book.specs.Text.{Snap, holds}
 use Rattle.book.specs.Firing.{triggered, allowed, firing}
-use Rattle.book.specs.Using.{triggerExists, senseExists}
+use Rattle.book.specs.WellRead.{triggerExists, senseExists}
 use Rattle.book.specs.declared.Rule.{Rule}
 use Rattle.book.specs.declared.Trigger.{Trigger}
 use Rattle.book.specs.declared.Trigger.the-variants.{None, Completed, BecomeYes, BecomeNo}

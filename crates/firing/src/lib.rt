@@ -7,7 +7,7 @@ ghost use Rattle.book.specs.Text.{holds, snapOf};
 ghost use Rattle.book.specs.Book.{textOf};
 ghost use Rattle.book.specs.Image.{stagesIn, marksIn, conditionsIn, bookOf};
 ghost use Rattle.book.specs.Firing.{triggered, allowed, firing};
-ghost use Rattle.book.specs.Using.{triggerExists, senseExists, RuleFormed, Opened};
+ghost use Rattle.book.specs.WellRead.{triggerExists, senseExists, RuleFormed, Opened};
 use book::Counts;
 use book::Rule;
 use book::Sense;

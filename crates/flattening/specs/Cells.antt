@@ -11,14 +11,15 @@ use lib.Seq.{getD-set-same, getD-set-other, ext-getD}
 use lib.Dec.{eqb, leb, ltb}
 use borrow.Author.Tests.{eq-eqb, ne-eqb, eqb-true, eqb-false, leb-false, lt-ltb, le-ltb, ltb-false}
 use Rattle.paper.specs.Limits.{maxNodes, maxEvents, maxRoles, flagsByte, kinds}
-use Rattle.sets.specs.Cases.{contra, cases, both, either, neither, or-left, or-right, same-test, lt-suc}
+use Rattle.general.specs.Cases.{contra, cases, both, either, neither, or-left, or-right, same-test, lt-suc}
 use Rattle.sets.specs.Set.{has, union, inter, only, putIf, collect}
 use Rattle.sets.specs.Laws.{has-union, has-only, has-empty, above}
-use Rattle.sets.specs.Below.{some, some-of, some-at, some-none, some-step, first}
-use Rattle.sets.specs.Tables.{tabulate, length-tabulate, getD-tabulate, zeros-at}
-use Rattle.reach.specs.Rows.{takeRow}
-use Rattle.reach.specs.Bits.{apart, take-word, take-kept, length-takeRow}
-use Rattle.records.specs.Scan.{Passed, passed-none, passed-more, passed-found, passed-end, at-end, ltb-more, collect-more}
+use Rattle.general.specs.Below.{some, some-of, some-at, some-none, some-step, first}
+use Rattle.general.specs.Tables.{tabulate, length-tabulate, getD-tabulate, zeros-at}
+use Rattle.closure.specs.BitRows.{takeRow}
+use Rattle.closure.specs.Reached.{apart, take-word, take-kept, length-takeRow}
+use Rattle.general.specs.Scan.{Passed, passed-none, passed-more, passed-found, passed-end, at-end, ltb-more}
+use Rattle.sets.specs.Collecting.{collect-more}
 use Rattle.records.specs.Image.{parentOf, fromOf, toOf, kindOf, flagsOf, rolesAt, nodes, badRelationAt, Whole}
 use Rattle.graph.specs.Chart.{condition, response, milestone, include, exclude}
 use Rattle.graph.specs.declared.FlatChart.{FlatChart}
@@ -37,7 +38,7 @@ holds tables κ i f = has (cell tables κ i) f
 -- ---- the events at or below each node
 
 -- node i and the groups above it have taken in e
-pub record Entered (image : List ℕ) (e i : ℕ) (old new : List ℕ) : Type 0 where
+pub record TakenIn (image : List ℕ) (e i : ℕ) (old new : List ℕ) : Type 0 where
   pub size : length new ≡ maxNodes
   pub each : (g f : ℕ) → has (getD new g 0) f ≡ (has (getD old g 0) f || (fromUp image i g && eqb e f))
 
@@ -70,7 +71,7 @@ enter-more {image} {old} {new} {n} {k} {e} {i} {c} {p} {one} {set₁} w m h o q 
         (taken (has (getD new c 0) f) (fromUp image p c) (eqb e f)))
         (λ t. rw (getD-set-other new c g set₁ 0 (λ z. eqb-false c g t (sym z)), up, t))
 
-pub enter-end : {image old new : List ℕ} {n k e i c : ℕ} → Whole image n k → Entering image e i c old new → n ≤ c → Entered image e i old new
+pub enter-end : {image old new : List ℕ} {n k e i c : ℕ} → Whole image n k → Entering image e i c old new → n ≤ c → TakenIn image e i old new
 enter-end {image} {old} {new} {n} {k} {e} {i} {c} w m h =
     record {
       size = m .size;
@@ -84,7 +85,7 @@ pub record Members (image nodes : List ℕ) (events : ℕ) (all : List ℕ) : Ty
 pub members-none : (image nodes : List ℕ) → Members image nodes 0 (replicate maxNodes 0)
 members-none image nodes = record { size = length-replicate {A = ℕ} maxNodes 0; each = λ g f. rw (zeros-at maxNodes g, le-ltb f 0 (omega arith)) (has-empty f) }
 
-pub members-more : {image nodes all next : List ℕ} {e : ℕ} → Members image nodes e all → Entered image e (getD nodes e 0) all next → Members image nodes (e + 1) next
+pub members-more : {image nodes all next : List ℕ} {e : ℕ} → Members image nodes e all → TakenIn image e (getD nodes e 0) all next → Members image nodes (e + 1) next
 members-more {image} {nodes} {all} {next} {e} m a =
     record {
       size = a .size;
@@ -424,8 +425,8 @@ flag-more image nodes digit e s r flags b h i j k = collect-more (λ e. has (fla
 
 -- ---- what the tables and the flags make
 
-unfoldable pub chartOf : ℕ → List ℕ → List ℕ → FlatChart
-chartOf events tables roles =
+unfoldable pub chartFrom : ℕ → List ℕ → List ℕ → FlatChart
+chartFrom events tables roles =
     record {
       count = events;
       conditions = tabulate maxEvents (cell tables (kindNumber condition));

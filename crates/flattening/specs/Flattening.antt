@@ -7,8 +7,8 @@ use mathlib.Core.List.{List}
 use lib.Dec.{eqb, ltb}
 use Rattle.paper.specs.Limits.{maxEvents, maxRoles}
 use Rattle.sets.specs.Set.{has, collect}
-use Rattle.sets.specs.Below.{some}
-use Rattle.sets.specs.Tables.{tabulate}
+use Rattle.general.specs.Below.{some}
+use Rattle.general.specs.Tables.{tabulate}
 use Rattle.graph.specs.Chart.{Kind, condition, response, milestone, include, exclude}
 use Rattle.graph.specs.declared.FlatChart.{FlatChart}
 use Rattle.graph.specs.declared.Marking.{Marking}

@@ -9,23 +9,23 @@ use lib.Seq.{ext-getD}
 use lib.Dec.{eqb, ltb}
 use borrow.Author.Tests.{lt-ltb, ltb-true, eq-eqb, ne-eqb, eqb-true, eqb-false, not-true}
 use Rattle.paper.specs.Limits.{maxEvents, maxRoles, kinds}
-use Rattle.sets.specs.Cases.{contra, cases, both, not-so, same-test}
+use Rattle.general.specs.Cases.{contra, cases, both, not-so, same-test}
 use Rattle.sets.specs.Set.{has, lowest, collect}
 use Rattle.sets.specs.Laws.{ext, has-collect, has-inter, has-empty, none-zero, below, lowest-lt, lowest-has, lowest-least}
-use Rattle.sets.specs.Below.{some, some-of, some-at, some-none, some-same, first, first-found, first-same, tally, tally-same}
-use Rattle.sets.specs.Tables.{tabulate, tabulate-same, length-tabulate, getD-tabulate}
+use Rattle.general.specs.Below.{some, some-of, some-at, some-none, some-same, first, first-found, first-same, tally, tally-same}
+use Rattle.general.specs.Tables.{tabulate, tabulate-same, length-tabulate, getD-tabulate}
 use Rattle.graph.specs.Chart.{Kind, condition, response, milestone, include, exclude}
 use Rattle.graph.specs.declared.FlatChart.{FlatChart}
 use Rattle.graph.specs.declared.Marking.{Marking}
-use Rattle.records.specs.Scan.{collect-same}
-use Rattle.nesting.specs.Numbering.{tally-find, first-numbered}
+use Rattle.sets.specs.Collecting.{collect-same}
+use Rattle.general.specs.Numbering.{tally-find, first-numbered}
 use Rattle.records.specs.Image.{nodes as nodes-of, relations, fromOf, toOf, kindOf, flagsOf, rolesAt, nodeAt, Whole}
 use Rattle.nesting.specs.Nesting.{parent, atOrAbove, isGroup, isEvent, number, eventCount, eventNode, flaggedGroupAt}
 use Rattle.nesting.specs.Climbing.{Straight, fromUp}
 use Rattle.nesting.specs.Tables.{Groups, isEventIn, flaggedIn, EventNodes}
 use Rattle.flattening.specs.Flattening.{kindNumber, holdsBack, leads, related, entered, flatSet, flatTable, flatChart, flagged, startMarking, conflict, conflictAt}
 use Rattle.flattening.specs.Flattening.{namesAt, named, flatRoles, roleTable}
-use Rattle.flattening.specs.Cells.{cell, holds, Members, near, nearOf, farOf, near-fits, Good, entersAt, Gathered, aboveHas, Flat, bothAt, conflictIn, flaggedBy, chartOf, markingBy}
+use Rattle.flattening.specs.Cells.{cell, holds, Members, near, nearOf, farOf, near-fits, Good, entersAt, Gathered, aboveHas, Flat, bothAt, conflictIn, flaggedBy, chartFrom, markingBy}
 use Rattle.flattening.specs.Cells.{someAbove, aboveNames, FlatRoles}
 
 -- ---- nodes
@@ -272,7 +272,7 @@ module _ {image : List ℕ} {n k : ℕ} {groups : List Bool} {events : ℕ} (g :
               (found .1)
               ∙ ap (λ (x : ℕ). first x (conflict image e)) (g .count)
 
-          pub chart-is : {roles : List ℕ} {c : FlatChart} → FlatRoles image nodes events roles → c ≡ chartOf events tables roles → c ≡ flatChart image
-          unfolding chartOf flatChart
+          pub chart-is : {roles : List ℕ} {c : FlatChart} → FlatRoles image nodes events roles → c ≡ chartFrom events tables roles → c ≡ flatChart image
+          unfolding chartFrom flatChart
           chart-is o e =
               e ∙ rw (g .count, roles-are o, table-is condition _ refl, table-is response _ refl, table-is milestone _ refl, table-is include _ refl, table-is exclude _ refl)

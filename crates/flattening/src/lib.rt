@@ -5,11 +5,11 @@ ghost use Prim.Native.Nat.{ℕ, _+_, _*_, _≤_, _<_};
 ghost use lib.ListN.{length, getD, set, replicate};
 ghost use Rattle.paper.specs.Limits.{maxNodes, maxEvents, kinds, nodeSize};
 ghost use Rattle.sets.specs.Set.{union};
-ghost use Rattle.sets.specs.Below.{first};
-ghost use Rattle.sets.specs.Tables.{tabulate};
+ghost use Rattle.general.specs.Below.{first};
+ghost use Rattle.general.specs.Tables.{tabulate};
 ghost use Rattle.records.specs.Image.{nodeAt, badRelationAt, Whole};
 ghost use Rattle.nesting.specs.Climbing.{Straight};
-ghost use Rattle.flattening.specs.Cells.{cell, putIn, addTo, Entered, Members, Gathered, Taken, Flat, Roles, FlatRoles, bothAt, conflictIn, flaggedBy};
+ghost use Rattle.flattening.specs.Cells.{cell, putIn, addTo, TakenIn, Members, Gathered, Taken, Flat, Roles, FlatRoles, bothAt, conflictIn, flaggedBy};
 use paper::KINDS;
 use paper::MAX_EVENTS;
 use paper::MAX_NODES;
@@ -36,7 +36,7 @@ pub const CELLS: usize = MAX_EVENTS * SETS;
 // Node i and each group above it take in event e.
 fn enter(image: &[u8], n: usize, k: usize, all: &mut [u64; MAX_NODES], e: usize, i: usize)
     requires { ⌜ (Whole (now image) n k) × (Straight (now image)) × (e < maxEvents) × (length (now all) ≡ maxNodes) ⌝ }
-    ensures { λ _. ⌜ Entered (now (image .entry)) e i (now (all .entry)) (now (all .exit)) ⌝ }
+    ensures { λ _. ⌜ TakenIn (now (image .entry)) e i (now (all .entry)) (now (all .exit)) ⌝ }
 {
     let mut c = i;
     while c < n {
@@ -135,7 +135,7 @@ fn take_above(
     let mut roles: u8 = 0;
     let mut c = i;
     while c < n {
-        reach::take_row(tables, SETS, e, gathered, c);
+        closure::take_row(tables, SETS, e, gathered, c);
         roles = add_roles(roles, records::roles_of(image, c));
         c = records::parent_of(image, c) as usize;
     }

@@ -8,8 +8,8 @@ use lib.Dec.{eqb, leb, ltb}
 use borrow.Author.Tests.{eq-eqb, ne-eqb, eqb-true, eqb-false, le-leb, lt-leb, leb-true, leb-false, lt-ltb, ltb-true, not-true}
 use Rattle.paper.specs.Limits.{maxEvents, noSuchEvent, notPermitted, notIncluded, conditionWanting, milestoneWanting, unfit}
 use Rattle.paper.specs.Answers.{answer, granted, refusal}
-use Rattle.sets.specs.Cases.{contra, cases, both, all3, either, or-right, not-so, same-test, coincide}
-use Rattle.sets.specs.Below.{tally, Lowest, lowest-one}
+use Rattle.general.specs.Cases.{contra, cases, both, all3, either, or-right, not-so, same-test, coincide}
+use Rattle.general.specs.Below.{tally, Lowest, lowest-one}
 use Rattle.sets.specs.Set.{has, inter, minus, only, lowest}
 use Rattle.sets.specs.Laws.{has-union, has-inter, has-minus, has-only, has-empty, none-zero, ext, lowest-has, lowest-lt, lowest-least, has-collect, size-collect, below, apart-not, not-apart, lowest-none}
 use Rattle.graph.specs.Chart.{condition, response, milestone, include, exclude, setOf, rolesOf, In, Fit, FitMarking}

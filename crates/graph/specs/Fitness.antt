@@ -10,8 +10,8 @@ use lib.Dec.{eqb, leb, ltb}
 use borrow.Author.Tests.{lt-ltb, le-ltb, ltb-true, ltb-false, le-leb, leb-true, eq-eqb, eqb-true}
 use borrow.Author.Count.{below-more}
 use Rattle.paper.specs.Limits.{maxEvents}
-use Rattle.sets.specs.Cases.{contra, cases, both, all3, either, not-so}
-use Rattle.sets.specs.Below.{every, every-at, every-of}
+use Rattle.general.specs.Cases.{contra, cases, both, all3, either, not-so}
+use Rattle.general.specs.Below.{every, every-at, every-of}
 use Rattle.sets.specs.Set.{has, union, inter, minus, allBelow}
 use Rattle.sets.specs.Laws.{has-union, has-empty, has-all, none-zero, union-zero, minus-none, none-minus, apart-not, not-apart, within-lt, lt-within}
 use Rattle.graph.specs.declared.FlatChart.{FlatChart}

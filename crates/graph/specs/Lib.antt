@@ -5,4 +5,4 @@ pub mod Tests
 pub mod Fitness
 pub mod Steps
 pub mod Execution
-pub mod Rows
+pub mod Examples

@@ -6,7 +6,7 @@ use mathlib.Core.Logic.{_↔_, _⊎_, inl, inr, ⊎-elim}
 use lib.Dec.{eqb, ltb}
 use borrow.Author.Tests.{eq-eqb, eqb-true, lt-ltb, ltb-true}
 use Rattle.paper.specs.Limits.{maxRoles}
-use Rattle.sets.specs.Cases.{both, either, or-right}
+use Rattle.general.specs.Cases.{both, either, or-right}
 use Rattle.sets.specs.Set.{has}
 use Rattle.graph.specs.Chart.{In}
 

@@ -13,7 +13,7 @@ use borrow.Author.Tests.{not-true, not-false, eq-eqb, ne-eqb, le-leb, lt-leb}
 use Rattle.paper.specs.Limits.{maxEvents, noSuchEvent, notIncluded, notPermitted, conditionWanting, milestoneWanting, unfit}
 use Rattle.paper.specs.Answers.{answer, granted, refusal}
 use Rattle.paper.specs.declared.Answer.{Answer}
-use Rattle.sets.specs.Cases.{not-so}
+use Rattle.general.specs.Cases.{not-so}
 use Rattle.sets.specs.Set.{has, union, inter, minus, only, lowest, size, collect, putIf}
 use Rattle.sets.specs.Laws.{collect-step, one-bit, ext, has-inter, has-collect}
 use Rattle.graph.specs.Chart.{setOf, rolesOf, condition, response, milestone, include, exclude}

@@ -12,18 +12,18 @@ use borrow.Author.Tests.{ne-eqb, ltb-true, ltb-false, lt-ltb, le-ltb}
 use Rattle.paper.specs.Limits.{maxMarks, maxRules, loopFound, clash, orderRoom}
 use Rattle.paper.specs.Answers.{answer, granted}
 use Rattle.paper.specs.declared.Answer.{Answer}
-use Rattle.sets.specs.Cases.{cases}
-use Rattle.orders.specs.Order.{NoLoop}
-use Rattle.orders.specs.Running.{runningOrder}
+use Rattle.general.specs.Cases.{cases}
+use Rattle.order_theory.specs.Order.{NoLoop}
+use Rattle.order_theory.specs.Running.{runningOrder}
 use Rattle.book.specs.Image.{rulesIn, bookOf}
 use Rattle.book.specs.Read.{rules-count}
 use Rattle.book.specs.Judging.{countsOf, imageAnswer}
 use Rattle.book.specs.WellFormed.{WellFormed, granted-well}
-use Rattle.book.specs.Using.{Opened}
+use Rattle.book.specs.WellRead.{Opened}
 use Rattle.book.specs.declared.Counts.{Counts}
-use Rattle.ordering.specs.Rules.{netOf}
-use Rattle.ordering.specs.Nets.{rulesOf, count-is}
-use Rattle.judge.specs.Whole.{running-few, running-full}
+use Rattle.rule_order.specs.Rules.{netOf}
+use Rattle.rule_order.specs.Nets.{rulesOf, count-is}
+use Rattle.judge.proofs.Whole.{running-few, running-full}
 use Rattle.loops.specs.Places.{loopPlace, loop-fits, loop-place}
 use Rattle.clashes.specs.Pairs.{clashFirst, clashSecond, second-fits}
 use Rattle.judge.specs.Checking.{rulesAnswer, bookAnswer, checking, checkedRoom, targets, targets-in, book-answer, granted-room, refused-room}

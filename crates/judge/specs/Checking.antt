@@ -11,17 +11,17 @@ use borrow.Author.Tests.{eqb-true, eqb-false, eq-eqb, ne-eqb, ltb-true, ltb-fals
 use Rattle.paper.specs.Limits.{badCondition, loopFound, clash, orderRoom}
 use Rattle.paper.specs.Answers.{answer, granted}
 use Rattle.paper.specs.declared.Answer.{Answer}
-use Rattle.sets.specs.Cases.{contra, cases, coincide}
-use Rattle.orders.specs.Order.{Net, Fit, Loop, OnLoop, NoLoop}
-use Rattle.orders.specs.Running.{runningOrder, running-fit, running-length}
+use Rattle.general.specs.Cases.{contra, cases, coincide}
+use Rattle.order_theory.specs.Order.{Net, Fit, Loop, OnLoop, NoLoop}
+use Rattle.order_theory.specs.Running.{runningOrder, running-fit, running-length}
 use Rattle.book.specs.Book.{Book, ruleOf}
 use Rattle.book.specs.Image.{marksIn, rulesIn, bookOf}
 use Rattle.book.specs.Read.{rules-count}
 use Rattle.book.specs.Judging.{imageAnswer}
 use Rattle.book.specs.WellFormed.{WellFormed, Judged, short, count, layout, rule, condition, accepted, judged, judged-is, well-granted, granted-well}
-use Rattle.book.specs.Using.{rule-exists}
-use Rattle.ordering.specs.Rules.{netOf}
-use Rattle.ordering.specs.Nets.{rulesOf}
+use Rattle.book.specs.WellRead.{rule-exists}
+use Rattle.rule_order.specs.Rules.{netOf}
+use Rattle.rule_order.specs.Nets.{rulesOf}
 use Rattle.clashes.specs.Clash.{NoClash, Clashes, clashes-so}
 use Rattle.clashes.specs.Pairs.{clashFirst, clashSecond, LowestClash, clash-fits, lowest-clash, clash-found, no-clash}
 use Rattle.loops.specs.Places.{loopPlace, loop-fits, loop-place}
@@ -65,7 +65,7 @@ pub data Checked (s : List ℕ) (room : ℕ) : Answer → Type 0 where
   passed : WellFormed s → NoLoop (rulesOf s) → NoClash (bookOf s) → rulesIn s ≤ room → Checked s room granted
 
 -- 0: the book is well formed, has no loop and no clash, and the room holds its order
-pub record Passed (s : List ℕ) (room : ℕ) : Type 0 where
+pub record CheckPasses (s : List ℕ) (room : ℕ) : Type 0 where
   pub formed : WellFormed s
   pub acyclic : NoLoop (rulesOf s)
   pub calm : NoClash (bookOf s)
@@ -192,10 +192,10 @@ module _ (s : List ℕ) where
         go a (narrow w n c h) e = absurd (omega arith)
         go a (passed w n c h) e = absurd (omega arith)
 
-    pub passed-is : checking s room .code ≡ 0 → Passed s room
+    pub passed-is : checking s room .code ≡ 0 → CheckPasses s room
     passed-is = go (checking s room) checked
       where
-        go : (a : Answer) → Checked s room a → a .code ≡ 0 → Passed s room
+        go : (a : Answer) → Checked s room a → a .code ≡ 0 → CheckPasses s room
         go a (refused b j n) e = absurd (n e)
         go a (looped w m l) e = absurd (omega arith)
         go a (clashed w n p q l) e = absurd (omega arith)
@@ -203,7 +203,7 @@ module _ (s : List ℕ) where
         go a (passed w n c h) e = record { formed = w; acyclic = n; calm = c; wide = h }
 
     -- nothing else is refused
-    pub is-passed : Passed s room → checking s room ≡ granted
+    pub is-passed : CheckPasses s room → checking s room ≡ granted
     is-passed p = sym (checked-is granted (passed (p .formed) (p .acyclic) (p .calm) (p .wide)))
 
     -- ---- on a well-formed book

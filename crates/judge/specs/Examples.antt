@@ -4,20 +4,20 @@ use mathlib.Core.List.{List, [], _∷_, _++_}
 use Prim.Native.Nat.{ℕ}
 use Rattle.paper.specs.Limits.{loopFound, clash as clashFound, orderRoom}
 use Rattle.paper.specs.Answers.{answer, granted}
-use Rattle.sets.specs.Below.{every, some, first}
-use Rattle.sets.specs.Tables.{tabulate}
+use Rattle.general.specs.Below.{every, some, first}
+use Rattle.general.specs.Tables.{tabulate}
 use Rattle.wire.specs.Wire.{u16At, u32At, bytes16, bytes32}
-use Rattle.reach.specs.Closure.{within}
-use Rattle.orders.specs.Loops.{leads}
-use Rattle.orders.specs.Running.{ready, greedy, runningOrder}
+use Rattle.closure.specs.Closure.{within}
+use Rattle.order_theory.specs.Loops.{leads}
+use Rattle.order_theory.specs.Running.{ready, greedy, runningOrder}
 use Rattle.book.specs.Text.{elem}
-use Rattle.book.specs.Good.{takes, isOperator, after, follows, goodFrom, good, nextDepth}
+use Rattle.book.specs.GoodTexts.{takes, isOperator, depthAfter, follows, goodFrom, good, nextDepth}
 use Rattle.book.specs.Book.{textOf}
 use Rattle.book.specs.Image.{triggerFrom, senseFrom, ruleFrom, conditionFrom, bookOf}
 use Rattle.book.specs.Read.{wordsFrom}
 use Rattle.book.specs.Judging.{countsFit, layoutFits, triggerFits, senseFits, ruleFits, conditionFits, firstBadRule, firstBadCondition, bodyAnswer, imageAnswer}
 use Rattle.book.specs.Firing.{awaits, reads, refers}
-use Rattle.ordering.specs.Rules.{netOf}
+use Rattle.rule_order.specs.Rules.{netOf}
 use Rattle.clashes.specs.Clash.{completesOther, otherStages, isWritten, isNegated, oppositeSenses, apart, opposed, clash}
 use Rattle.clashes.specs.Pairs.{clashing, clashFirst, clashSecond}
 use Rattle.loops.specs.Places.{loopPlace}
@@ -40,20 +40,20 @@ unfoldable pub p10 : ℕ → ℕ → List ℕ
 p10 c d = header 2 2 2 0 0 52 52 ++ rule 1 0 1 c 0 1 ++ rule 1 0 0 d 0 1
 
 pub p9-loop : checking p9 1 ≡ answer loopFound 0 0
-unfolding p9 header rule bytes16 bytes32 checking bookAnswer rulesAnswer imageAnswer countsFit layoutFits bodyAnswer firstBadRule firstBadCondition triggerFits senseFits ruleFits conditionFits takes isOperator after follows goodFrom good nextDepth first some u16At u32At wordsFrom bookOf tabulate ruleFrom triggerFrom senseFrom conditionFrom textOf loopPlace within leads netOf refers awaits reads elem clashFirst clashSecond clashing clash apart opposed otherStages completesOther oppositeSenses isWritten isNegated
+unfolding p9 header rule bytes16 bytes32 checking bookAnswer rulesAnswer imageAnswer countsFit layoutFits bodyAnswer firstBadRule firstBadCondition triggerFits senseFits ruleFits conditionFits takes isOperator depthAfter follows goodFrom good nextDepth first some u16At u32At wordsFrom bookOf tabulate ruleFrom triggerFrom senseFrom conditionFrom textOf loopPlace within leads netOf refers awaits reads elem clashFirst clashSecond clashing clash apart opposed otherStages completesOther oppositeSenses isWritten isNegated
 p9-loop = refl
 
 pub p10-pass : (checking (p10 0 1) 2 ≡ granted) × (checkedRoom (p10 0 1) (7 ∷ 8 ∷ 9 ∷ []) ≡ 0 ∷ 1 ∷ 9 ∷ [])
-unfolding p10 checkedRoom runningOrder greedy ready every header rule bytes16 bytes32 checking bookAnswer rulesAnswer imageAnswer countsFit layoutFits bodyAnswer firstBadRule firstBadCondition triggerFits senseFits ruleFits conditionFits takes isOperator after follows goodFrom good nextDepth first some u16At u32At wordsFrom bookOf tabulate ruleFrom triggerFrom senseFrom conditionFrom textOf loopPlace within leads netOf refers awaits reads elem clashFirst clashSecond clashing clash apart opposed otherStages completesOther oppositeSenses isWritten isNegated
+unfolding p10 checkedRoom runningOrder greedy ready every header rule bytes16 bytes32 checking bookAnswer rulesAnswer imageAnswer countsFit layoutFits bodyAnswer firstBadRule firstBadCondition triggerFits senseFits ruleFits conditionFits takes isOperator depthAfter follows goodFrom good nextDepth first some u16At u32At wordsFrom bookOf tabulate ruleFrom triggerFrom senseFrom conditionFrom textOf loopPlace within leads netOf refers awaits reads elem clashFirst clashSecond clashing clash apart opposed otherStages completesOther oppositeSenses isWritten isNegated
 p10-pass = (refl, refl)
 
 pub p10-clash : checking (p10 0 0) 2 ≡ answer clashFound 0 1
-unfolding p10 header rule bytes16 bytes32 checking bookAnswer rulesAnswer imageAnswer countsFit layoutFits bodyAnswer firstBadRule firstBadCondition triggerFits senseFits ruleFits conditionFits takes isOperator after follows goodFrom good nextDepth first some u16At u32At wordsFrom bookOf tabulate ruleFrom triggerFrom senseFrom conditionFrom textOf loopPlace within leads netOf refers awaits reads elem clashFirst clashSecond clashing clash apart opposed otherStages completesOther oppositeSenses isWritten isNegated
+unfolding p10 header rule bytes16 bytes32 checking bookAnswer rulesAnswer imageAnswer countsFit layoutFits bodyAnswer firstBadRule firstBadCondition triggerFits senseFits ruleFits conditionFits takes isOperator depthAfter follows goodFrom good nextDepth first some u16At u32At wordsFrom bookOf tabulate ruleFrom triggerFrom senseFrom conditionFrom textOf loopPlace within leads netOf refers awaits reads elem clashFirst clashSecond clashing clash apart opposed otherStages completesOther oppositeSenses isWritten isNegated
 p10-clash = refl
 
 -- a room one short, and the room left as it was
 pub p10-narrow : (checking (p10 0 1) 1 ≡ answer orderRoom 2 0) × (checkedRoom (p10 0 1) (7 ∷ []) ≡ 7 ∷ [])
-unfolding p10 checkedRoom header rule bytes16 bytes32 checking bookAnswer rulesAnswer imageAnswer countsFit layoutFits bodyAnswer firstBadRule firstBadCondition triggerFits senseFits ruleFits conditionFits takes isOperator after follows goodFrom good nextDepth first some u16At u32At wordsFrom bookOf tabulate ruleFrom triggerFrom senseFrom conditionFrom textOf loopPlace within leads netOf refers awaits reads elem clashFirst clashSecond clashing clash apart opposed otherStages completesOther oppositeSenses isWritten isNegated
+unfolding p10 checkedRoom header rule bytes16 bytes32 checking bookAnswer rulesAnswer imageAnswer countsFit layoutFits bodyAnswer firstBadRule firstBadCondition triggerFits senseFits ruleFits conditionFits takes isOperator depthAfter follows goodFrom good nextDepth first some u16At u32At wordsFrom bookOf tabulate ruleFrom triggerFrom senseFrom conditionFrom textOf loopPlace within leads netOf refers awaits reads elem clashFirst clashSecond clashing clash apart opposed otherStages completesOther oppositeSenses isWritten isNegated
 p10-narrow = (refl, refl)
 
 -- two conditions with equal texts are two records: the rules that ask them in opposite senses clash
@@ -61,9 +61,9 @@ unfoldable pub twins : ℕ → List ℕ
 twins c = header 1 2 2 2 1 52 68 ++ rule 0 1 1 0 0 1 ++ rule 0 2 0 0 c 1 ++ bytes32 0 ++ bytes32 1 ++ bytes32 0 ++ bytes32 1 ++ bytes16 0
 
 pub twins-apart : checking (twins 0) 2 ≡ granted
-unfolding twins header rule bytes16 bytes32 checking bookAnswer rulesAnswer imageAnswer countsFit layoutFits bodyAnswer firstBadRule firstBadCondition triggerFits senseFits ruleFits conditionFits takes isOperator after follows goodFrom good nextDepth first some u16At u32At wordsFrom bookOf tabulate ruleFrom triggerFrom senseFrom conditionFrom textOf loopPlace within leads netOf refers awaits reads elem clashFirst clashSecond clashing clash apart opposed otherStages completesOther oppositeSenses isWritten isNegated
+unfolding twins header rule bytes16 bytes32 checking bookAnswer rulesAnswer imageAnswer countsFit layoutFits bodyAnswer firstBadRule firstBadCondition triggerFits senseFits ruleFits conditionFits takes isOperator depthAfter follows goodFrom good nextDepth first some u16At u32At wordsFrom bookOf tabulate ruleFrom triggerFrom senseFrom conditionFrom textOf loopPlace within leads netOf refers awaits reads elem clashFirst clashSecond clashing clash apart opposed otherStages completesOther oppositeSenses isWritten isNegated
 twins-apart = refl
 
 pub twins-clash : checking (twins 1) 2 ≡ answer clashFound 0 1
-unfolding twins header rule bytes16 bytes32 checking bookAnswer rulesAnswer imageAnswer countsFit layoutFits bodyAnswer firstBadRule firstBadCondition triggerFits senseFits ruleFits conditionFits takes isOperator after follows goodFrom good nextDepth first some u16At u32At wordsFrom bookOf tabulate ruleFrom triggerFrom senseFrom conditionFrom textOf loopPlace within leads netOf refers awaits reads elem clashFirst clashSecond clashing clash apart opposed otherStages completesOther oppositeSenses isWritten isNegated
+unfolding twins header rule bytes16 bytes32 checking bookAnswer rulesAnswer imageAnswer countsFit layoutFits bodyAnswer firstBadRule firstBadCondition triggerFits senseFits ruleFits conditionFits takes isOperator depthAfter follows goodFrom good nextDepth first some u16At u32At wordsFrom bookOf tabulate ruleFrom triggerFrom senseFrom conditionFrom textOf loopPlace within leads netOf refers awaits reads elem clashFirst clashSecond clashing clash apart opposed otherStages completesOther oppositeSenses isWritten isNegated
 twins-clash = refl

@@ -7,22 +7,22 @@ ghost use Prim.Native.Nat.{_≤_};
 ghost use lib.ListN.{length, take, drop};
 ghost use Rattle.book.specs.Image.{rulesIn, marksIn, bookOf};
 ghost use Rattle.book.specs.WellFormed.{WellFormed};
-ghost use Rattle.orders.specs.Running.{runningOrder};
-ghost use Rattle.ordering.specs.Nets.{rulesOf};
-ghost use Rattle.ordering.specs.References.{References};
+ghost use Rattle.order_theory.specs.Running.{runningOrder};
+ghost use Rattle.rule_order.specs.Nets.{rulesOf};
+ghost use Rattle.rule_order.specs.References.{References};
 ghost use Rattle.judge.specs.Checking.{rulesAnswer, checking, checkedRoom};
 use crate::image::judge_image;
 use book::header::counts_at;
 use clashes::first_clash;
 use loops::loop_place;
-use ordering::references::REFS;
-use ordering::references::references;
-use ordering::running::running_order;
 use paper::Answer;
 use paper::CLASH;
 use paper::LOOP;
 use paper::MAX_RULES;
 use paper::ORDER_ROOM;
+use rule_order::references::REFS;
+use rule_order::references::references;
+use rule_order::running::running_order;
 
 fn copy(from: &[u16], n: usize, room: &mut [u16])
     requires { ⌜ (n ≤ length (now from)) × (n ≤ length (now room)) ⌝ }

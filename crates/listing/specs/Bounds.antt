@@ -9,8 +9,8 @@ use lib.ListN.{length, getD, take, length-append}
 use borrow.Author.Tests.{lt-ltb, ltb-true, ltb-false, leb-true}
 use Rattle.paper.specs.Limits.{andWord, orWord, notWord, maxEvents, maxMarks, maxRules, maxWords, maxNodes, maxRelations, chartHeader}
 use Rattle.paper.specs.declared.Answer.{Answer}
-use Rattle.sets.specs.Cases.{cases, neither}
-use Rattle.sets.specs.Below.{some, first, first-is, tally, tally-le}
+use Rattle.general.specs.Cases.{cases, neither}
+use Rattle.general.specs.Below.{some, first, first-is, tally, tally-le}
 use Rattle.graph.specs.declared.FlatChart.{FlatChart}
 use Rattle.graph.specs.Chart.{Fit}
 use Rattle.graph.specs.Tests.{fitChart}
@@ -20,10 +20,10 @@ use Rattle.nesting.specs.Nesting.{eventCount, isEvent, onLoopAt, flaggedGroupAt
 use Rattle.flattening.specs.Flattening.{conflict, conflictAt}
 use Rattle.chart.specs.Reading.{conflictFrom, conflictTo, readingRelations, readingNodes, reading}
 use Rattle.book.specs.Book.{Book, noRule, ruleOf, textOf}
-use Rattle.book.specs.Good.{GoodText, isOperator}
-use Rattle.book.specs.Using.{triggerExists, senseExists, RuleFormed}
+use Rattle.book.specs.GoodTexts.{GoodText, isOperator}
+use Rattle.book.specs.WellRead.{triggerExists, senseExists, RuleFormed}
 use Rattle.book.specs.Formed.{FormedBook}
-use Rattle.book.specs.Lists.{total, total-le, flat, length-flat, packed, all-at}
+use Rattle.general.specs.Lists.{total, total-le, flat, length-flat, packed, all-at}
 use Rattle.book.specs.ImageOf.{imageOf, image-length}
 use Rattle.book.specs.declared.Rule.{Rule}
 use Rattle.book.specs.declared.Trigger.{Trigger}

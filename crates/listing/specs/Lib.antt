@@ -1,7 +1,6 @@
 -- The root of the crate's specs.
 pub mod Limits
 pub mod Text
-pub mod Lines
 pub mod Bounds
 pub mod Listing
-pub mod Rows
+pub mod Examples

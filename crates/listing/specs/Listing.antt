@@ -11,7 +11,7 @@ use lib.Seq.{take-all, take-append-seam, length-take-le}
 use borrow.Author.Tests.{eq-eqb, ne-eqb, lt-ltb, le-ltb, ltb-false, leb-true}
 use Rattle.paper.specs.Limits.{bookHeader, wordSize}
 use Rattle.paper.specs.declared.Answer.{Answer}
-use Rattle.sets.specs.Cases.{cases, coincide}
+use Rattle.general.specs.Cases.{cases, coincide}
 use Rattle.wire.specs.Laws.{u32-first}
 use Rattle.graph.specs.declared.FlatChart.{FlatChart}
 use Rattle.graph.specs.Chart.{Fit}
@@ -27,7 +27,7 @@ use Rattle.book.specs.declared.Counts.{Counts}
 use Rattle.derived.specs.Derived.{derivedBook}
 use Rattle.deriver.specs.Formed.{derived-well}
 use Rattle.deriver.specs.Deriving.{derivedImage, derivingAnswer, derivedRoom}
-use Rattle.derived.specs.Writing.{Wrote, wrote-whole}
+use Rattle.general.specs.Writing.{Wrote, wrote-whole}
 use Rattle.writing.specs.Writers.{Space}
 use Rattle.single_lines.specs.Text.{refusalLine}
 use Rattle.listing.specs.Limits.{listingInput, listingBook, maxListing}

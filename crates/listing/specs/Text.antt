@@ -8,7 +8,7 @@ use Rattle.paper.specs.declared.Answer.{Answer}
 use Rattle.graph.specs.declared.FlatChart.{FlatChart}
 use Rattle.chart.specs.Reading.{reading}
 use Rattle.book.specs.Book.{Book, ruleOf, textOf}
-use Rattle.book.specs.Lists.{flat}
+use Rattle.general.specs.Lists.{flat}
 use Rattle.derived.specs.Derived.{derivedBook}
 use Rattle.deriver.specs.Deriving.{derivingAnswer}
 use Rattle.single_lines.specs.Text.{countsLine, refusalLine}

@@ -4,7 +4,7 @@ ghost use Prim.Native.Nat.{_≤_};
 ghost use lib.ListN.{length};
 ghost use Rattle.book.specs.Image.{bookOf};
 ghost use Rattle.book.specs.WellFormed.{WellFormed};
-ghost use Rattle.derived.specs.Writing.{Wrote};
+ghost use Rattle.general.specs.Writing.{Wrote};
 ghost use Rattle.writing.specs.Writers.{Space};
 ghost use Rattle.listing.specs.Limits.{maxListing};
 ghost use Rattle.listing.specs.Text.{bookText, chartText, imageText};

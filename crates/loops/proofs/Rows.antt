@@ -8,20 +8,20 @@ use lib.Dec.{eqb, leb}
 use lib.ListN.{length, getD, replicate, length-replicate}
 use borrow.Author.Tests.{eqb-true, eqb-false, eq-eqb, leb-true, le-leb, lt-leb}
 use Rattle.paper.specs.Limits.{maxMarks}
-use Rattle.sets.specs.Cases.{cases, same-test}
-use Rattle.sets.specs.Below.{some, some-step, first}
+use Rattle.general.specs.Cases.{cases, same-test}
+use Rattle.general.specs.Below.{some, some-step, first}
 use Rattle.wire.specs.Wire.{u16At}
-use Rattle.reach.specs.Rows.{bit, putBit, takeRow, closed}
-use Rattle.reach.specs.Bits.{take-bit, take-other, put-bit, bit-zeros, length-takeRow, length-putBit}
-use Rattle.orders.specs.Loops.{leads, loop-rows}
+use Rattle.closure.specs.BitRows.{bit, putBit, takeRow, closed}
+use Rattle.closure.specs.Reached.{take-bit, take-other, put-bit, bit-zeros, length-takeRow, length-putBit}
+use Rattle.order_theory.specs.Loops.{leads, loop-rows}
 use Rattle.book.specs.Book.{ruleOf}
 use Rattle.book.specs.Firing.{refers}
 use Rattle.book.specs.Image.{rulesIn, marksIn, rulePlace, ruleFrom, bookOf}
 use Rattle.book.specs.Read.{rules-count, rule-read}
 use Rattle.book.specs.Marks.{wordBits, markWords}
 use Rattle.book.specs.WellFormed.{WellFormed}
-use Rattle.ordering.specs.Rules.{netOf}
-use Rattle.ordering.specs.References.{References, asked-row, awaited-in, refers-bytes}
+use Rattle.rule_order.specs.Rules.{netOf}
+use Rattle.rule_order.specs.References.{References, asked-row, awaited-in, refers-bytes}
 use Rattle.loops.specs.Places.{loopPlace}
 use Rattle.loops.specs.Linked.{linkWords, withCondition, withTrigger, LinkedMarks}
 

@@ -7,11 +7,11 @@ use lib.Dec.{leb}
 use lib.ListN.{length, getD}
 use Rattle.paper.specs.Limits.{maxMarks}
 use Rattle.wire.specs.Wire.{u16At}
-use Rattle.reach.specs.Rows.{bit, putBit, takeRow}
-use Rattle.orders.specs.Loops.{leads}
+use Rattle.closure.specs.BitRows.{bit, putBit, takeRow}
+use Rattle.order_theory.specs.Loops.{leads}
 use Rattle.book.specs.Image.{rulePlace, bookOf}
 use Rattle.book.specs.Marks.{markWords}
-use Rattle.ordering.specs.Rules.{netOf}
+use Rattle.rule_order.specs.Rules.{netOf}
 
 -- 256 rows of four words
 abbrev pub linkWords : ℕ

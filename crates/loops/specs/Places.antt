@@ -3,12 +3,12 @@ use mathlib.Core.Path.{_≡_}
 use mathlib.Core.Logic.{_↔_}
 use Prim.Native.Nat.{ℕ, _≤_, _<_}
 use lib.ListN.{length}
-use Rattle.sets.specs.Below.{first-is}
-use Rattle.reach.specs.Closure.{within}
-use Rattle.orders.specs.Order.{OnLoop, NoLoop}
-use Rattle.orders.specs.Loops.{leads, loopMark, loop-mark}
+use Rattle.general.specs.Below.{first-is}
+use Rattle.closure.specs.Closure.{within}
+use Rattle.order_theory.specs.Order.{OnLoop, NoLoop}
+use Rattle.order_theory.specs.Loops.{leads, loopMark, loop-mark}
 use Rattle.book.specs.Book.{Book, ruleOf}
-use Rattle.ordering.specs.Rules.{netOf}
+use Rattle.rule_order.specs.Rules.{netOf}
 
 -- the mark that the refusal names: a book's loop mark, or M
 unfoldable pub loopPlace : Book → ℕ

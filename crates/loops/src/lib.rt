@@ -4,13 +4,13 @@ ghost use Prim.Native.Nat.{ℕ, _<_};
 ghost use lib.ListN.{length, replicate};
 ghost use Rattle.book.specs.Image.{rulesIn, marksIn, bookOf};
 ghost use Rattle.book.specs.WellFormed.{WellFormed};
-ghost use Rattle.ordering.specs.References.{References};
+ghost use Rattle.rule_order.specs.References.{References};
 ghost use Rattle.loops.specs.Linked.{linkWords, withCondition, withTrigger, LinkedMarks};
 ghost use Rattle.loops.specs.Places.{loopPlace};
-use ordering::references::REFS;
 use paper::BOOK_HEADER;
 use paper::MAX_MARKS;
 use paper::RULE_SIZE;
+use rule_order::references::REFS;
 use texts::references::MARK_WORDS;
 
 // Row b is the set of marks that the rules which target b refer to: 8 KiB.
@@ -25,7 +25,7 @@ fn link_condition(image: &[u8], r: usize, refs: &[u64; REFS], rows: &mut [u64])
     if 1 <= image[at + 1] {
         let target = wire::u16_at(image, at + 8) as usize;
         let condition = wire::u16_at(image, at + 6) as usize;
-        reach::take_row(rows, MARK_WORDS, target, refs, condition);
+        closure::take_row(rows, MARK_WORDS, target, refs, condition);
     }
 }
 
@@ -38,7 +38,7 @@ fn link_trigger(image: &[u8], r: usize, rows: &mut [u64])
     if 2 <= image[at] {
         let target = wire::u16_at(image, at + 8) as usize;
         let mark = wire::u16_at(image, at + 4) as usize;
-        reach::put_bit(rows, MARK_WORDS, target, mark);
+        closure::put_bit(rows, MARK_WORDS, target, mark);
     }
 }
 
@@ -59,6 +59,6 @@ pub fn loop_place(image: &[u8], rules: usize, marks: usize, refs: &[u64; REFS]) 
 {
     let mut rows = [0u64; LINKS];
     link(image, rules, refs, &mut rows);
-    reach::close(&mut rows, marks, MARK_WORDS);
-    reach::lowest_on_diagonal(&rows, marks, MARK_WORDS)
+    closure::close(&mut rows, marks, MARK_WORDS);
+    closure::lowest_on_diagonal(&rows, marks, MARK_WORDS)
 }

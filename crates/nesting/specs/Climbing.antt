@@ -10,10 +10,10 @@ use lib.Seq.{getD-set-same, getD-set-other}
 use lib.Dec.{eqb, ltb}
 use borrow.Author.Tests.{lt-ltb, le-ltb, ltb-true, ltb-false, eq-eqb, ne-eqb, eqb-true, eqb-false, not-true, not-false}
 use Rattle.paper.specs.Limits.{maxNodes}
-use Rattle.sets.specs.Cases.{contra, cases, both, all3, either, or-right, not-so, same-test}
-use Rattle.sets.specs.Below.{some, some-of, some-none, first, first-is, first-same, first-none, tally, tally-less}
-use Rattle.reach.specs.Closure.{Way, hop, via, trans, wider}
-use Rattle.reach.specs.Rows.{bit}
+use Rattle.general.specs.Cases.{contra, cases, both, all3, either, or-right, not-so, same-test}
+use Rattle.general.specs.Below.{some, some-of, some-none, first, first-is, first-same, first-none, tally, tally-less}
+use Rattle.closure.specs.Closure.{Way, hop, via, trans, wider}
+use Rattle.closure.specs.BitRows.{bit}
 use Rattle.records.specs.Image.{nodes, parentOf, Whole}
 use Rattle.nesting.specs.Nesting.{parent, nested, atOrAbove, onLoopAt, nested-so}
 use Rattle.nesting.specs.Tables.{rowWidth, Nestings}

@@ -1,5 +1,4 @@
 -- The root of the crate's specs.
-pub mod Numbering
 pub mod Nesting
 pub mod Tables
 pub mod Climbing

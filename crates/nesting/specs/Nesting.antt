@@ -6,9 +6,9 @@ use mathlib.Core.Bool.{Bool, true, not, _&&_, _||_}
 use mathlib.Core.List.{List}
 use lib.Dec.{eqb, ltb}
 use borrow.Author.Tests.{ltb-true}
-use Rattle.sets.specs.Cases.{all3}
-use Rattle.sets.specs.Below.{some, first, tally}
-use Rattle.reach.specs.Closure.{Way, within, reached}
+use Rattle.general.specs.Cases.{all3}
+use Rattle.general.specs.Below.{some, first, tally}
+use Rattle.closure.specs.Closure.{Way, within, reached}
 use Rattle.records.specs.Image.{nodes, parentOf, stateOf}
 
 module _ (image : List ℕ) where

@@ -10,13 +10,13 @@ use lib.Seq.{getD-set-same, getD-set-other}
 use lib.Dec.{eqb, ltb}
 use borrow.Author.Tests.{lt-ltb, le-ltb, ltb-true, ltb-false, eq-eqb, ne-eqb, eqb-true, eqb-false, not-true, not-false}
 use Rattle.paper.specs.Limits.{maxNodes, maxEvents}
-use Rattle.sets.specs.Cases.{contra, cases, lt-suc}
-use Rattle.sets.specs.Below.{some, some-step, tally}
-use Rattle.reach.specs.Closure.{within, within-same}
-use Rattle.reach.specs.Rows.{bit, putBit, closed}
-use Rattle.reach.specs.Bits.{put-bit, bit-zeros, length-putBit, length-closed, closed-bit}
-use Rattle.records.specs.Scan.{at-end, ltb-more}
-use Rattle.nesting.specs.Numbering.{tally-lt}
+use Rattle.general.specs.Cases.{contra, cases, lt-suc}
+use Rattle.general.specs.Below.{some, some-step, tally}
+use Rattle.closure.specs.Closure.{within, within-same}
+use Rattle.closure.specs.BitRows.{bit, putBit, closed}
+use Rattle.closure.specs.Reached.{put-bit, bit-zeros, length-putBit, length-closed, closed-bit}
+use Rattle.general.specs.Scan.{at-end, ltb-more}
+use Rattle.general.specs.Numbering.{tally-lt}
 use Rattle.records.specs.Image.{nodes, parentOf, stateOf, Whole}
 use Rattle.nesting.specs.Nesting.{parent, nested}
 

@@ -4,7 +4,7 @@ ghost use mathlib.Core.Bool.{true, false, not, cond};
 ghost use Prim.Native.Nat.{_+_, _*_, _≤_, _<_};
 ghost use lib.ListN.{length, set};
 ghost use Rattle.paper.specs.Limits.{maxNodes, maxEvents, nodeSize};
-ghost use Rattle.sets.specs.Below.{some, first, tally};
+ghost use Rattle.general.specs.Below.{some, first, tally};
 ghost use Rattle.records.specs.Image.{nodes, nodeAt, Whole};
 ghost use Rattle.nesting.specs.Nesting.{onLoopAt};
 ghost use Rattle.nesting.specs.Climbing.{Climbed, Stamps};
@@ -99,7 +99,7 @@ fn link(rows: &mut [u64; ROWS], n: usize, a: usize, parent: usize)
     ensures { λ _. ⌜ now (rows .exit) ≡ linkAt (now (rows .entry)) n a parent ⌝ }
 {
     if parent < n {
-        reach::put_bit(rows, WIDTH, a, parent);
+        closure::put_bit(rows, WIDTH, a, parent);
     }
 }
 
@@ -121,7 +121,7 @@ pub fn nesting_of(image: &[u8], n: usize, k: usize) -> [u64; ROWS]
     ensures { λ r. ⌜ Nestings (now (image .entry)) n r ⌝ }
 {
     let mut rows = parents_of(image, n, k);
-    reach::close(&mut rows, n, WIDTH);
+    closure::close(&mut rows, n, WIDTH);
     rows
 }
 
@@ -165,5 +165,5 @@ pub fn lowest_on_loop(image: &[u8], n: usize, k: usize) -> usize
         return n;
     }
     let rows = nesting_of(image, n, k);
-    reach::lowest_on_diagonal(&rows, n, WIDTH)
+    closure::lowest_on_diagonal(&rows, n, WIDTH)
 }

@@ -10,7 +10,7 @@ use lib.Dec.{leb}
 use Rattle.paper.specs.Limits.{maxEvents, maxMarks, unfit}
 use Rattle.paper.specs.Answers.{granted, refusal}
 use Rattle.paper.specs.declared.Answer.{Answer}
-use Rattle.sets.specs.Cases.{cases, coincide}
+use Rattle.general.specs.Cases.{cases, coincide}
 use Rattle.graph.specs.Chart.{Fit, FitMarking}
 use Rattle.graph.specs.Tests.{fitChart}
 use Rattle.graph.specs.Steps.{executing, counting, finishing}
@@ -23,11 +23,11 @@ use Rattle.graph.specs.declared.steps.Finished.{Finished}
 use Rattle.chart.specs.Reading.{reading, refused}
 use Rattle.chart.specs.declared.Reading.{Reading}
 use Rattle.chart.specs.Outcome.{Outcome, outcome, judged}
-use Rattle.chart.specs.Given.{refused-empty}
-use Rattle.orders.specs.Running.{runningOrder}
+use Rattle.chart.specs.ReadingGives.{refused-empty}
+use Rattle.order_theory.specs.Running.{runningOrder}
 use Rattle.book.specs.Image.{rulesIn}
 use Rattle.book.specs.declared.Snapshot.{Snapshot}
-use Rattle.ordering.specs.Nets.{rulesOf}
+use Rattle.rule_order.specs.Nets.{rulesOf}
 use Rattle.judge.specs.Checking.{Checked, checked, checked-is, checking, checkedRoom, granted-room, refused-room}
 use Rattle.deriver.specs.Deriving.{derivedImage, derivingAnswer, derivedRoom}
 use Rattle.deriver.specs.Matching.{matchingOf}

@@ -14,7 +14,7 @@ use borrow.Author.Tests.{le-leb, eqb-true, eqb-false}
 use Rattle.paper.specs.Limits.{maxMarks, notPermitted}
 use Rattle.paper.specs.Answers.{granted}
 use Rattle.paper.specs.declared.Answer.{Answer}
-use Rattle.sets.specs.Cases.{cases}
+use Rattle.general.specs.Cases.{cases}
 use Rattle.graph.specs.Chart.{rolesOf, Fit, FitMarking}
 use Rattle.graph.specs.Roles.{Permits}
 use Rattle.graph.specs.Fitness.{fit-tested}
@@ -27,12 +27,12 @@ use Rattle.book.specs.Book.{Book}
 use Rattle.book.specs.Image.{bookOf, stagesIn, marksIn, rulesIn}
 use Rattle.book.specs.ImageOf.{book-of-image}
 use Rattle.book.specs.declared.Snapshot.{Snapshot}
-use Rattle.orders.specs.Order as order
-use Rattle.orders.specs.Settle.{Settled}
-use Rattle.orders.specs.Snapshots.{at-same}
-use Rattle.ordering.specs.Rules.{netOf, actsOf}
-use Rattle.ordering.specs.Nets.{rulesOf}
-use Rattle.judge.specs.Checking.{Passed, checking, checkedRoom, is-passed}
+use Rattle.order_theory.specs.Order as order
+use Rattle.order_theory.specs.Settle.{Settled}
+use Rattle.order_theory.specs.Snapshots.{at-same}
+use Rattle.rule_order.specs.Rules.{netOf, actsOf}
+use Rattle.rule_order.specs.Nets.{rulesOf}
+use Rattle.judge.specs.Checking.{CheckPasses, checking, checkedRoom, is-passed}
 use Rattle.derived.specs.Derived.{derivedBook}
 use Rattle.deriver.specs.Deriving.{derivedImage, derivingAnswer, derivedRoom}
 use Rattle.deriver.specs.Formed.{derived-well}
@@ -60,7 +60,7 @@ module _ (c : FlatChart) (fit : Fit c) where
   said : bookOf (derivedImage c) ≡ derivedBook c
   said = book-of-image (derivedBook c)
 
-  derived-passed : (room : ℕ) → rulesIn (derivedImage c) ≤ room → Passed (derivedImage c) room
+  derived-passed : (room : ℕ) → rulesIn (derivedImage c) ≤ room → CheckPasses (derivedImage c) room
   derived-passed room h =
       record {
         formed = derived-well c fit;

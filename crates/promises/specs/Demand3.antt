@@ -8,13 +8,13 @@ use lib.ListN.{length, take}
 use Rattle.paper.specs.Limits.{loopFound, clash}
 use Rattle.paper.specs.Answers.{granted}
 use Rattle.chart.specs.Reading.{reading}
-use Rattle.chart.specs.Given.{reading-fit}
-use Rattle.orders.specs.Order.{Fit, Loop, NoLoop}
+use Rattle.chart.specs.ReadingGives.{reading-fit}
+use Rattle.order_theory.specs.Order.{Fit, Loop, NoLoop}
 use Rattle.book.specs.Text.{Snap, snapOf}
 use Rattle.book.specs.Image.{rulesIn, bookOf}
 use Rattle.book.specs.WellFormed.{WellFormed}
 use Rattle.book.specs.declared.Snapshot.{Snapshot}
-use Rattle.ordering.specs.Nets.{rulesOf}
+use Rattle.rule_order.specs.Nets.{rulesOf}
 use Rattle.clashes.specs.Pairs.{LowestClash}
 use Rattle.judge.specs.Checking.{checking, checkedRoom, Clashing, LowestLoop, loop-exactly, loop-named, clash-exactly, clash-named}
 use Rattle.deriver.specs.Deriving.{derivedImage}

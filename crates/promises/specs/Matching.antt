@@ -11,7 +11,7 @@ use lib.Seq.{ext-getD}
 use borrow.Author.Tests.{ltb-true, ltb-false, not-true}
 use Rattle.paper.specs.Limits.{maxEvents, maxMarks, unfit}
 use Rattle.paper.specs.Answers.{granted, refusal}
-use Rattle.sets.specs.Cases.{cases, contra, same-test, not-so}
+use Rattle.general.specs.Cases.{cases, contra, same-test, not-so}
 use Rattle.sets.specs.Set.{has}
 use Rattle.graph.specs.Chart.{In, Fit, FitMarking}
 use Rattle.graph.specs.Tests.{fit}
@@ -21,7 +21,7 @@ use Rattle.graph.specs.Execution.{Enabled, open-enabled}
 use Rattle.graph.specs.declared.FlatChart.{FlatChart}
 use Rattle.graph.specs.declared.Marking.{Marking}
 use Rattle.book.specs.Text.{snapOf}
-use Rattle.book.specs.Lists.{each, length-each}
+use Rattle.general.specs.Lists.{each, length-each}
 use Rattle.book.specs.declared.Snapshot.{Snapshot}
 use Rattle.derived.specs.Derived.{executedMark, includedMark, answeredMark}
 use Rattle.deriver.specs.Matching.{matchingMarks, matchingOf, markOf, marks-at}

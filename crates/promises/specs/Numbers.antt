@@ -6,13 +6,13 @@ use mathlib.Core.Logic.{_↔_}
 use mathlib.Core.Bool.{Bool, true, false}
 use mathlib.Core.List.{List}
 use native.Mathlib.Omega.{arith}
-use Rattle.sets.specs.Cases.{cases, contra}
-use Rattle.sets.specs.Below.{tally}
+use Rattle.general.specs.Cases.{cases, contra}
+use Rattle.general.specs.Below.{tally}
 use Rattle.records.specs.Image.{nodes}
 use Rattle.nesting.specs.Nesting.{parent, isEvent}
 use Rattle.flattening.specs.Flattening.{flatChart}
 use Rattle.chart.specs.Reading.{reading}
-use Rattle.chart.specs.Given.{is-event, event-is, granted-right}
+use Rattle.chart.specs.ReadingGives.{is-event, event-is, granted-right}
 
 -- n of the numbers below k have P
 pub data Number (P : ℕ → Type 0) : ℕ → ℕ → Type 0 where

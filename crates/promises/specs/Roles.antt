@@ -10,10 +10,10 @@ use lib.ListN.{getD, replicate}
 use lib.Dec.{eqb, leb}
 use borrow.Author.Tests.{eq-eqb}
 use Rattle.paper.specs.Limits.{maxEvents, maxRoles, noSuchEvent, notPermitted, unfit}
-use Rattle.sets.specs.Cases.{contra, not-so}
+use Rattle.general.specs.Cases.{contra, not-so}
 use Rattle.sets.specs.Set.{has}
 use Rattle.sets.specs.Laws.{has-empty, has-union, none-zero}
-use Rattle.sets.specs.Tables.{zeros-at}
+use Rattle.general.specs.Tables.{zeros-at}
 use Rattle.graph.specs.Chart.{rolesOf, Fit, FitMarking}
 use Rattle.graph.specs.Tests.{spillOf, rolesFrom, fitMarking, fitTables, fitChart, fit}
 use Rattle.graph.specs.Roles.{Permits, permits-so}
@@ -24,7 +24,7 @@ use Rattle.graph.specs.declared.Marking.{Marking}
 use Rattle.graph.specs.declared.steps.Step.{Step}
 use Rattle.flattening.specs.Flattening.{flatChart}
 use Rattle.chart.specs.Reading.{reading}
-use Rattle.chart.specs.Given.{Names, granted-right, reading-names, reading-fit}
+use Rattle.chart.specs.ReadingGives.{Names, granted-right, reading-names, reading-fit}
 use Rattle.chart.specs.Stored.{Plain, readingBefore, reads-as-before, all-open}
 use Rattle.chart.specs.declared.Reading.{Reading}
 

@@ -12,34 +12,34 @@ use Rattle.paper.specs.Limits as limit
 use Rattle.paper.specs.Answers.{answer, granted, refusal}
 use Rattle.paper.specs.declared.Answer.{Answer}
 use Rattle.sets.specs.Set.{has}
-use Rattle.sets.specs.Tables.{zeros-at}
+use Rattle.general.specs.Tables.{zeros-at}
 use Rattle.graph.specs.Chart.{rolesOf, Fit, FitMarking}
 use Rattle.graph.specs.Tests.{rowSpill, spillAt, spillOf, rolesFrom, fitTables, fitChart, fitMarking, fit}
 use Rattle.graph.specs.Roles.{Permits, permits}
 use Rattle.graph.specs.Steps.{openWith, unmetOf, awaitedOf, afterWith, stepping, steppingBy, executing, refusing, granting, finishing}
-use Rattle.graph.specs.Rows.{none, pair, marking}
-use Rattle.graph.specs.Rows as graph
+use Rattle.graph.specs.Examples.{none, pair, marking}
+use Rattle.graph.specs.Examples as graph
 use Rattle.graph.specs.declared.FlatChart.{FlatChart}
 use Rattle.graph.specs.declared.Marking.{Marking}
 use Rattle.chart.specs.Reading.{reading, refused}
-use Rattle.chart.specs.Given.{reading-fit}
+use Rattle.chart.specs.ReadingGives.{reading-fit}
 use Rattle.chart.specs.declared.Reading.{Reading}
 use Rattle.chart.specs.Examples.{wholeChart, groupChart, conflictChart}
 use Rattle.chart.specs.Examples as examples
 use Rattle.book.specs.Text.{snapOf}
-use Rattle.book.specs.Lists.{flat}
+use Rattle.general.specs.Lists.{flat}
 use Rattle.book.specs.Image.{stagesIn, rulesIn}
 use Rattle.book.specs.ImageOf.{image-length, book-of-image}
 use Rattle.book.specs.declared.Snapshot.{Snapshot}
-use Rattle.ordering.specs.Rules.{netOf}
-use Rattle.ordering.specs.Nets.{count-is}
+use Rattle.rule_order.specs.Rules.{netOf}
+use Rattle.rule_order.specs.Nets.{count-is}
 use Rattle.derived.specs.Derived.{derivedBook}
 use Rattle.deriver.specs.Deriving.{derivedImage, derivingAnswer}
 use Rattle.deriver.specs.Matching.{matchingMarks, matchingOf}
-use Rattle.deriver.specs.Rows.{paperChart, paperStart, paperBook, worth}
-use Rattle.deriver.specs.Rows as deriver
+use Rattle.deriver.specs.Examples.{paperChart, paperStart, paperBook, worth}
+use Rattle.deriver.specs.Examples as deriver
 use Rattle.listing.specs.Text.{listingText}
-use Rattle.listing.specs.Rows.{paperText, paper-listing}
+use Rattle.listing.specs.Examples.{paperText, paper-listing}
 use Rattle.judge.specs.Checking.{checking}
 use Rattle.judge.specs.Examples.{p9, p10, p9-loop, p10-pass, p10-clash}
 use Rattle.runner.specs.Table.{Passes, Answered}
@@ -128,7 +128,7 @@ pub record Rows : Type 0 where
 -- ---- P1 to P3, computed on the chart that the bytes give
 
 whole-is : reading wholeChart ≡ record { answer = granted; chart = paperChart; marking = paperStart }
-whole-is = examples.rows .whole
+whole-is = examples.examples .whole
 
 -- and stage 1 is closed at the start
 on-chart : OnChart (reading wholeChart) × (snapOf (matchingOf (reading wholeChart .chart) (reading wholeChart .marking) .snapshot .marks) 1 ≡ false)
@@ -140,7 +140,7 @@ on-chart =
 -- ---- and on the book's side by demand 2
 
 book-is : derivedBook (reading wholeChart .chart) ≡ paperBook
-book-is = ap (λ (r : Reading). derivedBook (r .chart)) whole-is ∙ deriver.rows .book
+book-is = ap (λ (r : Reading). derivedBook (r .chart)) whole-is ∙ deriver.examples .book
 
 -- 0 is granted
 zero-granted : (s l : List ℕ) (snapshot : Snapshot) (stage : ℕ) → completing s l snapshot stage .answer .code ≡ 0 → completing s l snapshot stage .answer ≡ granted
@@ -228,15 +228,15 @@ pub rows : Rows
 rows =
     record {
       whole = whole-is;
-      book = deriver.rows .book;
+      book = deriver.examples .book;
       listing = paper-listing;
       onChart = on-chart .0;
       byBook = by-book;
-      p4 = graph.rows .p4;
-      p5 = graph.rows .p5;
-      p6 = graph.rows .p6;
-      p7 = (examples.rows .p7-granted, examples.rows .p7-conditions);
-      p8 = examples.rows .p8;
+      p4 = graph.examples .p4;
+      p5 = graph.examples .p5;
+      p6 = graph.examples .p6;
+      p7 = (examples.examples .p7-granted, examples.examples .p7-conditions);
+      p8 = examples.examples .p8;
       p9 = p9-loop;
       p10 = (p10-pass .0, p10-clash);
       p11 = runner.p11;

@@ -9,8 +9,8 @@ use borrow.Author.Tests.{eq-eqb, ne-eqb, eqb-true, eqb-false, le-leb, lt-leb, le
 use Rattle.paper.specs.Limits.{maxEvents, unfit, bookRoom}
 use Rattle.paper.specs.Answers.{answer, granted, refusal}
 use Rattle.paper.specs.declared.Answer.{Answer}
-use Rattle.sets.specs.Cases.{cases, contra, both, not-so}
-use Rattle.sets.specs.Below.{tally, tally-none, Lowest, lowest-one}
+use Rattle.general.specs.Cases.{cases, contra, both, not-so}
+use Rattle.general.specs.Below.{tally, tally-none, Lowest, lowest-one}
 use Rattle.sets.specs.Set.{has, inter, lowest}
 use Rattle.sets.specs.Laws.{has-inter, below, lowest-has, lowest-lt, apart-not, not-apart}
 use Rattle.graph.specs.Chart.{In, Fit, FitMarking}

@@ -1,3 +1,2 @@
 -- The root of the crate's specs.
-pub mod Scan
 pub mod Image

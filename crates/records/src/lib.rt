@@ -3,7 +3,7 @@ ghost use mathlib.Core.Path.{_≡_};
 ghost use Prim.Native.Nat.{_+_, _*_, _≤_, _<_};
 ghost use lib.ListN.{length};
 ghost use Rattle.paper.specs.Limits.{maxNodes, maxRelations, chartHeader, nodeSize, flagsByte, relationSize};
-ghost use Rattle.sets.specs.Below.{first};
+ghost use Rattle.general.specs.Below.{first};
 ghost use Rattle.records.specs.Image.{nodes, relations, nodeAt, parentOf, flagsOf, stateOf, rolesAt, relationAt, fromOf, toOf, kindOf, outOfRange, misplaced, badNodeAt, badRelationAt, Whole};
 use paper::CHART_HEADER;
 use paper::FLAGS_BYTE;

@@ -4,13 +4,13 @@ use mathlib.Core.Path.{_≡_}
 use mathlib.Core.Bool.{Bool, true, false}
 use mathlib.Core.List.{List}
 use Rattle.book.specs.Image.{rulePlace, ruleFrom}
-use Rattle.book.specs.Lists.{flat}
+use Rattle.general.specs.Lists.{flat}
 use Rattle.book.specs.declared.Rule.{Rule}
 use Rattle.book.specs.declared.Sense.{Sense}
 use Rattle.book.specs.declared.Sense.the-variants.{NoCondition, AsWritten, Negated}
 use Rattle.book.specs.declared.Trigger.{Trigger}
 use Rattle.book.specs.declared.Trigger.the-variants.{None, Completed, BecomeYes, BecomeNo}
-use Rattle.derived.specs.Writing.{Wrote, wrote-none}
+use Rattle.general.specs.Writing.{Wrote, wrote-none}
 use Rattle.writing.specs.Text.{named}
 use Rattle.writing.specs.Writers.{Space, Lines, lines-fits, lines-more}
 use Rattle.rule_lines.specs.Text.{triggerText, senseText, effectText, ruleLine}

@@ -2,8 +2,8 @@
 ghost use Prim.Native.Nat.{_≤_};
 ghost use lib.ListN.{length};
 ghost use Rattle.book.specs.Image.{rulePlace};
-ghost use Rattle.book.specs.Lists.{flat};
-ghost use Rattle.derived.specs.Writing.{Wrote};
+ghost use Rattle.general.specs.Lists.{flat};
+ghost use Rattle.general.specs.Writing.{Wrote};
 ghost use Rattle.writing.specs.Writers.{Space};
 ghost use Rattle.rule_lines.specs.Text.{triggerText, senseText, effectText, ruleLine};
 ghost use Rattle.rule_lines.specs.Writers.{ruleLineAt};

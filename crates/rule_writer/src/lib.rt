@@ -6,12 +6,12 @@ ghost use Prim.Native.Nat.{_+_, _*_, _<_, _≤_};
 ghost use lib.ListN.{length};
 ghost use Rattle.paper.specs.Limits.{maxEvents, maxRules, ruleSize};
 ghost use Rattle.sets.specs.Set.{union, within};
-ghost use Rattle.book.specs.Lists.{flat, packed};
+ghost use Rattle.general.specs.Lists.{flat, packed};
 ghost use Rattle.book.specs.ImageOf.{effectByte, ruleRecord, ruleBytes};
 ghost use Rattle.derived.specs.Derived.{on, answering, completion, stageRules};
 ghost use Rattle.derived.specs.Sizes.{effects, completionSize, completionsSize};
-ghost use Rattle.derived.specs.Writing.{Fits, Wrote};
-ghost use Rattle.derived.specs.Tables.{completionAt, CompletionsIn};
+ghost use Rattle.general.specs.Writing.{Fits, Wrote};
+ghost use Rattle.derived.specs.Parts.{completionAt, CompletionsIn};
 use paper::MAX_EVENTS;
 use paper::RULE_SIZE;
 

@@ -6,14 +6,14 @@ use lib.Dec.{eqb, ltb, leb}
 use Rattle.paper.specs.Limits.{maxMarks, orderUnfit, markAbove, noSuchStage, stageClosed}
 use Rattle.paper.specs.Answers.{granted, refusal}
 use Rattle.paper.specs.declared.Answer.{Answer}
-use Rattle.sets.specs.Below.{some}
-use Rattle.orders.specs.Pass.{fitPass}
-use Rattle.orders.specs.Snapshots.{runL}
+use Rattle.general.specs.Below.{some}
+use Rattle.order_theory.specs.Pass.{fitPass}
+use Rattle.order_theory.specs.Snapshots.{runL}
 use Rattle.book.specs.Text.{snapOf}
 use Rattle.book.specs.Image.{stagesIn, marksIn, bookOf}
 use Rattle.book.specs.declared.Snapshot.{Snapshot}
-use Rattle.ordering.specs.Rules.{actsOf}
-use Rattle.ordering.specs.Nets.{rulesOf}
+use Rattle.rule_order.specs.Rules.{actsOf}
+use Rattle.rule_order.specs.Nets.{rulesOf}
 use Rattle.judge.specs.Checking.{bookAnswer}
 use Rattle.runner.specs.declared.Completion.{Completion}
 

@@ -12,16 +12,16 @@ use borrow.Author.Tests.{ne-eqb}
 use Rattle.paper.specs.Limits.{maxMarks}
 use Rattle.paper.specs.Answers.{granted}
 use Rattle.paper.specs.declared.Answer.{Answer}
-use Rattle.sets.specs.Cases.{coincide}
-use Rattle.orders.specs.Order.{Fit}
-use Rattle.orders.specs.Running.{runningOrder}
-use Rattle.orders.specs.Settle.{Calm, Settled, run, run-settled, settled-unique, confluence, toggle-once}
-use Rattle.orders.specs.Snapshots.{at-same, length-runL, at-runL}
+use Rattle.general.specs.Cases.{coincide}
+use Rattle.order_theory.specs.Order.{Fit}
+use Rattle.order_theory.specs.Running.{runningOrder}
+use Rattle.order_theory.specs.Settle.{Calm, Settled, run, run-settled, settled-unique, confluence, toggle-once}
+use Rattle.order_theory.specs.Snapshots.{at-same, length-runL, at-runL}
 use Rattle.book.specs.Text.{Snap, snapOf}
 use Rattle.book.specs.Image.{stagesIn, rulesIn, bookOf}
 use Rattle.book.specs.declared.Snapshot.{Snapshot}
-use Rattle.ordering.specs.Rules.{actsOf}
-use Rattle.ordering.specs.Nets.{rulesOf, targets-small}
+use Rattle.rule_order.specs.Rules.{actsOf}
+use Rattle.rule_order.specs.Nets.{rulesOf, targets-small}
 use Rattle.clashes.specs.Clash.{calm}
 use Rattle.judge.specs.Checking.{checking, checkedRoom, granted-room, marks-many, targets-in}
 use Rattle.runner.specs.Completing.{completionAnswer, through, completing}

@@ -1,7 +1,6 @@
 -- The root of the crate's specs.
 pub mod Completing
 pub mod Ordered
-pub mod Going
 pub mod Table
 pub mod Walks
 pub mod Completion

@@ -10,23 +10,23 @@ use borrow.Author.Tests.{eqb-true, eqb-false, eq-eqb, ne-eqb, lt-ltb, le-ltb, le
 use Rattle.paper.specs.Limits.{maxMarks, maxRules, loopFound, clash, orderUnfit, markAbove, noSuchStage, stageClosed}
 use Rattle.paper.specs.Answers.{answer, granted, refusal}
 use Rattle.paper.specs.declared.Answer.{Answer}
-use Rattle.sets.specs.Cases.{cases}
-use Rattle.sets.specs.Below.{some-of, some-none}
-use Rattle.orders.specs.Order.{Fit, NoLoop}
-use Rattle.orders.specs.Running.{fit-no-loop}
-use Rattle.orders.specs.Pass.{fitPass, fit-pass}
-use Rattle.orders.specs.Index.{fit-at}
+use Rattle.general.specs.Cases.{cases}
+use Rattle.general.specs.Below.{some-of, some-none}
+use Rattle.order_theory.specs.Order.{Fit, NoLoop}
+use Rattle.order_theory.specs.Running.{fit-no-loop}
+use Rattle.order_theory.specs.Pass.{fitPass, fit-pass}
+use Rattle.order_theory.specs.Index.{fit-at}
 use Rattle.book.specs.Text.{snapOf}
 use Rattle.book.specs.Image.{stagesIn, marksIn, rulesIn, bookOf}
 use Rattle.book.specs.Read.{rules-count}
 use Rattle.book.specs.Judging.{imageAnswer}
 use Rattle.book.specs.WellFormed.{WellFormed, well-granted}
 use Rattle.book.specs.declared.Snapshot.{Snapshot}
-use Rattle.ordering.specs.Nets.{rulesOf, count-is}
+use Rattle.rule_order.specs.Nets.{rulesOf, count-is}
 use Rattle.clashes.specs.Clash.{NoClash}
 use Rattle.clashes.specs.Pairs.{clashFirst, clashSecond, second-fits}
 use Rattle.loops.specs.Places.{loopPlace, loop-place}
-use Rattle.judge.specs.Checking.{rulesAnswer, bookAnswer, checking, Passed, passed-is, marks-many, targets}
+use Rattle.judge.specs.Checking.{rulesAnswer, bookAnswer, checking, CheckPasses, passed-is, marks-many, targets}
 use Rattle.runner.specs.Completing.{fitted, orderAnswer, anyFrom, snapshotAnswer, completionAnswer, through, completing}
 
 -- ---- the book and the order
@@ -55,7 +55,7 @@ fitted-refused a fits n = rw (ne-eqb (a .code) 0 n)
 
 module _ (s : List ℕ) where
   -- the check passes a book, given room
-  pub book-passes : bookAnswer s .code ≡ 0 → Passed s (rulesIn s)
+  pub book-passes : bookAnswer s .code ≡ 0 → CheckPasses s (rulesIn s)
   unfolding checking
   book-passes e = passed-is s (rulesIn s) (rw (eq-eqb (bookAnswer s .code) 0 e, le-ltb (rulesIn s) (rulesIn s) (omega arith)))
 

@@ -9,20 +9,20 @@ use borrow.Author.Tests.{eqb-true, eqb-false, eq-eqb, ne-eqb, lt-ltb, le-ltb, le
 use Rattle.paper.specs.Limits.{maxMarks, orderUnfit, markAbove, noSuchStage, stageClosed}
 use Rattle.paper.specs.Answers.{granted, refusal}
 use Rattle.paper.specs.declared.Answer.{Answer}
-use Rattle.sets.specs.Cases.{contra, cases, both, not-so}
-use Rattle.sets.specs.Below.{some-of, some-at, some-none}
-use Rattle.orders.specs.Order.{Fit}
-use Rattle.orders.specs.Pass.{fitPass, fit-pass}
+use Rattle.general.specs.Cases.{contra, cases, both, not-so}
+use Rattle.general.specs.Below.{some-of, some-at, some-none}
+use Rattle.order_theory.specs.Order.{Fit}
+use Rattle.order_theory.specs.Pass.{fitPass, fit-pass}
 use Rattle.book.specs.Text.{snapOf}
 use Rattle.book.specs.Image.{stagesIn, marksIn, rulesIn}
-use Rattle.ordering.specs.Nets.{rulesOf}
-use Rattle.judge.specs.Checking.{bookAnswer, checking, Checked, checked, checked-is, Passed, is-passed}
+use Rattle.rule_order.specs.Nets.{rulesOf}
+use Rattle.judge.specs.Checking.{bookAnswer, checking, Checked, checked, checked-is, CheckPasses, is-passed}
 use Rattle.runner.specs.Completing.{fitted, orderAnswer, anyFrom, snapshotAnswer, completionAnswer}
 use Rattle.runner.specs.Ordered.{book-passes, passes-book, fitted-granted, fitted-refused}
 
 -- the check passes the book, given room
 abbrev pub Passes : List ℕ → Type 0
-Passes s = Passed s (rulesIn s)
+Passes s = CheckPasses s (rulesIn s)
 
 -- the snapshot's marks belong to the book: none at or above M is yes
 abbrev pub Belongs : List ℕ → List Bool → Type 0

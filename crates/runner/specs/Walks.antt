@@ -5,12 +5,12 @@ use mathlib.Core.List.{List, [], _∷_}
 use Prim.Native.Nat.{ℕ, _+_}
 use native.Mathlib.Omega.{arith}
 use lib.Dec.{eqb}
-use Rattle.sets.specs.Cases.{cases, coincide}
-use Rattle.orders.specs.Settle.{run, step, changes, flips, flips-same, flips-differ}
+use Rattle.general.specs.Cases.{cases, coincide}
+use Rattle.order_theory.specs.Settle.{run, step, changes, flips, flips-same, flips-differ}
 use Rattle.book.specs.Text.{Snap}
 use Rattle.book.specs.Book.{Book, ruleOf}
 use Rattle.book.specs.Firing.{fires}
-use Rattle.ordering.specs.Rules.{netOf, actsOf}
+use Rattle.rule_order.specs.Rules.{netOf, actsOf}
 
 -- "A firing rule sets or clears its target."
 unfoldable pub altered : Book → Snap → ℕ → Snap

@@ -3,12 +3,12 @@ ghost use mathlib.Core.Path.{_≡_};
 ghost use mathlib.Core.Bool.{true};
 ghost use Prim.Native.Nat.{_≤_};
 ghost use Rattle.paper.specs.Limits.{maxEvents};
-ghost use Rattle.orders.specs.Order.{NoLoop};
-ghost use Rattle.orders.specs.Pass.{fitPass};
+ghost use Rattle.order_theory.specs.Order.{NoLoop};
+ghost use Rattle.order_theory.specs.Pass.{fitPass};
 ghost use Rattle.book.specs.Image.{rulesIn, marksIn, bookOf};
 ghost use Rattle.book.specs.WellFormed.{WellFormed};
-ghost use Rattle.ordering.specs.Nets.{rulesOf};
-ghost use Rattle.ordering.specs.References.{References};
+ghost use Rattle.rule_order.specs.Nets.{rulesOf};
+ghost use Rattle.rule_order.specs.References.{References};
 ghost use Rattle.loops.specs.Places.{loopPlace};
 ghost use Rattle.judge.specs.Checking.{rulesAnswer};
 ghost use Rattle.runner.specs.Completing.{fitted, orderAnswer, anyFrom, snapshotAnswer};
@@ -16,9 +16,6 @@ use book::header::counts_at;
 use clashes::first_clash;
 use judge::image::judge_image;
 use loops::loop_place;
-use ordering::fit::order_fits;
-use ordering::references::REFS;
-use ordering::references::references;
 use paper::Answer;
 use paper::CLASH;
 use paper::LOOP;
@@ -27,6 +24,9 @@ use paper::MAX_MARKS;
 use paper::NO_SUCH_STAGE;
 use paper::ORDER_UNFIT;
 use paper::STAGE_CLOSED;
+use rule_order::fit::order_fits;
+use rule_order::references::REFS;
+use rule_order::references::references;
 
 // The lowest mark targeted by a rule on a loop, or the number of marks. A fit order leaves no loop, so that the closure is made only for a refusal.
 fn loop_unless(book: &[u8], rules: usize, marks: usize, refs: &[u64; REFS], fits: bool) -> usize

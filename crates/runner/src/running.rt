@@ -3,7 +3,7 @@ ghost use mathlib.Core.Path.{_≡_};
 ghost use Prim.Native.Nat.{ℕ, _<_};
 ghost use lib.ListN.{length, getD};
 ghost use Rattle.book.specs.Image.{rulesIn};
-ghost use Rattle.book.specs.Using.{Opened};
+ghost use Rattle.book.specs.WellRead.{Opened};
 ghost use Rattle.runner.specs.Completing.{through};
 use book::Counts;
 use book::Snapshot;
@@ -11,7 +11,7 @@ use book::applying::alters;
 use book::applying::applied;
 use book::reader::rule_in;
 use firing::rule_fires;
-use ordering::fit::entry_of;
+use rule_order::fit::entry_of;
 
 // The snapshot after the turns. A rule whose target has its value already cannot alter it, so its condition is not evaluated; one that
 // fires goes through `applied`, whose one store is in place and which copies the 256 marks.

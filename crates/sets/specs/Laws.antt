@@ -13,8 +13,8 @@ use lib.Dec.{lit<, ltb, eqb, eqb·zero-suc, eqb·suc-zero, eqb·suc-suc}
 use borrow.Author.Tests.{eq-eqb, lt-ltb, le-ltb, ltb-true, ltb-false, eqb-true, eqb-false}
 use lib.Bits.{bitwise-step, bitAnd, bitOr, and-step, or-step, and-mask, or-shifted-r}
 use lib.Count.{trailingZeros, ones, ones-cat}
-use Rattle.sets.specs.Cases.{contra, not-so, cases, both, neither, same-test}
-use Rattle.sets.specs.Below.{tally}
+use Rattle.general.specs.Cases.{contra, not-so, cases, both, neither, same-test}
+use Rattle.general.specs.Below.{tally}
 use Rattle.sets.specs.Set.{isSet, allBelow, has, union, inter, minus, only, size, lowest, within, putIf, collect}
 
 two-pos : zero < 2

@@ -1,5 +1,5 @@
 // The two lines of a listing that stand once, written into lent room: the first, with the header's counts, and a refusal's.
-ghost use Rattle.derived.specs.Writing.{Wrote};
+ghost use Rattle.general.specs.Writing.{Wrote};
 ghost use Rattle.writing.specs.Writers.{Space};
 ghost use Rattle.single_lines.specs.Text.{countsLine, refusalLine};
 use book::Counts;

@@ -10,7 +10,7 @@ use Rattle.paper.specs.Limits.{bookHeader, ruleSize, conditionSize, wordSize, b
 use Rattle.paper.specs.Answers.{answer, granted, refusal}
 use Rattle.paper.specs.declared.Answer.{Answer}
 use Rattle.wire.specs.Wire.{u32At}
-use Rattle.book.specs.Good.{good}
+use Rattle.book.specs.GoodTexts.{good}
 use Rattle.book.specs.Image.{rulePlace, conditionPlace, wordPlace}
 use Rattle.book.specs.Read.{wordsFrom}
 use Rattle.book.specs.Judging.{countsOf, countsFit, layoutFits, conditionFits, firstBadRule, firstBadCondition, bodyAnswer, imageAnswer}

@@ -10,10 +10,10 @@ use lib.Seq.{getD-set-same, getD-set-other}
 use lib.Dec.{eqb}
 use borrow.Author.Tests.{eqb-true, ne-eqb}
 use Rattle.paper.specs.Limits.{maxMarks, maxStack, wordSize, andWord, orWord, notWord}
-use Rattle.sets.specs.Cases.{cases, both}
+use Rattle.general.specs.Cases.{cases, both}
 use Rattle.wire.specs.Wire.{u16At}
 use Rattle.book.specs.Text.{Snap, top1, top2, push, eval, top, holds}
-use Rattle.book.specs.Good.{follows, after, goodFrom, good, Legal, legal, follows-after}
+use Rattle.book.specs.GoodTexts.{follows, depthAfter, goodFrom, good, Legal, legal, follows-after}
 use Rattle.book.specs.Read.{wordsFrom, words-more, words-none, words-all}
 
 -- the first d values of an array as a stack, the last of them on top
@@ -88,7 +88,7 @@ module _ {w d : ℕ} (l : Legal maxMarks w d) where
 
 -- ---- the loop
 
--- after i words: the rest is good at this depth, and says of this stack what the whole says of none
+-- depthAfter i words: the rest is good at this depth, and says of this stack what the whole says of none
 pub record Going (s : List ℕ) (at n : ℕ) (snap : Snap) (vals : List Bool) (depth i : ℕ) : Type 0 where
   pub within : i ≤ n
   pub full : length vals ≡ maxStack
@@ -108,18 +108,18 @@ starts s at n snap v =
     }
 
 module _ (s : List ℕ) (at n : ℕ) (snap : Snap) (vals : List Bool) (depth i : ℕ) (g : Going s at n snap vals depth i) where
-  goes : i < n → (follows maxMarks (u16At s (at + wordSize * i)) depth ≡ true) × (goodFrom maxMarks (wordsFrom s (at + wordSize * (i + 1)) (n - (i + 1))) (after (u16At s (at + wordSize * i)) depth) ≡ true)
+  goes : i < n → (follows maxMarks (u16At s (at + wordSize * i)) depth ≡ true) × (goodFrom maxMarks (wordsFrom s (at + wordSize * (i + 1)) (n - (i + 1))) (depthAfter (u16At s (at + wordSize * i)) depth) ≡ true)
   unfolding goodFrom
   goes h = both (follows maxMarks (u16At s (at + wordSize * i)) depth) _ (rw (words-more s at n i h) at (g .good))
 
   pub legal-of : i < n → (w : ℕ) → w ≡ u16At s (at + wordSize * i) → Legal maxMarks w depth
   legal-of h w e = rw e (legal maxMarks (u16At s (at + wordSize * i)) depth (goes h .0))
 
-  pub goes-on : i < n → (w : ℕ) → w ≡ u16At s (at + wordSize * i) → (vals′ : List Bool) (depth′ : ℕ) → Became (push (snap w) w (stackOf vals depth)) (after w depth) vals′ depth′
+  pub goes-on : i < n → (w : ℕ) → w ≡ u16At s (at + wordSize * i) → (vals′ : List Bool) (depth′ : ℕ) → Became (push (snap w) w (stackOf vals depth)) (depthAfter w depth) vals′ depth′
       → Going s at n snap vals′ depth′ (i + 1)
   unfolding eval
   goes-on h w e vals′ depth′ b =
-      let d : depth′ ≡ after (u16At s (at + wordSize * i)) depth = b .deep ∙ ap (λ (x : ℕ). after x depth) e in
+      let d : depth′ ≡ depthAfter (u16At s (at + wordSize * i)) depth = b .deep ∙ ap (λ (x : ℕ). depthAfter x depth) e in
       let z : stackOf vals′ depth′ ≡ push (snap (u16At s (at + wordSize * i))) (u16At s (at + wordSize * i)) (stackOf vals depth) = b .values ∙ ap (λ (x : ℕ). push (snap x) x (stackOf vals depth)) e in
       record {
         within = omega arith;

@@ -5,7 +5,7 @@ ghost use Prim.Native.Nat.{_+_, _*_, _≤_};
 ghost use lib.ListN.{length};
 ghost use Rattle.paper.specs.Limits.{maxMarks, wordSize};
 ghost use Rattle.book.specs.Text.{holds, snapOf};
-ghost use Rattle.book.specs.Good.{good};
+ghost use Rattle.book.specs.GoodTexts.{good};
 ghost use Rattle.book.specs.Read.{wordsFrom};
 use paper::MAX_MARKS;
 use paper::MAX_STACK;

@@ -7,7 +7,7 @@ ghost use Rattle.book.specs.Book.{textOf};
 ghost use Rattle.book.specs.Image.{conditionsIn, bookOf};
 ghost use Rattle.book.specs.Read.{wordsFrom};
 ghost use Rattle.book.specs.Marks.{marksOf};
-ghost use Rattle.book.specs.Using.{Opened};
+ghost use Rattle.book.specs.WellRead.{Opened};
 use book::Counts;
 use book::header::words_from;
 use book::reader::condition_in;

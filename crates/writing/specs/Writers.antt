@@ -9,10 +9,10 @@ use lib.Dec.{ltb}
 use lib.ListN.{length, set, getD, drop}
 use lib.Seq.{sets, length-sets, drop-cons, drop-length}
 use borrow.Author.Tests.{lt-ltb, le-ltb, ltb-false}
-use Rattle.sets.specs.Cases.{cases}
-use Rattle.book.specs.Lists.{flat, packed}
-use Rattle.derived.specs.Writing.{Fits, Wrote, then, fits-first, fits-then}
-use Rattle.derived.specs.Loops.{Upto, upto-start, upto-length, upto-fits, upto-more, upto-done}
+use Rattle.general.specs.Cases.{cases}
+use Rattle.general.specs.Lists.{flat, packed}
+use Rattle.general.specs.Writing.{Fits, Wrote, then, fits-first, fits-then}
+use Rattle.derived.specs.WritingLoops.{Upto, upto-start, upto-length, upto-fits, upto-more, upto-done}
 use Rattle.writing.specs.Text.{digit, decimalIn, decimal}
 
 -- there is space for the text behind the place at

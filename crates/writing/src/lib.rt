@@ -2,7 +2,7 @@
 ghost use mathlib.Core.List.{[], _∷_, _++_};
 ghost use Prim.Native.Nat.{_<_};
 ghost use lib.ListN.{length};
-ghost use Rattle.derived.specs.Writing.{Wrote};
+ghost use Rattle.general.specs.Writing.{Wrote};
 ghost use Rattle.writing.specs.Text.{decimal};
 ghost use Rattle.writing.specs.Writers.{Space};
 

@@ -1,5 +1,5 @@
 -- `chart::flat_chart` meets its contract. Assumes nothing.
-use Rattle.flattening.specs.Cells.{chartOf}
+use Rattle.flattening.specs.Cells.{chartFrom}
 use borrow.Author.Needs.{needs}
 use Rattle.chart.proofs.flat_chart.Statement.{statement}
 use Rattle.chart.proofs.flat_chart.Tie as tie
@@ -14,4 +14,4 @@ flat-chart-spec =
     (λ c κs. search needs)
     (λ c κs. search needs)
     (λ c κs. search needs)
-    (λ c. unfold chartOf in cc))
+    (λ c. unfold chartFrom in cc))

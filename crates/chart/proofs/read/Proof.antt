@@ -1,5 +1,5 @@
 -- `chart::read` meets its contract. Assumes nothing.
-use Rattle.chart.specs.Returns.{counts-are, whole-is, read-short, read-range, read-misplaced, read-on}
+use Rattle.chart.proofs.Returns.{counts-are, whole-is, read-short, read-range, read-misplaced, read-on}
 use borrow.Author.Needs.{needs}
 use Rattle.chart.proofs.read.Statement.{statement}
 use Rattle.chart.proofs.read.Tie as tie

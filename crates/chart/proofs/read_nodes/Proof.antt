@@ -1,7 +1,7 @@
 -- `chart::read_nodes` meets its contract. Assumes nothing.
-use Rattle.chart.specs.Returns.{nodes-bad, nodes-loop, nodes-flags, nodes-many, nodes-on, ground-is}
+use Rattle.chart.proofs.Returns.{nodes-bad, nodes-loop, nodes-flags, nodes-many, nodes-on, ground-is}
 use native.Mathlib.Omega.{arith}
-use Rattle.sets.specs.Below.{tally-le}
+use Rattle.general.specs.Below.{tally-le}
 use Rattle.nesting.specs.Tables.{isEventIn}
 use borrow.Author.Needs.{needs}
 use Rattle.chart.proofs.read_nodes.Statement.{statement}

@@ -1,6 +1,6 @@
 -- `chart::read_relations` meets its contract. Assumes nothing.
 use Rattle.flattening.specs.Meaning.{room-for, flags-in}
-use Rattle.chart.specs.Returns.{relations-bad, relations-conflict, relations-on}
+use Rattle.chart.proofs.Returns.{relations-bad, relations-conflict, relations-on}
 use borrow.Author.Needs.{needs}
 use Rattle.chart.proofs.read_relations.Statement.{statement}
 use Rattle.chart.proofs.read_relations.Tie as tie

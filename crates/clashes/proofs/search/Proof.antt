@@ -1,7 +1,7 @@
 -- `clashes::search` meets its contract: rules below p clash with no later one, and p with none below q. Assumes nothing.
 use Prim.Native.Nat.{_-_}
 use Rattle.book.specs.Image.{bookOf}
-use Rattle.book.specs.Using.{rule-inside}
+use Rattle.book.specs.WellRead.{rule-inside}
 use Rattle.book.specs.Read.{rules-count}
 use Rattle.clashes.proofs.Bytes.{apart-read}
 use Rattle.clashes.proofs.Links.{Searched, Seeking, search-start, seek-start, seek-on, seek-rises, seek-found, seek-end, search-end}

@@ -1,7 +1,7 @@
 -- `condition_lines::words_text` meets its contract. Assumes nothing.
 use Prim.Native.Nat.{_-_}
 use borrow.Author.Needs.{needs}
-use Rattle.derived.specs.Loops.{Upto, upto-start, upto-length}
+use Rattle.derived.specs.WritingLoops.{Upto, upto-start, upto-length}
 use Rattle.condition_lines.specs.Text.{wordText}
 use Rattle.condition_lines.specs.Writers.{wordIn, words-done, word-fits, word-more}
 use Rattle.condition_lines.proofs.words_text.Statement.{statement}

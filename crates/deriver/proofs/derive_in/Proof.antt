@@ -1,6 +1,6 @@
 -- `deriver::derive_in` meets its contract. Assumes nothing.
 use Rattle.deriver.specs.Deriving.{found-fit, derive-unfit, derive-short, derive-ready, derive-done}
-use Rattle.derived.specs.Tables.{completions-in, texts-in}
+use Rattle.derived.specs.Parts.{completions-in, texts-in}
 use borrow.Author.Needs.{needs}
 use native.Mathlib.Omega.{arith}
 use Rattle.deriver.proofs.derive_in.Statement.{statement}

@@ -1,5 +1,5 @@
 -- `firing::condition_holds` meets its contract. Assumes nothing.
-use Rattle.book.specs.Using.{span-inside, span-asks, span-value}
+use Rattle.book.specs.WellRead.{span-inside, span-asks, span-value}
 use borrow.Author.Needs.{needs}
 use Rattle.firing.proofs.condition_holds.Statement.{statement}
 use Rattle.firing.proofs.condition_holds.Tie as tie

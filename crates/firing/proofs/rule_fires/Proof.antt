@@ -1,6 +1,6 @@
 -- `firing::rule_fires` meets its contract. Assumes nothing.
 use Rattle.firing.proofs.Fires.{firing-untriggered, firing-triggered}
-use Rattle.book.specs.Using.{known-wider}
+use Rattle.book.specs.WellRead.{known-wider}
 use borrow.Author.Needs.{needs}
 use Rattle.firing.proofs.rule_fires.Statement.{statement}
 use Rattle.firing.proofs.rule_fires.Tie as tie

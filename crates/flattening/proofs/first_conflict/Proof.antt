@@ -1,7 +1,7 @@
 -- `flattening::first_conflict` meets its contract. Assumes nothing.
 use Prim.Native.Nat.{_-_}
 use Rattle.flattening.specs.Cells.{conflictIn, conflict-none, conflict-found}
-use Rattle.records.specs.Scan.{Passed, passed-none, passed-end}
+use Rattle.general.specs.Scan.{Passed, passed-none, passed-end}
 use borrow.Author.Needs.{needs}
 use Rattle.flattening.proofs.first_conflict.Statement.{statement}
 use Rattle.flattening.proofs.first_conflict.Tie as tie

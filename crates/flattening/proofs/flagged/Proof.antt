@@ -1,6 +1,6 @@
 -- `flattening::flagged` meets its contract. Assumes nothing.
 use Prim.Native.Nat.{_≤_, _-_}
-use Rattle.records.specs.Scan.{collect-none, collect-end}
+use Rattle.sets.specs.Collecting.{collect-none, collect-end}
 use borrow.Author.Needs.{needs}
 use Rattle.flattening.specs.Cells.{flaggedBy, flag-more}
 use mathlib.Core.Path.{_≡_}

@@ -1,6 +1,6 @@
 -- `listing::book_text` meets its contract. Assumes nothing.
 use borrow.Author.Needs.{needs}
-use Rattle.listing.specs.Lines.{book-fits-1, book-fits-2, book-fits-3, book-wrote}
+use Rattle.listing.proofs.Lines.{book-fits-1, book-fits-2, book-fits-3, book-wrote}
 use Rattle.listing.proofs.book_text.Statement.{statement}
 use Rattle.listing.proofs.book_text.Tie as tie
 

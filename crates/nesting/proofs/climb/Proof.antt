@@ -1,5 +1,5 @@
 -- `nesting::climb` meets its contract: each turn leaves one node fewer without a stamp. Assumes nothing.
-use Rattle.sets.specs.Below.{tally}
+use Rattle.general.specs.Below.{tally}
 use Rattle.nesting.specs.Climbing.{Climb, blank, climb-none, climb-more, climb-less, climb-met, climb-end}
 use borrow.Author.Needs.{needs}
 use Rattle.nesting.proofs.climb.Statement.{statement}

@@ -1,8 +1,8 @@
 -- `nesting::count_events` meets its contract. Assumes nothing.
 use Prim.Native.Nat.{_≤_, _-_}
-use Rattle.nesting.specs.Numbering.{tally-none, tally-more, tally-end, byte-le}
+use Rattle.general.specs.Numbering.{tally-none, tally-more, tally-end, byte-le}
 use Rattle.nesting.specs.Tables.{isEventIn}
-use Rattle.sets.specs.Below.{tally-le, tally}
+use Rattle.general.specs.Below.{tally-le, tally}
 use denote.Ref.{now}
 use borrow.Author.Needs.{needs}
 use mathlib.Core.Path.{_≡_}

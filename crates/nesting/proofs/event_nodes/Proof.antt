@@ -2,9 +2,9 @@
 use denote.Ref.{now}
 use native.Mathlib.Omega.{arith}
 use Prim.Native.Nat.{_≤_, _-_}
-use Rattle.nesting.specs.Numbering.{tally-none, tally-more, byte-le}
+use Rattle.general.specs.Numbering.{tally-none, tally-more, byte-le}
 use Rattle.nesting.specs.Tables.{isEventIn, EventNodes, numbered-none, numbered-more, number-fits, numbered-end}
-use Rattle.sets.specs.Below.{tally-le, tally}
+use Rattle.general.specs.Below.{tally-le, tally}
 use borrow.Author.Needs.{needs}
 use mathlib.Core.Path.{_≡_}
 use Rattle.nesting.proofs.event_nodes.Statement.{statement}

@@ -1,6 +1,6 @@
 -- `nesting::first_flagged_group` meets its contract. Assumes nothing.
 use Prim.Native.Nat.{_-_}
-use Rattle.records.specs.Scan.{Passed, passed-none, passed-more, passed-found, passed-end}
+use Rattle.general.specs.Scan.{Passed, passed-none, passed-more, passed-found, passed-end}
 use Rattle.nesting.specs.Tables.{flaggedIn}
 use borrow.Author.Needs.{needs}
 use Rattle.nesting.proofs.first_flagged_group.Statement.{statement}

@@ -1,7 +1,7 @@
 -- `records::first_bad_node` meets its contract. Assumes nothing.
 use Prim.Native.Nat.{_-_}
 use Rattle.records.specs.Image.{badNodeAt}
-use Rattle.records.specs.Scan.{Passed, passed-none, passed-more, passed-found, passed-end}
+use Rattle.general.specs.Scan.{Passed, passed-none, passed-more, passed-found, passed-end}
 use borrow.Author.Needs.{needs}
 use Rattle.records.proofs.first_bad_node.Statement.{statement}
 use Rattle.records.proofs.first_bad_node.Tie as tie

@@ -1,9 +1,9 @@
 -- `rule_writer::completions_size` meets its contract. Assumes nothing.
 use Prim.Native.Nat.{_≤_, _+_, _-_, _*_}
 use Rattle.paper.specs.Limits.{maxEvents}
-use Rattle.book.specs.Lists.{total}
+use Rattle.general.specs.Lists.{total}
 use Rattle.derived.specs.Sizes.{completionsSize}
-use Rattle.derived.specs.Written.{completion-small, completions-more, completions-all}
+use Rattle.derived.specs.RuleBytes.{completion-small, completions-more, completions-all}
 use borrow.Author.Needs.{needs}
 use mathlib.Core.Path.{_≡_}
 use native.Mathlib.Omega.{arith}

@@ -1,5 +1,5 @@
 -- `rule_writer::put_answer` meets its contract. Assumes nothing.
-use Rattle.derived.specs.Written.{answer-none, answer-fits, answer-wrote}
+use Rattle.derived.specs.RuleBytes.{answer-none, answer-fits, answer-wrote}
 use borrow.Author.Needs.{needs}
 use native.Mathlib.Omega.{arith}
 use Rattle.rule_writer.proofs.put_answer.Statement.{statement}

@@ -1,5 +1,5 @@
 -- `rule_writer::put_completion` meets its contract. Assumes nothing.
-use Rattle.derived.specs.Written.{completion-fits-1, completion-fits-2, completion-fits-3, completion-fits-4, completion-wrote}
+use Rattle.derived.specs.RuleBytes.{completion-fits-1, completion-fits-2, completion-fits-3, completion-fits-4, completion-wrote}
 use borrow.Author.Needs.{needs}
 use native.Mathlib.Omega.{arith}
 use Rattle.rule_writer.proofs.put_completion.Statement.{statement}

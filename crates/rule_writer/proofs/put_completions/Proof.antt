@@ -1,8 +1,8 @@
 -- `rule_writer::put_completions` meets its contract. Assumes nothing.
 use Prim.Native.Nat.{_-_}
 use Rattle.book.specs.ImageOf.{ruleBytes}
-use Rattle.derived.specs.Loops.{Upto, upto-start, upto-fits, upto-length, upto-more, upto-done}
-use Rattle.derived.specs.Tables.{completionAt}
+use Rattle.derived.specs.WritingLoops.{Upto, upto-start, upto-fits, upto-length, upto-more, upto-done}
+use Rattle.derived.specs.Parts.{completionAt}
 use borrow.Author.Needs.{needs}
 use Rattle.rule_writer.proofs.put_completions.Statement.{statement}
 use Rattle.rule_writer.proofs.put_completions.Tie as tie

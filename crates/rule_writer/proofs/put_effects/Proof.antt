@@ -1,8 +1,8 @@
 -- `rule_writer::put_effects` meets its contract. The loop takes the lowest member out of the set; what the rest of the set gives is left to write. Assumes nothing.
 use Rattle.book.specs.ImageOf.{ruleBytes}
-use Rattle.derived.specs.Loops.{Turn, turn-start, turn-length, turn-done, turn-lt, turn-fits, turn-falls, turn-more}
+use Rattle.derived.specs.WritingLoops.{Turn, turn-start, turn-length, turn-done, turn-lt, turn-fits, turn-falls, turn-more}
 use Rattle.derived.specs.Sizes.{effect}
-use Rattle.derived.specs.Written.{effect-fits, effect-wrote}
+use Rattle.derived.specs.RuleBytes.{effect-fits, effect-wrote}
 use borrow.Author.Needs.{needs}
 use native.Mathlib.Omega.{arith}
 use Rattle.rule_writer.proofs.put_effects.Statement.{statement}

@@ -1,5 +1,5 @@
 -- `rule_writer::put_on` meets its contract. Assumes nothing.
-use Rattle.derived.specs.Written.{on-wrote}
+use Rattle.derived.specs.RuleBytes.{on-wrote}
 use borrow.Author.Needs.{needs}
 use Rattle.rule_writer.proofs.put_on.Statement.{statement}
 use Rattle.rule_writer.proofs.put_on.Tie as tie

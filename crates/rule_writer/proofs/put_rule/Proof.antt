@@ -1,5 +1,5 @@
 -- `rule_writer::put_rule` meets its contract. Assumes nothing.
-use Rattle.derived.specs.Written.{rule-wrote}
+use Rattle.derived.specs.RuleBytes.{rule-wrote}
 use Rattle.wire.specs.Laws.{put16-length}
 use borrow.Author.Needs.{needs}
 use lib.ListN.{length, length-set}

@@ -1,5 +1,5 @@
 -- `rule_writer::put_stage` meets its contract. Assumes nothing.
-use Rattle.derived.specs.Written.{stage-second, stage-wrote}
+use Rattle.derived.specs.RuleBytes.{stage-second, stage-wrote}
 use borrow.Author.Needs.{needs}
 use Rattle.rule_writer.proofs.put_stage.Statement.{statement}
 use Rattle.rule_writer.proofs.put_stage.Tie as tie

@@ -2,8 +2,8 @@
 use Prim.Native.Nat.{_-_}
 use Rattle.book.specs.ImageOf.{ruleBytes}
 use Rattle.derived.specs.Derived.{stageRules}
-use Rattle.derived.specs.Loops.{Upto, upto-start, upto-fits, upto-length, upto-more, upto-done}
-use Rattle.derived.specs.Written.{stage-fits}
+use Rattle.derived.specs.WritingLoops.{Upto, upto-start, upto-fits, upto-length, upto-more, upto-done}
+use Rattle.derived.specs.RuleBytes.{stage-fits}
 use borrow.Author.Needs.{needs}
 use native.Mathlib.Omega.{arith}
 use Rattle.rule_writer.proofs.put_stages.Statement.{statement}

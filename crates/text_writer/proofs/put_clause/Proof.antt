@@ -1,5 +1,5 @@
 -- `text_writer::put_clause` meets its contract. Assumes nothing.
-use Rattle.derived.specs.Written.{clause-wrote}
+use Rattle.derived.specs.RuleBytes.{clause-wrote}
 use borrow.Author.Needs.{needs}
 use Rattle.text_writer.proofs.put_clause.Statement.{statement}
 use Rattle.text_writer.proofs.put_clause.Tie as tie

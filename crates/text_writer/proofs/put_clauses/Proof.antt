@@ -1,7 +1,7 @@
 -- `text_writer::put_clauses` meets its contract. The loop takes the lowest member out of the set; what the rest of the set gives is left to write. Assumes nothing.
-use Rattle.derived.specs.Loops.{Turn, turn-start, turn-length, turn-done, turn-lt, turn-fits, turn-falls, turn-more}
-use Rattle.derived.specs.Tables.{clauseFrom}
-use Rattle.derived.specs.Written.{clause-fits, clause-from}
+use Rattle.derived.specs.WritingLoops.{Turn, turn-start, turn-length, turn-done, turn-lt, turn-fits, turn-falls, turn-more}
+use Rattle.derived.specs.Parts.{clauseFrom}
+use Rattle.derived.specs.RuleBytes.{clause-fits, clause-from}
 use Rattle.wire.specs.Wire.{bytes16}
 use borrow.Author.Needs.{needs}
 use native.Mathlib.Omega.{arith}

@@ -1,5 +1,5 @@
 -- `text_writer::put_condition` meets its contract. Assumes nothing.
-use Rattle.derived.specs.Written.{condition-wrote}
+use Rattle.derived.specs.RuleBytes.{condition-wrote}
 use borrow.Author.Needs.{needs}
 use Rattle.text_writer.proofs.put_condition.Statement.{statement}
 use Rattle.text_writer.proofs.put_condition.Tie as tie

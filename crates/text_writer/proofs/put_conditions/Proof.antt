@@ -2,11 +2,11 @@
 use Prim.Native.Nat.{_+_, _-_, _*_, _≤_}
 use Rattle.paper.specs.Limits.{maxEvents}
 use Rattle.book.specs.ImageOf.{conditionBytes}
-use Rattle.book.specs.Lists.{total}
-use Rattle.derived.specs.Loops.{Upto, upto-start, upto-fits, upto-length, upto-more, upto-done}
+use Rattle.general.specs.Lists.{total}
+use Rattle.derived.specs.WritingLoops.{Upto, upto-start, upto-fits, upto-length, upto-more, upto-done}
 use Rattle.derived.specs.Sizes.{textsSize}
-use Rattle.derived.specs.Tables.{conditionPart}
-use Rattle.derived.specs.Written.{text-small, texts-more, part-fits, part-wrote}
+use Rattle.derived.specs.Parts.{conditionPart}
+use Rattle.derived.specs.RuleBytes.{text-small, texts-more, part-fits, part-wrote}
 use borrow.Author.Needs.{needs}
 use mathlib.Core.Path.{_≡_}
 use native.Mathlib.Omega.{arith}

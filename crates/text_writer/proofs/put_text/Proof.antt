@@ -1,5 +1,5 @@
 -- `text_writer::put_text` meets its contract. Assumes nothing.
-use Rattle.derived.specs.Written.{text-fits-1, text-fits-2, text-fits-3, text-wrote}
+use Rattle.derived.specs.RuleBytes.{text-fits-1, text-fits-2, text-fits-3, text-wrote}
 use borrow.Author.Needs.{needs}
 use native.Mathlib.Omega.{arith}
 use Rattle.text_writer.proofs.put_text.Statement.{statement}

@@ -1,7 +1,7 @@
 -- `text_writer::put_texts` meets its contract. Assumes nothing.
 use Prim.Native.Nat.{_-_}
-use Rattle.derived.specs.Loops.{Upto, upto-start, upto-fits, upto-length, upto-more, upto-done}
-use Rattle.derived.specs.Tables.{textAt}
+use Rattle.derived.specs.WritingLoops.{Upto, upto-start, upto-fits, upto-length, upto-more, upto-done}
+use Rattle.derived.specs.Parts.{textAt}
 use Rattle.wire.specs.Wire.{bytes16}
 use borrow.Author.Needs.{needs}
 use Rattle.text_writer.proofs.put_texts.Statement.{statement}

@@ -1,9 +1,9 @@
 -- `text_writer::texts_size` meets its contract. Assumes nothing.
 use Prim.Native.Nat.{_≤_, _+_, _-_, _*_}
 use Rattle.paper.specs.Limits.{maxEvents}
-use Rattle.book.specs.Lists.{total}
+use Rattle.general.specs.Lists.{total}
 use Rattle.derived.specs.Sizes.{textsSize}
-use Rattle.derived.specs.Written.{text-small, texts-more, texts-all}
+use Rattle.derived.specs.RuleBytes.{text-small, texts-more, texts-all}
 use borrow.Author.Needs.{needs}
 use mathlib.Core.Path.{_≡_}
 use native.Mathlib.Omega.{arith}

@@ -1,6 +1,6 @@
 -- `writing::named` meets its contract. Assumes nothing.
 use borrow.Author.Needs.{needs}
-use Rattle.derived.specs.Writing.{then}
+use Rattle.general.specs.Writing.{then}
 use Rattle.writing.specs.Writers.{fits₁, last₂}
 use Rattle.writing.proofs.named.Statement.{statement}
 use Rattle.writing.proofs.named.Tie as tie

@@ -1,6 +1,6 @@
 -- `deriver::marks::put_marks` meets its contract. The loop keeps that the marks of the events passed are written. Assumes nothing.
 use Prim.Native.Nat.{_-_, _≤_}
-use Rattle.book.specs.Lists.{flat, each}
+use Rattle.general.specs.Lists.{flat, each}
 use Rattle.deriver.specs.Matching.{marks-more, marks-all}
 use Rattle.sets.specs.Set.{has}
 use borrow.Author.Needs.{needs}

@@ -1,5 +1,5 @@
 -- `runner::judging::judge_rules` meets its contract. Assumes nothing.
-use Rattle.ordering.specs.Nets.{rules-few}
+use Rattle.rule_order.specs.Nets.{rules-few}
 use Rattle.runner.specs.Ordered.{fit-acyclic, second-small, looped-answer, clashed-answer, fit-answer, unfit-answer}
 use borrow.Author.Needs.{needs}
 use native.Mathlib.Omega.{arith}

@@ -1,10 +1,10 @@
 -- `runner::running::go_through` meets its contract. Assumes nothing.
 use Rattle.book.specs.declared.Snapshot.{Snapshot}
 use mathlib.Core.Path.{refl, ap, _∙_}
-use Rattle.book.specs.Using.{rule-inside}
+use Rattle.book.specs.WellRead.{rule-inside}
 use mathlib.Core.Logic.{⊎-elim}
 use Prim.Native.Nat.{_-_}
-use Rattle.runner.specs.Going.{Going, entry-below, known-so, target-so, going-last, going-fired, going-kept, going-idle}
+use Rattle.runner.proofs.Turns.{Going, entry-below, known-so, target-so, going-last, going-fired, going-kept, going-idle}
 use borrow.Author.Needs.{needs}
 use lib.ListN.{length}
 use Rattle.runner.proofs.running.go_through.Statement.{statement}

@@ -7,7 +7,7 @@ use native.Mathlib.Omega.{arith}
 use borrow.Author.Needs.{needs}
 use Rattle.paper.specs.Limits.{maxMarks, notWord}
 use Rattle.book.specs.Text.{snapOf, push}
-use Rattle.book.specs.Good.{Legal, after}
+use Rattle.book.specs.GoodTexts.{Legal, depthAfter}
 use Rattle.texts.proofs.Stacks.{stackOf, Became, two-became, one-became, put-became, became-at, no-operator, room-of, not-of, Going, starts, legal-of, goes-on, ends}
 use Rattle.texts.proofs.eval.text_holds.Statement.{statement}
 use Rattle.texts.proofs.eval.text_holds.Tie as tie
@@ -29,8 +29,8 @@ last c = not-of (here (c .before .before)) (c .before .if1 .left) (c .match .res
 -- what a turn makes of the stack, by the arm that it took
 turn : (c : tie.Joined1 Inv-loop μ-loop)
     → Became (push (snapOf (c .before .before .before .before .before .args .marks .now) (c .before .u16-at .result)) (c .before .u16-at .result) (stackOf (c .before .before .before .loop .values) (c .before .before .before .loop .depth)))
-    (after (c .before .u16-at .result) (c .before .before .before .loop .depth)) (c .if1 .values) (c .if1 .depth)
-unfolding push after
+    (depthAfter (c .before .u16-at .result) (c .before .before .before .loop .depth)) (c .if1 .values) (c .if1 .depth)
+unfolding push depthAfter
 turn c =
     let g = c .before .before .before .loop .inv in
     let l = here (c .before) in

@@ -1,6 +1,6 @@
 -- `texts::references::condition_marks` meets its contract. Assumes nothing.
 use Rattle.book.specs.Marks.{marksOf}
-use Rattle.book.specs.Using.{span-inside, span-asks, span-text}
+use Rattle.book.specs.WellRead.{span-inside, span-asks, span-text}
 use borrow.Author.Needs.{needs}
 use mathlib.Core.Path.{ap, _∙_}
 use Rattle.texts.proofs.references.condition_marks.Statement.{statement}

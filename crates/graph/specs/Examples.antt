@@ -1,0 +1,36 @@
+-- The settled examples P4, P5 and P6, computed. Assumes nothing.
+use Prim.Native.Nat.{ℕ}
+use mathlib.Core.Path.{_≡_, refl}
+use mathlib.Core.List.{List}
+use lib.ListN.{set, replicate}
+use lib.Count.{trailingZeros}
+use Rattle.paper.specs.Limits.{maxEvents}
+use Rattle.sets.specs.Set.{has}
+use Rattle.graph.specs.Roles.{permits}
+use Rattle.graph.specs.Tests.{rowSpill, spillAt, spillOf, rolesFrom, fitTables, fitChart, fitMarking, fit}
+use Rattle.graph.specs.Steps.{unmetOf, awaitedOf, afterWith, granting, stepping, steppingBy, executing}
+use Rattle.graph.specs.declared.FlatChart.{FlatChart}
+use Rattle.graph.specs.declared.Marking.{Marking}
+
+abbrev pub none : List ℕ
+none = replicate maxEvents 0
+
+abbrev pub marking : ℕ → ℕ → ℕ → Marking
+marking executed pending included = record { executed = executed; pending = pending; included = included }
+
+-- two events, with these conditions, responses and milestones, and nothing included or excluded
+abbrev pub pair : List ℕ → List ℕ → List ℕ → FlatChart
+pair conditions responses milestones =
+    record { count = 2; conditions = conditions; responses = responses; milestones = milestones; includes = none; excludes = none; roles = none }
+
+pub record Examples : Type 0 where
+  -- P4: an event that is its own response is pending after it ran
+  pub p4 : executing (pair none (set none 0 1) none) (marking 0 0 1) 0 0 ≡ granting (marking 1 1 1)
+  -- P5: an excluded, unexecuted condition doesn't block
+  pub p5 : executing (pair (set none 1 1) none none) (marking 0 0 2) 1 0 ≡ granting (marking 2 0 2)
+  -- P6: nor an excluded pending milestone
+  pub p6 : executing (pair none none (set none 1 1)) (marking 0 1 2) 1 0 ≡ granting (marking 2 1 2)
+
+pub examples : Examples
+unfolding executing steppingBy stepping permits fit fitChart fitMarking fitTables rolesFrom spillOf spillAt rowSpill has unmetOf awaitedOf afterWith trailingZeros
+examples = record { p4 = refl; p5 = refl; p6 = refl }

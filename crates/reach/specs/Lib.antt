@@ -1,4 +1,0 @@
--- The root of the crate's specs.
-pub mod Closure
-pub mod Rows
-pub mod Bits

@@ -1,0 +1,14 @@
+-- `rule_order::ready::is_ready` meets its contract. Assumes nothing.
+use Rattle.rule_order.specs.Ready.{ready-written, ready-untouched}
+use borrow.Author.Needs.{needs}
+use Rattle.rule_order.proofs.ready.is_ready.Statement.{statement}
+use Rattle.rule_order.proofs.ready.is_ready.Tie as tie
+
+pub is-ready-spec : {M : Type 1} → statement M
+is-ready-spec =
+    tie.close
+    (tie.spec
+    (λ c. search needs)
+    (λ c. search ready-written)
+    (λ c κs. search needs)
+    (λ c. search ready-untouched))

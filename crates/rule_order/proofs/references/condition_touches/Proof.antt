@@ -1,0 +1,20 @@
+-- `rule_order::references::condition_touches` meets its contract. Assumes nothing.
+use Rattle.rule_order.specs.References.{reads-none, asked-row, reads-row}
+use borrow.Author.Needs.{needs}
+use Rattle.rule_order.proofs.references.condition_touches.Statement.{statement}
+use Rattle.rule_order.proofs.references.condition_touches.Tie as tie
+
+pub condition-touches-spec : {M : Type 1} → statement M
+condition-touches-spec =
+    tie.close
+    (tie.spec
+    (λ c. search needs)
+    (λ c. search needs)
+    (λ c. search needs)
+    (λ c. search needs)
+    (λ c. search reads-none)
+    (λ c. search needs)
+    (λ c κs. search needs)
+    (λ c. search needs)
+    (λ c κs. search asked-row)
+    (λ c. search reads-row))

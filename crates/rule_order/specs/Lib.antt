@@ -1,0 +1,7 @@
+-- The root of the crate's specs.
+pub mod Rules
+pub mod References
+pub mod Nets
+pub mod Counters
+pub mod Ready
+pub mod Scanning

@@ -1,0 +1,63 @@
+-- A rule is ready exactly if it is unwritten and refers to no mark that still waits. Assumes nothing.
+use mathlib.Core.Path.{_≡_, refl, sym, ap, _∙_, fun-ext}
+use mathlib.Core.Bool.{Bool, true, false, not, _&&_, _||_}
+use mathlib.Core.List.{List, []}
+use Prim.Native.Nat.{ℕ, zero, suc, _<_}
+use lib.Dec.{eqb}
+use lib.ListN.{length, getD, set, replicate}
+use lib.Seq.{getD-set-same, getD-set-other}
+use borrow.Author.Tests.{eqb-true, eqb-false, not-true}
+use Rattle.paper.specs.Limits.{maxMarks}
+use Rattle.general.specs.Cases.{cases, contra, same-test}
+use Rattle.general.specs.Below.{every, every-at, every-of, some, some-none, some-of}
+use Rattle.book.specs.Image.{bookOf}
+use Rattle.book.specs.Marks.{hasMark}
+use Rattle.book.specs.WellFormed.{WellFormed}
+use Rattle.book.specs.Firing.{refers}
+use Rattle.order_theory.specs.Order.{Net}
+use Rattle.order_theory.specs.Written.{Written, none, write}
+use Rattle.order_theory.specs.Running.{ready}
+use Rattle.order_theory.specs.Marks.{isSettled, ready-marks}
+use Rattle.rule_order.specs.Rules.{netOf}
+use Rattle.rule_order.specs.Nets.{rulesOf, targets-small}
+use Rattle.rule_order.specs.References.{touches}
+
+-- which rules a list of flags says are written
+abbrev pub flagged : List Bool → Written
+flagged l q = getD l q false
+
+pub flagged-set : (l : List Bool) (r : ℕ) → r < length l → flagged (set l r true) ≡ write (flagged l) r
+flagged-set l r h =
+    fun-ext (λ q. cases (eqb q r) (λ e. rw (e, eqb-true q r e) (getD-set-same l r true false h)) (λ e. rw e (getD-set-other l r q true false (eqb-false q r e))))
+
+none-at : (n q : ℕ) → getD (replicate n false) q false ≡ false
+none-at zero q = refl
+none-at (suc n) zero = refl
+none-at (suc n) (suc q) = none-at n q
+
+pub flagged-none : (n : ℕ) → flagged (replicate n false) ≡ none
+flagged-none n = fun-ext (λ q. none-at n q)
+
+-- the set has each mark that is not isSettled, and no other
+abbrev pub Waits : Net → Written → List ℕ → Type 0
+Waits N d waits = (m : ℕ) → m < maxMarks → hasMark waits m ≡ not (isSettled N d m)
+
+none-some : (k : ℕ) (f g : ℕ → Bool) → ((p : ℕ) → p < k → f p ≡ not (g p)) → every k f ≡ not (some k g)
+none-some k f g h =
+    same-test (every k f) (not (some k g))
+    (λ e. rw (some-none k g (λ p c. not-true (g p) (sym (h p c) ∙ every-at k f p e c))))
+    (λ e. every-of k f (λ p c. h p c ∙ cases (g p) (λ x. contra (some-of k g p c x) (not-true (some k g) e)) (λ x. rw x)))
+
+pub ready-touches : (s : List ℕ) (d : Written) (waits : List ℕ) (r : ℕ) → WellFormed s → Waits (rulesOf s) d waits → ready (rulesOf s) d r ≡ (not (d r) && not (touches (bookOf s) r waits))
+unfolding touches netOf
+ready-touches s d waits r g w =
+    ready-marks (rulesOf s) maxMarks (targets-small s g) d r
+    ∙ ap (λ b. not (d r) && b)
+    (none-some maxMarks (λ m. not (rulesOf s .refers r m) || isSettled (rulesOf s) d m) (λ m. rulesOf s .refers r m && hasMark waits m)
+    (λ m h. cases (rulesOf s .refers r m) (λ e. rw (e, w m h) (cases (isSettled (rulesOf s) d m) (λ x. rw x) (λ x. rw x))) (λ e. rw e)))
+
+pub ready-written : (s : List ℕ) (d : Written) (waits : List ℕ) (r : ℕ) → WellFormed s → Waits (rulesOf s) d waits → d r ≡ true → false ≡ ready (rulesOf s) d r
+ready-written s d waits r g w e = sym (ready-touches s d waits r g w ∙ rw e)
+
+pub ready-untouched : (s : List ℕ) (d : Written) (waits : List ℕ) (r : ℕ) (b : Bool) → WellFormed s → Waits (rulesOf s) d waits → d r ≡ false → b ≡ touches (bookOf s) r waits → not b ≡ ready (rulesOf s) d r
+ready-untouched s d waits r b g w e t = sym (ready-touches s d waits r g w ∙ rw (e, ← t))

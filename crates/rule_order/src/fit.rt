@@ -1,0 +1,52 @@
+// Whether a given order is fit: one pass over its entries.
+ghost use mathlib.Core.Path.{_≡_};
+ghost use Prim.Native.Nat.{_<_};
+ghost use lib.ListN.{length, getD};
+ghost use Rattle.book.specs.Image.{rulesIn};
+ghost use Rattle.book.specs.WellFormed.{WellFormed};
+ghost use Rattle.order_theory.specs.Pass.{fitPass};
+ghost use Rattle.rule_order.specs.Nets.{rulesOf};
+ghost use Rattle.rule_order.specs.References.{References};
+use crate::ready::is_ready;
+use crate::references::REFS;
+use crate::waiting::count_targets;
+use crate::waiting::strike;
+use crate::waiting::target_of;
+use paper::MAX_MARKS;
+use paper::MAX_RULES;
+use texts::references::MARK_WORDS;
+
+// The rule that an order has at j.
+pub fn entry_of(order: &[u16], j: usize) -> usize
+    requires { ⌜ j < length (now order) ⌝ }
+    ensures { λ r. ⌜ r ≡ getD (now (order .entry)) j 0 ⌝ }
+{
+    order[j] as usize
+}
+
+// Each entry is a rule that is ready where those before it are written, and there are as many as there are rules.
+// One pass over the rules and one over the order. Stack: about 9 KiB, of which the flags of the written rules are 8,384 bytes.
+pub fn order_fits(image: &[u8], rules: usize, refs: &[u64; REFS], order: &[u16]) -> bool
+    requires { ⌜ (WellFormed (now image)) × (rules ≡ rulesIn (now image)) × (References (now image) (now refs)) ⌝ }
+    ensures { λ r. ⌜ r ≡ fitPass (rulesOf (now (image .entry))) (now (order .entry)) ⌝ }
+{
+    if order.len() != rules {
+        return false;
+    }
+    let mut counts = [0u16; MAX_MARKS];
+    let mut waits = [0u64; MARK_WORDS];
+    count_targets(image, rules, &mut counts, &mut waits);
+    let mut written = [false; MAX_RULES];
+    for j in 0..rules {
+        let r = entry_of(order, j);
+        if rules <= r {
+            return false;
+        }
+        if !is_ready(image, refs, &written, &waits, r) {
+            return false;
+        }
+        written[r] = true;
+        strike(target_of(image, r), &mut counts, &mut waits);
+    }
+    true
+}

@@ -1,0 +1,98 @@
+// What rules refer to: a row of marks for each condition record, filled once, and the test whether a rule refers to a mark of a set.
+ghost use mathlib.Core.Path.{_≡_};
+ghost use Prim.Native.Nat.{_<_};
+ghost use lib.ListN.{length};
+ghost use Rattle.paper.specs.Limits.{maxConditions};
+ghost use Rattle.book.specs.Image.{rulesIn, bookOf};
+ghost use Rattle.book.specs.WellRead.{Opened};
+ghost use Rattle.book.specs.WellFormed.{WellFormed};
+ghost use Rattle.rule_order.specs.References.{refWords, References, meetWord, meeting, awaitsAny, readsAny, touches};
+use book::Counts;
+use paper::BOOK_HEADER;
+use paper::MAX_CONDITIONS;
+use paper::RULE_SIZE;
+use texts::references::MARK_WORDS;
+use texts::references::condition_marks;
+
+// Row c, of MARK_WORDS words, is the set of marks that the text of condition c names: 8 KiB.
+pub const REFS: usize = MAX_CONDITIONS * MARK_WORDS;
+
+// One pass over the texts.
+pub fn references(image: &[u8], counts: Counts, refs: &mut [u64; REFS])
+    requires { ⌜ (Opened (now image) counts) × (length (now refs) ≡ refWords) ⌝ }
+    ensures { λ _. ⌜ References (now (image .entry)) (now (refs .exit)) ⌝ }
+{
+    let conditions = counts.conditions as usize;
+    for c in 0..conditions {
+        let row = condition_marks(image, counts, c);
+        let at = c * MARK_WORDS;
+        refs[at] = row[0];
+        refs[at + 1] = row[1];
+        refs[at + 2] = row[2];
+        refs[at + 3] = row[3];
+    }
+}
+
+fn meet(a: u64, b: u64) -> bool
+    ensures { λ r. ⌜ r ≡ meetWord a b ⌝ }
+{
+    a & b != 0
+}
+
+// Whether row c has a mark of the set.
+fn row_meets<'a>(refs: &'a [u64; REFS], c: usize, set: &'a [u64; MARK_WORDS]) -> bool
+    requires { ⌜ c < maxConditions ⌝ }
+    ensures { λ r. ⌜ r ≡ meeting (now (refs .entry)) c (now (set .entry)) ⌝ }
+{
+    let at = c * MARK_WORDS;
+    meet(refs[at], set[0])
+        | meet(refs[at + 1], set[1])
+        | meet(refs[at + 2], set[2])
+        | meet(refs[at + 3], set[3])
+}
+
+// Whether rule r waits for a mark of the set to become yes or no: trigger kinds 2 and 3.
+fn trigger_touches(image: &[u8], r: usize, set: &[u64; MARK_WORDS]) -> bool
+    requires { ⌜ (WellFormed (now image)) × (r < rulesIn (now image)) ⌝ }
+    ensures { λ b. ⌜ b ≡ awaitsAny (bookOf (now (image .entry))) r (now (set .entry)) ⌝ }
+{
+    let at = BOOK_HEADER + RULE_SIZE * r;
+    if image[at] < 2 {
+        return false;
+    }
+    let m = wire::u16_at(image, at + 4) as usize;
+    sets::member(set[m / 64], m % 64)
+}
+
+// Whether the condition of rule r names a mark of the set.
+fn condition_touches<'a>(
+    image: &[u8],
+    r: usize,
+    refs: &'a [u64; REFS],
+    set: &'a [u64; MARK_WORDS],
+) -> bool
+    requires { ⌜ (WellFormed (now image)) × (References (now image) (now refs)) × (r < rulesIn (now image)) ⌝ }
+    ensures { λ b. ⌜ b ≡ readsAny (bookOf (now (image .entry))) r (now (set .entry)) ⌝ }
+{
+    let at = BOOK_HEADER + RULE_SIZE * r;
+    if image[at + 1] < 1 {
+        return false;
+    }
+    row_meets(refs, wire::u16_at(image, at + 6) as usize, set)
+}
+
+// Whether rule r refers to a mark of the set.
+pub fn rule_touches<'a>(
+    image: &[u8],
+    r: usize,
+    refs: &'a [u64; REFS],
+    set: &'a [u64; MARK_WORDS],
+) -> bool
+    requires { ⌜ (WellFormed (now image)) × (References (now image) (now refs)) × (r < rulesIn (now image)) ⌝ }
+    ensures { λ b. ⌜ b ≡ touches (bookOf (now (image .entry))) r (now (set .entry)) ⌝ }
+{
+    if trigger_touches(image, r, set) {
+        return true;
+    }
+    condition_touches(image, r, refs, set)
+}

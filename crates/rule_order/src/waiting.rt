@@ -1,0 +1,57 @@
+// How many unwritten rules target each mark, and the set of the marks for which there is one.
+ghost use mathlib.Core.Path.{_≡_};
+ghost use Prim.Native.Nat.{_<_};
+ghost use lib.ListN.{getD, replicate};
+ghost use Rattle.paper.specs.Limits.{maxMarks};
+ghost use Rattle.book.specs.Image.{rulesIn};
+ghost use Rattle.book.specs.Marks.{markWords};
+ghost use Rattle.book.specs.WellFormed.{WellFormed};
+ghost use Rattle.order_theory.specs.Written.{none};
+ghost use Rattle.rule_order.specs.Nets.{rulesOf};
+ghost use Rattle.rule_order.specs.Counters.{Counters, Struck};
+use paper::BOOK_HEADER;
+use paper::MAX_MARKS;
+use paper::RULE_SIZE;
+use texts::references::MARK_WORDS;
+
+// The mark that rule r targets.
+pub fn target_of(image: &[u8], r: usize) -> usize
+    requires { ⌜ (WellFormed (now image)) × (r < rulesIn (now image)) ⌝ }
+    ensures { λ t. ⌜ (t ≡ rulesOf (now (image .entry)) .target r) × (t < maxMarks) ⌝ }
+{
+    wire::u16_at(image, BOOK_HEADER + RULE_SIZE * r + 8) as usize
+}
+
+// Before any rule is written: one pass over the rules.
+pub fn count_targets(
+    image: &[u8],
+    rules: usize,
+    counts: &mut [u16; MAX_MARKS],
+    waits: &mut [u64; MARK_WORDS],
+)
+    requires { ⌜ (WellFormed (now image)) × (rules ≡ rulesIn (now image)) × (now counts ≡ replicate maxMarks 0) × (now waits ≡ replicate markWords 0) ⌝ }
+    ensures { λ _. ⌜ Counters (rulesOf (now (image .entry))) none (now (counts .exit)) (now (waits .exit)) ⌝ }
+{
+    for r in 0..rules {
+        let t = target_of(image, r);
+        let n = counts[t];
+        counts[t] = n + 1;
+        let word = waits[t / 64];
+        waits[t / 64] = sets::join(word, sets::one(t % 64));
+    }
+}
+
+// One rule less targets the mark t: whether that was the last.
+pub fn strike(t: usize, counts: &mut [u16; MAX_MARKS], waits: &mut [u64; MARK_WORDS]) -> bool
+    requires { ⌜ (t < maxMarks) × (0 < getD (now counts) t 0) ⌝ }
+    ensures { λ r. ⌜ Struck t (now (counts .entry)) (now (waits .entry)) (now (counts .exit)) (now (waits .exit)) r ⌝ }
+{
+    let n = counts[t] - 1;
+    counts[t] = n;
+    if n != 0 {
+        return false;
+    }
+    let word = waits[t / 64];
+    waits[t / 64] = sets::less(word, sets::one(t % 64));
+    true
+}
