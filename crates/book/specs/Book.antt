@@ -1,7 +1,7 @@
 -- A rule book: its counts, rules, condition records and words. Assumes nothing.
 use Prim.Native.Nat.{ℕ}
 use mathlib.Core.Bool.{false}
-use mathlib.Core.List.{List, []}
+use mathlib.Core.List.{List}
 use lib.ListN.{getD, take, drop}
 use Rattle.book.specs.declared.Rule.{Rule}
 use Rattle.book.specs.declared.Trigger.the-variants.{None}

@@ -14,7 +14,7 @@ use Rattle.sets.specs.Set.{has}
 use Rattle.general.specs.Below.{some, some-of, some-at, some-none, first, first-is, first-found, Lowest}
 use Rattle.graph.specs.Chart.{Kind, include, exclude}
 use Rattle.records.specs.Image.{nodes, relations, nodesOffset, relationsOffset, nodeAt, relationAt, parentOf, stateOf, rolesAt, fromOf, toOf, kindOf, outOfRange, misplaced, badNodeAt, badRelationAt}
-use Rattle.nesting.specs.Nesting.{parent, Nested, AtOrAbove, OnLoop, nested, atOrAbove, onLoopAt, isGroup, eventCount, eventNode, flaggedGroupAt, nested-so}
+use Rattle.nesting.specs.Nesting.{parent, AtOrAbove, OnLoop, nested, atOrAbove, onLoopAt, isGroup, eventCount, eventNode, flaggedGroupAt, nested-so}
 use Rattle.flattening.specs.Flattening.{kindNumber, Flattened, leads, related, NamesRole, namesAt, named, conflict, conflictAt}
 
 -- P holds of no number below n

@@ -3,14 +3,14 @@ use Prim.Native.Nat.{ℕ, _+_, _*_}
 use mathlib.Core.Path.{_≡_, refl}
 use mathlib.Core.Bool.{Bool, true, false, cond}
 use mathlib.Core.List.{List, [], _∷_}
-use lib.ListN.{set, length}
+use lib.ListN.{set}
 use Rattle.paper.specs.Limits.{andWord, orWord, notWord}
 use Rattle.sets.specs.Set.{has}
 use Rattle.graph.specs.Examples.{none, marking}
 use Rattle.graph.specs.Steps.{openWith, unmetOf, awaitedOf, afterWith, after}
 use Rattle.graph.specs.declared.FlatChart.{FlatChart}
 use Rattle.graph.specs.declared.Marking.{Marking}
-use Rattle.book.specs.Book.{Book, Condition}
+use Rattle.book.specs.Book.{Book}
 use Rattle.general.specs.Lists.{flat}
 use Rattle.derived.specs.Derived.{on, opens, closes, inclusion, responding, answering, completion, textFor, eventRules, derivedRules, derivedText, derivedCondition, derivedBook}
 use Rattle.deriver.specs.Matching.{matchingMarks}

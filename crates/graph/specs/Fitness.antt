@@ -16,7 +16,7 @@ use Rattle.sets.specs.Set.{has, union, inter, minus, allBelow}
 use Rattle.sets.specs.Laws.{has-union, has-empty, has-all, none-zero, union-zero, minus-none, none-minus, apart-not, not-apart, within-lt, lt-within}
 use Rattle.graph.specs.declared.FlatChart.{FlatChart}
 use Rattle.graph.specs.declared.Marking.{Marking}
-use Rattle.graph.specs.Chart.{Kind, condition, response, milestone, include, exclude, setOf, rolesOf, In, Fit, FitMarking}
+use Rattle.graph.specs.Chart.{Kind, condition, response, milestone, include, exclude, setOf, In, Fit, FitMarking}
 use Rattle.graph.specs.Tests.{allowedAt, rowSpill, spillAt, spillOf, rolesFrom, fitTables, fitChart, fitMarking, fit}
 
 -- ---- one row: nothing spills exactly if each set keeps to what it may hold, and nothing is both included and excluded

@@ -1,19 +1,17 @@
 -- Steps as the code takes them: the open rule, executing, counting and the finished test, and the law for each return. Assumes nothing.
 use Prim.Native.Nat.{ℕ, _+_, _*_, _%_, _≤_, _<_, _^_}
-use mathlib.Core.Path.{_≡_, refl, sym, ap, _∙_}
+use mathlib.Core.Path.{_≡_, refl, sym, _∙_}
 use mathlib.Core.Bool.{Bool, true, false, not, _&&_, cond, and-true, and-false}
 use mathlib.Core.List.{List}
 use native.Mathlib.Omega.{arith}
-use native.Mathlib.Nat.{le-trans, one-mul}
+use native.Mathlib.Nat.{one-mul}
 use lib.Pow.{pow-add}
 use lib.ListN.{getD}
 use lib.Dec.{eqb, leb, ltb}
-use lib.Bits.{and-le-l}
 use borrow.Author.Tests.{not-true, not-false, eq-eqb, ne-eqb, le-leb, lt-leb}
 use Rattle.paper.specs.Limits.{maxEvents, noSuchEvent, notIncluded, notPermitted, conditionWanting, milestoneWanting, unfit}
 use Rattle.paper.specs.Answers.{answer, granted, refusal}
 use Rattle.paper.specs.declared.Answer.{Answer}
-use Rattle.general.specs.Cases.{not-so}
 use Rattle.sets.specs.Set.{has, union, inter, minus, only, lowest, size, collect, putIf}
 use Rattle.sets.specs.Laws.{collect-step, one-bit, ext, has-inter, has-collect}
 use Rattle.graph.specs.Chart.{setOf, rolesOf, condition, response, milestone, include, exclude}

@@ -1,12 +1,12 @@
 -- The rows of the paper's table for the matching snapshot, and that the call answers exactly as they say. Assumes nothing.
-use Prim.Native.Nat.{ℕ, _+_, _-_, _*_, _≤_, _<_}
+use Prim.Native.Nat.{ℕ, _-_, _*_, _≤_, _<_}
 use mathlib.Core.Path.{_≡_, sym, ap, subst, _∙_}
 use mathlib.Core.Logic.{_↔_}
 use mathlib.Core.Bool.{Bool, true, false, not}
 use mathlib.Core.List.{List}
 use native.Mathlib.Omega.{arith}
 use lib.Dec.{ltb}
-use lib.ListN.{length, getD, replicate, length-append, length-replicate}
+use lib.ListN.{length, replicate, length-append, length-replicate}
 use lib.Seq.{ext-getD}
 use borrow.Author.Tests.{ltb-true, ltb-false, not-true}
 use Rattle.paper.specs.Limits.{maxEvents, maxMarks, unfit}
@@ -22,9 +22,8 @@ use Rattle.graph.specs.declared.FlatChart.{FlatChart}
 use Rattle.graph.specs.declared.Marking.{Marking}
 use Rattle.book.specs.Text.{snapOf}
 use Rattle.general.specs.Lists.{each, length-each}
-use Rattle.book.specs.declared.Snapshot.{Snapshot}
 use Rattle.derived.specs.Derived.{executedMark, includedMark, answeredMark}
-use Rattle.deriver.specs.Matching.{matchingMarks, matchingOf, markOf, marks-at}
+use Rattle.deriver.specs.Matching.{matchingMarks, matchingOf, marks-at}
 use Rattle.deriver.specs.declared.Matched.{Matched}
 use Rattle.agreement.specs.Matching.{match-stage, match-executed, match-included, match-answered, match-past}
 use Rattle.promises.specs.Tables.{Unfit, untested}

@@ -1,9 +1,7 @@
 -- `sets::all_below` meets its contract. Assumes nothing.
-use mathlib.Core.Path.{_≡_, refl, sym, ap}
 use native.Mathlib.Omega.{arith}
 use lib.Pow.{pow-pos}
 use borrow.Author.Needs.{needs}
-use Rattle.sets.specs.Set.{allBelow}
 use Rattle.sets.specs.Laws.{all-wide}
 use Rattle.sets.proofs.all_below.Statement.{statement}
 use Rattle.sets.proofs.all_below.Tie as tie

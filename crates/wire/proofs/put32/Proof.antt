@@ -1,5 +1,4 @@
 -- `wire::put32` meets its contract. Assumes nothing.
-use native.Mathlib.Omega.{arith}
 use borrow.Author.Needs.{needs}
 use Rattle.wire.specs.Wire.{put32}
 use Rattle.wire.proofs.put32.Statement.{statement}

@@ -1,6 +1,5 @@
 -- `graph::FlatChart::empty` meets its contract. Assumes nothing.
 use Rattle.graph.specs.Chart.{emptyChart}
-use borrow.Author.Needs.{needs}
 use mathlib.Core.Path.{refl}
 use Rattle.graph.proofs.FlatChart.empty.Statement.{statement}
 use Rattle.graph.proofs.FlatChart.empty.Tie as tie

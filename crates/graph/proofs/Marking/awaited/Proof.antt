@@ -1,6 +1,5 @@
 -- `graph::Marking::awaited` meets its contract. Assumes nothing.
 use Rattle.graph.specs.Steps.{awaitedOf}
-use borrow.Author.Needs.{needs}
 use mathlib.Core.Path.{refl}
 use Rattle.graph.proofs.Marking.awaited.Statement.{statement}
 use Rattle.graph.proofs.Marking.awaited.Tie as tie

@@ -2,7 +2,6 @@
 use mathlib.Core.Path.{_≡_, refl, ap}
 use mathlib.Core.List.{List}
 use Prim.Native.Nat.{ℕ, _-_}
-use native.Mathlib.Omega.{arith}
 use Rattle.book.specs.Image.{conditionsIn}
 use Rattle.book.specs.WellRead.{Opened}
 use Rattle.book.specs.declared.Counts.{Counts}
