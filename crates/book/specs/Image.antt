@@ -31,6 +31,15 @@ conditionsIn s = u32At s 12
 abbrev pub wordsIn : List ℕ → ℕ
 wordsIn s = u32At s 16
 
+abbrev pub rulesOffset : List ℕ → ℕ
+rulesOffset s = u32At s 20
+
+abbrev pub conditionsOffset : List ℕ → ℕ
+conditionsOffset s = u32At s 24
+
+abbrev pub wordsOffset : List ℕ → ℕ
+wordsOffset s = u32At s 28
+
 -- ---- where the records lie
 
 abbrev pub rulePlace : ℕ → ℕ
@@ -44,7 +53,28 @@ conditionPlace R c = rulePlace R + conditionSize * c
 abbrev pub wordPlace : ℕ → ℕ → ℕ → ℕ
 wordPlace R Q w = conditionPlace R Q + wordSize * w
 
--- ---- a rule record: kind, sense and effect in a byte each, a zero byte, then trigger, condition and target
+-- ---- a rule record at the byte `at`: "trigger kind, sense, effect, a zero byte, trigger number, condition number, target mark"
+
+abbrev pub kindAt : List ℕ → ℕ → ℕ
+kindAt s at = getD s at 0
+
+abbrev pub senseAt : List ℕ → ℕ → ℕ
+senseAt s at = getD s (at + 1) 0
+
+abbrev pub effectAt : List ℕ → ℕ → ℕ
+effectAt s at = getD s (at + 2) 0
+
+abbrev pub spareAt : List ℕ → ℕ → ℕ
+spareAt s at = getD s (at + 3) 0
+
+abbrev pub numberAt : List ℕ → ℕ → ℕ
+numberAt s at = u16At s (at + 4)
+
+abbrev pub conditionAt : List ℕ → ℕ → ℕ
+conditionAt s at = u16At s (at + 6)
+
+abbrev pub targetAt : List ℕ → ℕ → ℕ
+targetAt s at = u16At s (at + 8)
 
 unfoldable pub triggerFrom : ℕ → ℕ → Trigger
 triggerFrom kind n = cond (eqb kind 0) None (cond (eqb kind 1) (Completed n) (cond (eqb kind 2) (BecomeYes n) (BecomeNo n)))
@@ -55,14 +85,22 @@ senseFrom sense c = cond (eqb sense 0) NoCondition (cond (eqb sense 1) (AsWritte
 unfoldable pub ruleFrom : List ℕ → ℕ → Rule
 ruleFrom s at =
     record {
-      trigger = triggerFrom (getD s at 0) (u16At s (at + 4));
-      sense = senseFrom (getD s (at + 1) 0) (u16At s (at + 6));
-      effect = eqb (getD s (at + 2) 0) 1;
-      target = u16At s (at + 8);
+      trigger = triggerFrom (kindAt s at) (numberAt s at);
+      sense = senseFrom (senseAt s at) (conditionAt s at);
+      effect = eqb (effectAt s at) 1;
+      target = targetAt s at;
     }
 
+-- ---- a condition record at the byte `at`: its first word, and how many
+
+abbrev pub startAt : List ℕ → ℕ → ℕ
+startAt s at = u32At s at
+
+abbrev pub countAt : List ℕ → ℕ → ℕ
+countAt s at = u32At s (at + 4)
+
 unfoldable pub conditionFrom : List ℕ → ℕ → Condition
-conditionFrom s at = record { start = u32At s at; count = u32At s (at + 4) }
+conditionFrom s at = record { start = startAt s at; count = countAt s at }
 
 -- ---- the book
 

@@ -2,15 +2,14 @@
 use mathlib.Core.Bool.{Bool, false, not, cond, _&&_}
 use mathlib.Core.List.{List}
 use Prim.Native.Nat.{ℕ, _+_, _*_}
-use lib.ListN.{length, getD}
+use lib.ListN.{length}
 use lib.Dec.{eqb, ltb, leb}
 use Rattle.paper.specs.Limits.{maxEvents, maxMarks, maxRules, maxConditions, maxWords, bookHeader, wordSize, bookShort, bookCount, bookLength, badRule, badCondition}
 use Rattle.paper.specs.Answers.{answer, granted, refusal}
 use Rattle.paper.specs.declared.Answer.{Answer}
 use Rattle.general.specs.Below.{first}
-use Rattle.wire.specs.Wire.{u16At, u32At}
 use Rattle.book.specs.GoodTexts.{good}
-use Rattle.book.specs.Image.{stagesIn, marksIn, rulesIn, conditionsIn, wordsIn, rulePlace, conditionPlace, wordPlace}
+use Rattle.book.specs.Image.{stagesIn, marksIn, rulesIn, conditionsIn, wordsIn, rulePlace, conditionPlace, wordPlace, kindAt, senseAt, effectAt, spareAt, numberAt, conditionAt, targetAt, startAt, countAt, rulesOffset, conditionsOffset, wordsOffset}
 use Rattle.book.specs.Read.{wordsFrom}
 use Rattle.book.specs.declared.Counts.{Counts}
 
@@ -27,7 +26,7 @@ countsFit h =
 -- "offsets of rules (32), conditions (32 + 10R), words (32 + 10R + 8Q). Length is exactly 32 + 10R + 8Q + 2W."
 unfoldable pub layoutFits : List ℕ → Counts → Bool
 layoutFits s h =
-    eqb (u32At s 20) bookHeader && eqb (u32At s 24) (rulePlace (h .rules)) && eqb (u32At s 28) (conditionPlace (h .rules) (h .conditions))
+    eqb (rulesOffset s) bookHeader && eqb (conditionsOffset s) (rulePlace (h .rules)) && eqb (wordsOffset s) (conditionPlace (h .rules) (h .conditions))
     && eqb (length s) (wordPlace (h .rules) (h .conditions) (h .words))
 
 -- "Numbers of an absent trigger or condition are 0; others must exist"
@@ -41,13 +40,13 @@ senseFits Q sense c = cond (eqb sense 0) (eqb c 0) (cond (eqb sense 1) (ltb c Q)
 -- the ten bytes from `at`
 unfoldable pub ruleFits : ℕ → ℕ → ℕ → List ℕ → ℕ → Bool
 ruleFits S M Q s at =
-    triggerFits S M (getD s at 0) (u16At s (at + 4)) && senseFits Q (getD s (at + 1) 0) (u16At s (at + 6)) && leb (getD s (at + 2) 0) 1
-    && eqb (getD s (at + 3) 0) 0 && ltb (u16At s (at + 8)) M
+    triggerFits S M (kindAt s at) (numberAt s at) && senseFits Q (senseAt s at) (conditionAt s at) && leb (effectAt s at) 1
+    && eqb (spareAt s at) 0 && ltb (targetAt s at) M
 
 -- "count at least 1, inside W", and the text is good; the words start at the byte `from`
 unfoldable pub conditionFits : ℕ → ℕ → ℕ → List ℕ → ℕ → Bool
 conditionFits M W from s at =
-    leb 1 (u32At s (at + 4)) && leb (u32At s at + u32At s (at + 4)) W && good M (wordsFrom s (from + wordSize * u32At s at) (u32At s (at + 4)))
+    leb 1 (countAt s at) && leb (startAt s at + countAt s at) W && good M (wordsFrom s (from + wordSize * startAt s at) (countAt s at))
 
 -- the lowest bad rule, or R
 unfoldable pub firstBadRule : List ℕ → Counts → ℕ

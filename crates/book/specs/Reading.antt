@@ -1,8 +1,8 @@
 -- What the reader is, and what its methods hand back. Assumes nothing.
-use Prim.Native.Nat.{ℕ, _+_}
+use Prim.Native.Nat.{ℕ}
 use mathlib.Core.List.{List}
 use denote.Ref.{RefT}
-use Rattle.wire.specs.Wire.{u32At}
+use Rattle.book.specs.Image.{startAt, countAt}
 use Rattle.book.specs.declared.Counts.{Counts}
 use Rattle.book.specs.declared.Span.{Span}
 use Rattle.book.specs.declared.reader.BookReader.{BookReader}
@@ -13,4 +13,4 @@ readerOf image counts = record { image = image; counts = counts }
 
 -- a condition's start and count, as they stand at the byte `at`
 abbrev pub spanFrom : List ℕ → ℕ → Span
-spanFrom s at = record { start = u32At s at; count = u32At s (at + 4) }
+spanFrom s at = record { start = startAt s at; count = countAt s at }

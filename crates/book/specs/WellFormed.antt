@@ -4,7 +4,7 @@ use mathlib.Core.Bool.{Bool, true, false, not, _&&_}
 use mathlib.Core.List.{List}
 use Prim.Native.Nat.{ℕ, _+_, _≤_, _<_}
 use native.Mathlib.Omega.{arith}
-use lib.ListN.{length, getD}
+use lib.ListN.{length}
 use lib.Dec.{eqb, ltb, leb}
 use borrow.Author.Tests.{eqb-true, eqb-false, eq-eqb, ltb-true, ltb-false, lt-ltb, le-ltb, leb-true, le-leb, not-true, not-false}
 use Rattle.paper.specs.Limits.{maxEvents, maxMarks, maxRules, maxConditions, maxWords, bookHeader, bookShort, bookCount, bookLength, badRule, badCondition}
@@ -12,10 +12,9 @@ use Rattle.paper.specs.Answers.{answer, granted, refusal}
 use Rattle.paper.specs.declared.Answer.{Answer}
 use Rattle.general.specs.Cases.{contra, cases, both, all3, not-so}
 use Rattle.general.specs.Below.{first, first-is, first-found, first-none}
-use Rattle.wire.specs.Wire.{u16At, u32At}
 use Rattle.book.specs.GoodTexts.{GoodText, good, good-text, text-good}
 use Rattle.book.specs.Book.{Condition}
-use Rattle.book.specs.Image.{stagesIn, marksIn, rulesIn, conditionsIn, wordsIn, rulePlace, conditionPlace, wordPlace, conditionFrom}
+use Rattle.book.specs.Image.{stagesIn, marksIn, rulesIn, conditionsIn, wordsIn, rulePlace, conditionPlace, wordPlace, conditionFrom, kindAt, senseAt, effectAt, spareAt, numberAt, conditionAt, targetAt, startAt, countAt, rulesOffset, conditionsOffset, wordsOffset}
 use Rattle.book.specs.Read.{textFrom}
 use Rattle.book.specs.Judging.{countsOf, countsFit, layoutFits, triggerFits, senseFits, ruleFits, conditionFits, firstBadRule, firstBadCondition, bodyAnswer, imageAnswer}
 use Rattle.book.specs.declared.Counts.{Counts}
@@ -33,24 +32,24 @@ pub record Counted (h : Counts) : Type 0 where
 
 -- "offsets of rules (32), conditions (32 + 10R), words (32 + 10R + 8Q). Length is exactly 32 + 10R + 8Q + 2W."
 pub record LaidOut (s : List ℕ) (h : Counts) : Type 0 where
-  pub rules : u32At s 20 ≡ bookHeader
-  pub conditions : u32At s 24 ≡ rulePlace (h .rules)
-  pub words : u32At s 28 ≡ conditionPlace (h .rules) (h .conditions)
+  pub rules : rulesOffset s ≡ bookHeader
+  pub conditions : conditionsOffset s ≡ rulePlace (h .rules)
+  pub words : wordsOffset s ≡ conditionPlace (h .rules) (h .conditions)
   pub whole : length s ≡ wordPlace (h .rules) (h .conditions) (h .words)
 
 -- ---- a rule record of ten bytes from `at`: kind, sense and effect in a byte each, a zero byte, then trigger, condition and target
 
 pub record GoodRule (S M Q : ℕ) (s : List ℕ) (at : ℕ) : Type 0 where
-  pub kind : getD s at 0 ≤ 3
-  pub noTrigger : getD s at 0 ≡ 0 → u16At s (at + 4) ≡ 0
-  pub completed : getD s at 0 ≡ 1 → u16At s (at + 4) < S
-  pub become : 2 ≤ getD s at 0 → u16At s (at + 4) < M
-  pub sense : getD s (at + 1) 0 ≤ 2
-  pub noCondition : getD s (at + 1) 0 ≡ 0 → u16At s (at + 6) ≡ 0
-  pub condition : 1 ≤ getD s (at + 1) 0 → u16At s (at + 6) < Q
-  pub effect : getD s (at + 2) 0 ≤ 1
-  pub spare : getD s (at + 3) 0 ≡ 0
-  pub target : u16At s (at + 8) < M
+  pub kind : kindAt s at ≤ 3
+  pub noTrigger : kindAt s at ≡ 0 → numberAt s at ≡ 0
+  pub completed : kindAt s at ≡ 1 → numberAt s at < S
+  pub become : 2 ≤ kindAt s at → numberAt s at < M
+  pub sense : senseAt s at ≤ 2
+  pub noCondition : senseAt s at ≡ 0 → conditionAt s at ≡ 0
+  pub condition : 1 ≤ senseAt s at → conditionAt s at < Q
+  pub effect : effectAt s at ≤ 1
+  pub spare : spareAt s at ≡ 0
+  pub target : targetAt s at < M
 
 -- ---- "A condition is start and count into the words; count at least 1, inside W, overlaps allowed."
 
@@ -118,7 +117,7 @@ says-counts h c =
 pub layout-says : (s : List ℕ) (h : Counts) → layoutFits s h ≡ true → LaidOut s h
 unfolding layoutFits
 layout-says s h e =
-    let t = all4 (eqb (u32At s 20) bookHeader) (eqb (u32At s 24) (rulePlace (h .rules))) (eqb (u32At s 28) (conditionPlace (h .rules) (h .conditions)))
+    let t = all4 (eqb (rulesOffset s) bookHeader) (eqb (conditionsOffset s) (rulePlace (h .rules))) (eqb (wordsOffset s) (conditionPlace (h .rules) (h .conditions)))
     (eqb (length s) (wordPlace (h .rules) (h .conditions) (h .words))) e in
     record { rules = eqb-true _ _ (t .0); conditions = eqb-true _ _ (t .1); words = eqb-true _ _ (t .2); whole = eqb-true _ _ (t .3) }
 
@@ -183,11 +182,11 @@ module _ (S M Q : ℕ) (s : List ℕ) (at : ℕ) where
   pub rule-says : ruleFits S M Q s at ≡ true → GoodRule S M Q s at
   unfolding ruleFits
   rule-says h =
-      let z = both (triggerFits S M (getD s at 0) (u16At s (at + 4)) && senseFits Q (getD s (at + 1) 0) (u16At s (at + 6)) && leb (getD s (at + 2) 0) 1
-      && eqb (getD s (at + 3) 0) 0) (ltb (u16At s (at + 8)) M) h in
-      let y = all4 (triggerFits S M (getD s at 0) (u16At s (at + 4))) (senseFits Q (getD s (at + 1) 0) (u16At s (at + 6))) (leb (getD s (at + 2) 0) 1) (eqb (getD s (at + 3) 0) 0) (z .0) in
-      let t = trigger-says S M (getD s at 0) (u16At s (at + 4)) (y .0) in
-      let q = sense-says Q (getD s (at + 1) 0) (u16At s (at + 6)) (y .1) in
+      let z = both (triggerFits S M (kindAt s at) (numberAt s at) && senseFits Q (senseAt s at) (conditionAt s at) && leb (effectAt s at) 1
+      && eqb (spareAt s at) 0) (ltb (targetAt s at) M) h in
+      let y = all4 (triggerFits S M (kindAt s at) (numberAt s at)) (senseFits Q (senseAt s at) (conditionAt s at)) (leb (effectAt s at) 1) (eqb (spareAt s at) 0) (z .0) in
+      let t = trigger-says S M (kindAt s at) (numberAt s at) (y .0) in
+      let q = sense-says Q (senseAt s at) (conditionAt s at) (y .1) in
       record {
         kind = t .known;
         noTrigger = t .none;
@@ -205,8 +204,8 @@ module _ (S M Q : ℕ) (s : List ℕ) (at : ℕ) where
   unfolding ruleFits
   says-rule g =
       rw (
-        says-trigger S M (getD s at 0) (u16At s (at + 4)) (record { known = g .kind; none = g .noTrigger; stage = g .completed; mark = g .become }),
-        says-sense Q (getD s (at + 1) 0) (u16At s (at + 6)) (record { known = g .sense; none = g .noCondition; some = g .condition }),
+        says-trigger S M (kindAt s at) (numberAt s at) (record { known = g .kind; none = g .noTrigger; stage = g .completed; mark = g .become }),
+        says-sense Q (senseAt s at) (conditionAt s at) (record { known = g .sense; none = g .noCondition; some = g .condition }),
         le-leb _ _ (g .effect),
         eq-eqb _ _ (g .spare),
         lt-ltb _ _ (g .target),
@@ -216,7 +215,7 @@ module _ (M W : ℕ) (s : List ℕ) (at : ℕ) where
   pub condition-says : conditionFits M W (conditionPlace (rulesIn s) (conditionsIn s)) s at ≡ true → GoodCondition M W s (conditionFrom s at)
   unfolding conditionFits conditionFrom
   condition-says h =
-      let t = all3 (leb 1 (u32At s (at + 4))) (leb (u32At s at + u32At s (at + 4)) W) (good M (textFrom s (conditionFrom s at))) h in
+      let t = all3 (leb 1 (countAt s at)) (leb (startAt s at + countAt s at) W) (good M (textFrom s (conditionFrom s at))) h in
       record { least = leb-true _ _ (t .0); inside = leb-true _ _ (t .1); text = good-text M _ (t .2) }
 
   pub says-condition : GoodCondition M W s (conditionFrom s at) → conditionFits M W (conditionPlace (rulesIn s) (conditionsIn s)) s at ≡ true

@@ -4,16 +4,15 @@ use mathlib.Core.Bool.{Bool, true}
 use mathlib.Core.List.{List}
 use Prim.Native.Nat.{ℕ, _+_, _*_, _≤_, _<_}
 use native.Mathlib.Omega.{arith}
-use lib.ListN.{length, getD}
+use lib.ListN.{length}
 use lib.Dec.{eqb, ltb}
 use borrow.Author.Tests.{eqb-true, eqb-false, ltb-true, lt-ltb}
 use Rattle.paper.specs.Limits.{maxMarks, ruleSize, conditionSize, wordSize}
 use Rattle.general.specs.Cases.{cases}
-use Rattle.wire.specs.Wire.{u16At, u32At}
 use Rattle.book.specs.Text.{Snap, holds}
 use Rattle.book.specs.GoodTexts.{good, text-good, good-wider}
 use Rattle.book.specs.Book.{ruleOf, textOf}
-use Rattle.book.specs.Image.{stagesIn, marksIn, rulesIn, conditionsIn, rulePlace, conditionPlace, triggerFrom, senseFrom, ruleFrom, conditionFrom, bookOf}
+use Rattle.book.specs.Image.{stagesIn, marksIn, rulesIn, conditionsIn, rulePlace, conditionPlace, triggerFrom, senseFrom, ruleFrom, conditionFrom, bookOf, kindAt, senseAt, numberAt, conditionAt, startAt, countAt}
 use Rattle.book.specs.Read.{wordsFrom, textFrom, rule-read, text-read}
 use Rattle.book.specs.Judging.{countsOf}
 use Rattle.book.specs.Reading.{spanFrom}
@@ -71,8 +70,8 @@ module _ (S M Q : ℕ) (s : List ℕ) (at : ℕ) (g : GoodRule S M Q s at) where
   unfolding ruleFrom
   good-known =
       record {
-        trigger = trigger-known (getD s at 0) (u16At s (at + 4)) (g .kind) (g .completed) (g .become);
-        sense = sense-known (getD s (at + 1) 0) (u16At s (at + 6)) (g .condition);
+        trigger = trigger-known (kindAt s at) (numberAt s at) (g .kind) (g .completed) (g .become);
+        sense = sense-known (senseAt s at) (conditionAt s at) (g .condition);
         target = g .target;
       }
 
@@ -122,5 +121,5 @@ module _ (s : List ℕ) (h : Counts) (o : Opened s h) (c : ℕ) (l : c < conditi
         let e = o .formed .headed .laidOut .whole in
         let g = o .formed .conditions c l in
         let i = g .inside in
-        let k : conditionPlace (rulesIn s) (conditionsIn s) + wordSize * u32At s (conditionPlace (rulesIn s) c) + wordSize * u32At s (conditionPlace (rulesIn s) c + 4) ≤ length s = omega arith in
+        let k : conditionPlace (rulesIn s) (conditionsIn s) + wordSize * startAt s (conditionPlace (rulesIn s) c) + wordSize * countAt s (conditionPlace (rulesIn s) c) ≤ length s = omega arith in
         (rw (a, b, o .counts) k, rw as-read (good-wider (marksIn s) maxMarks _ (o .formed .headed .counted .marks) (text-good (marksIn s) _ (g .text))))

@@ -9,6 +9,9 @@ use crate::Span;
 use crate::header::conditions_from;
 use paper::CONDITION_SIZE;
 
+// How many words: at this byte of the record, which begins with the first word's number.
+pub const COUNT_AT: usize = 4;
+
 // Condition c, after the rules.
 pub fn condition_at(image: &[u8], rules: u32, c: usize) -> Span
     requires { ⌜ conditionPlace rules c + conditionSize ≤ length (now image) ⌝ }
@@ -17,6 +20,6 @@ pub fn condition_at(image: &[u8], rules: u32, c: usize) -> Span
     let at = conditions_from(rules) + CONDITION_SIZE * c;
     Span {
         start: wire::u32_at(image, at),
-        count: wire::u32_at(image, at + 4),
+        count: wire::u32_at(image, at + COUNT_AT),
     }
 }

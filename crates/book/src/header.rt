@@ -16,16 +16,33 @@ use paper::MAX_WORDS;
 use paper::RULE_SIZE;
 use paper::WORD_SIZE;
 
+// ---- the header's fields, at these bytes of the image
+pub const STAGE_COUNT_AT: usize = 0;
+
+pub const MARK_COUNT_AT: usize = 4;
+
+pub const RULE_COUNT_AT: usize = 8;
+
+pub const CONDITION_COUNT_AT: usize = 12;
+
+pub const WORD_COUNT_AT: usize = 16;
+
+pub const RULES_OFFSET_AT: usize = 20;
+
+pub const CONDITIONS_OFFSET_AT: usize = 24;
+
+pub const WORDS_OFFSET_AT: usize = 28;
+
 pub fn counts_at(image: &[u8]) -> Counts
     requires { ⌜ bookHeader ≤ length (now image) ⌝ }
     ensures { λ r. ⌜ r ≡ countsOf (now (image .entry)) ⌝ }
 {
     Counts {
-        stages: wire::u32_at(image, 0),
-        marks: wire::u32_at(image, 4),
-        rules: wire::u32_at(image, 8),
-        conditions: wire::u32_at(image, 12),
-        words: wire::u32_at(image, 16),
+        stages: wire::u32_at(image, STAGE_COUNT_AT),
+        marks: wire::u32_at(image, MARK_COUNT_AT),
+        rules: wire::u32_at(image, RULE_COUNT_AT),
+        conditions: wire::u32_at(image, CONDITION_COUNT_AT),
+        words: wire::u32_at(image, WORD_COUNT_AT),
     }
 }
 
@@ -60,8 +77,8 @@ pub fn layout_fits(image: &[u8], h: Counts) -> bool
 {
     let words = words_from(h.rules, h.conditions);
     let end = words + WORD_SIZE * (h.words as usize);
-    (wire::u32_at(image, 20) as usize == BOOK_HEADER)
-        & (wire::u32_at(image, 24) as usize == conditions_from(h.rules))
-        & (wire::u32_at(image, 28) as usize == words)
+    (wire::u32_at(image, RULES_OFFSET_AT) as usize == BOOK_HEADER)
+        & (wire::u32_at(image, CONDITIONS_OFFSET_AT) as usize == conditions_from(h.rules))
+        & (wire::u32_at(image, WORDS_OFFSET_AT) as usize == words)
         & (image.len() == end)
 }

@@ -13,14 +13,49 @@ use crate::Trigger;
 use paper::BOOK_HEADER;
 use paper::RULE_SIZE;
 
+// ---- the fields of a rule, which begins with its trigger kind, at these bytes of the record
+pub const SENSE_AT: usize = 1;
+
+pub const EFFECT_AT: usize = 2;
+
+pub const SPARE_AT: usize = 3;
+
+// The stage or the mark that the trigger names.
+pub const NUMBER_AT: usize = 4;
+
+pub const CONDITION_AT: usize = 6;
+
+pub const TARGET_AT: usize = 8;
+
+// ---- trigger kinds: those from BECOME_YES on wait for a mark
+pub const TRIGGER_NONE: u8 = 0;
+
+pub const TRIGGER_COMPLETED: u8 = 1;
+
+pub const TRIGGER_BECOME_YES: u8 = 2;
+
+pub const TRIGGER_BECOME_NO: u8 = 3;
+
+// ---- senses: those from AS_WRITTEN on ask a condition
+pub const SENSE_NONE: u8 = 0;
+
+pub const SENSE_AS_WRITTEN: u8 = 1;
+
+pub const SENSE_NEGATED: u8 = 2;
+
+// ---- effects
+pub const EFFECT_CLEAR: u8 = 0;
+
+pub const EFFECT_SET: u8 = 1;
+
 fn trigger_fits(kind: u8, n: u16, stages: u32, marks: u32) -> bool
     ensures { λ r. ⌜ r ≡ triggerFits stages marks kind n ⌝ }
 {
     match kind {
-        0 => n == 0,
-        1 => (n as u32) < stages,
-        2 => (n as u32) < marks,
-        3 => (n as u32) < marks,
+        TRIGGER_NONE => n == 0,
+        TRIGGER_COMPLETED => (n as u32) < stages,
+        TRIGGER_BECOME_YES => (n as u32) < marks,
+        TRIGGER_BECOME_NO => (n as u32) < marks,
         _ => false,
     }
 }
@@ -29,9 +64,9 @@ fn sense_fits(sense: u8, c: u16, conditions: u32) -> bool
     ensures { λ r. ⌜ r ≡ senseFits conditions sense c ⌝ }
 {
     match sense {
-        0 => c == 0,
-        1 => (c as u32) < conditions,
-        2 => (c as u32) < conditions,
+        SENSE_NONE => c == 0,
+        SENSE_AS_WRITTEN => (c as u32) < conditions,
+        SENSE_NEGATED => (c as u32) < conditions,
         _ => false,
     }
 }
@@ -40,10 +75,23 @@ fn rule_fits(image: &[u8], at: usize, stages: u32, marks: u32, conditions: u32) 
     requires { ⌜ at + ruleSize ≤ length (now image) ⌝ }
     ensures { λ r. ⌜ r ≡ ruleFits stages marks conditions (now (image .entry)) at ⌝ }
 {
-    let trigger = trigger_fits(image[at], wire::u16_at(image, at + 4), stages, marks);
-    let sense = sense_fits(image[at + 1], wire::u16_at(image, at + 6), conditions);
-    let target = wire::u16_at(image, at + 8) as u32;
-    trigger & sense & (image[at + 2] <= 1) & (image[at + 3] == 0) & (target < marks)
+    let trigger = trigger_fits(
+        image[at],
+        wire::u16_at(image, at + NUMBER_AT),
+        stages,
+        marks,
+    );
+    let sense = sense_fits(
+        image[at + SENSE_AT],
+        wire::u16_at(image, at + CONDITION_AT),
+        conditions,
+    );
+    let target = wire::u16_at(image, at + TARGET_AT) as u32;
+    trigger
+        & sense
+        & (image[at + EFFECT_AT] <= EFFECT_SET)
+        & (image[at + SPARE_AT] == 0)
+        & (target < marks)
 }
 
 // The lowest rule that is bad, or the number of rules.
@@ -71,9 +119,9 @@ fn trigger_of(kind: u8, n: u16) -> Trigger
     ensures { λ r. ⌜ r ≡ triggerFrom kind n ⌝ }
 {
     match kind {
-        0 => Trigger::None,
-        1 => Trigger::Completed(n),
-        2 => Trigger::BecomeYes(n),
+        TRIGGER_NONE => Trigger::None,
+        TRIGGER_COMPLETED => Trigger::Completed(n),
+        TRIGGER_BECOME_YES => Trigger::BecomeYes(n),
         _ => Trigger::BecomeNo(n),
     }
 }
@@ -82,8 +130,8 @@ fn sense_of(sense: u8, c: u16) -> Sense
     ensures { λ r. ⌜ r ≡ senseFrom sense c ⌝ }
 {
     match sense {
-        0 => Sense::NoCondition,
-        1 => Sense::AsWritten(c),
+        SENSE_NONE => Sense::NoCondition,
+        SENSE_AS_WRITTEN => Sense::AsWritten(c),
         _ => Sense::Negated(c),
     }
 }
@@ -93,12 +141,12 @@ pub fn rule_at(image: &[u8], i: usize) -> Rule
     ensures { λ r. ⌜ r ≡ ruleFrom (now (image .entry)) (rulePlace i) ⌝ }
 {
     let at = BOOK_HEADER + RULE_SIZE * i;
-    let trigger = trigger_of(image[at], wire::u16_at(image, at + 4));
-    let sense = sense_of(image[at + 1], wire::u16_at(image, at + 6));
+    let trigger = trigger_of(image[at], wire::u16_at(image, at + NUMBER_AT));
+    let sense = sense_of(image[at + SENSE_AT], wire::u16_at(image, at + CONDITION_AT));
     Rule {
         trigger,
         sense,
-        effect: image[at + 2] == 1,
-        target: wire::u16_at(image, at + 8),
+        effect: image[at + EFFECT_AT] == EFFECT_SET,
+        target: wire::u16_at(image, at + TARGET_AT),
     }
 }

@@ -10,9 +10,8 @@ use borrow.Author.Tests.{eqb-true, eqb-false, ne-eqb, lt-ltb, ltb-true}
 use Rattle.paper.specs.Limits.{maxMarks, maxEvents, ruleSize}
 use Rattle.general.specs.Cases.{cases}
 use Rattle.sets.specs.Set.{union, inter, only, allBelow}
-use Rattle.wire.specs.Wire.{u16At}
 use Rattle.book.specs.Book.{ruleOf}
-use Rattle.book.specs.Image.{rulesIn, rulePlace, triggerFrom, senseFrom, ruleFrom, bookOf}
+use Rattle.book.specs.Image.{rulesIn, rulePlace, triggerFrom, senseFrom, ruleFrom, bookOf, kindAt, senseAt, effectAt, numberAt, conditionAt, targetAt}
 use Rattle.book.specs.Read.{rules-count, rule-read}
 use Rattle.book.specs.declared.Rule.{Rule}
 use Rattle.book.specs.WellFormed.{WellFormed}
@@ -57,20 +56,20 @@ senses-bytes x y c d =
     or-no false = refl
 
 module _ (s : List ℕ) (a b : ℕ) where
-  pub stages-both : (m n : ℕ) → m ≡ u16At s (a + 4) → n ≡ u16At s (b + 4) → (eqb (getD s a 0) 1 && eqb (getD s b 0) 1) ≡ true
+  pub stages-both : (m n : ℕ) → m ≡ numberAt s a → n ≡ numberAt s b → (eqb (kindAt s a) 1 && eqb (kindAt s b) 1) ≡ true
       → not (eqb m n) ≡ otherStages (ruleFrom s a .trigger) (ruleFrom s b .trigger)
   unfolding ruleFrom
-  stages-both m n e f t = rw (e, f) (rw t at (stages-bytes (getD s a 0) (getD s b 0) (u16At s (a + 4)) (u16At s (b + 4))))
+  stages-both m n e f t = rw (e, f) (rw t at (stages-bytes (kindAt s a) (kindAt s b) (numberAt s a) (numberAt s b)))
 
-  pub stages-none : (eqb (getD s a 0) 1 && eqb (getD s b 0) 1) ≡ false → false ≡ otherStages (ruleFrom s a .trigger) (ruleFrom s b .trigger)
+  pub stages-none : (eqb (kindAt s a) 1 && eqb (kindAt s b) 1) ≡ false → false ≡ otherStages (ruleFrom s a .trigger) (ruleFrom s b .trigger)
   unfolding ruleFrom
-  stages-none t = rw t at (stages-bytes (getD s a 0) (getD s b 0) (u16At s (a + 4)) (u16At s (b + 4)))
+  stages-none t = rw t at (stages-bytes (kindAt s a) (kindAt s b) (numberAt s a) (numberAt s b))
 
-  pub senses-read : (c d : ℕ) → c ≡ u16At s (a + 6) → d ≡ u16At s (b + 6)
-      → (((eqb (getD s (a + 1) 0) 1 && ltb 1 (getD s (b + 1) 0)) || (ltb 1 (getD s (a + 1) 0) && eqb (getD s (b + 1) 0) 1)) && eqb c d)
+  pub senses-read : (c d : ℕ) → c ≡ conditionAt s a → d ≡ conditionAt s b
+      → (((eqb (senseAt s a) 1 && ltb 1 (senseAt s b)) || (ltb 1 (senseAt s a) && eqb (senseAt s b) 1)) && eqb c d)
       ≡ oppositeSenses (ruleFrom s a .sense) (ruleFrom s b .sense)
   unfolding ruleFrom
-  senses-read c d e f = rw (e, f) (senses-bytes (getD s (a + 1) 0) (getD s (b + 1) 0) (u16At s (a + 6)) (u16At s (b + 6)))
+  senses-read c d e f = rw (e, f) (senses-bytes (senseAt s a) (senseAt s b) (conditionAt s a) (conditionAt s b))
 
 module _ (p q : Rule) (r : Bool) (e : r ≡ otherStages (p .trigger) (q .trigger)) where
   pub apart-stages : r ≡ true → true ≡ apart p q
@@ -84,11 +83,11 @@ module _ (p q : Rule) (r : Bool) (e : r ≡ otherStages (p .trigger) (q .trigger
 -- ---- the rules of an image
 
 module _ (s : List ℕ) where
-  does-bytes : (r t k : ℕ) (on : Bool) → r < rulesIn s → t ≡ u16At s (rulePlace r + 8) → on ≡ eqb (getD s (rulePlace r + 2) 0) 1 → k ≡ side t on → k ≡ does (bookOf s) r
+  does-bytes : (r t k : ℕ) (on : Bool) → r < rulesIn s → t ≡ targetAt s (rulePlace r) → on ≡ eqb (effectAt s (rulePlace r)) 1 → k ≡ side t on → k ≡ does (bookOf s) r
   unfolding ruleFrom
   does-bytes r t k on h e f g = rw (rule-read s r h) (g ∙ rw (e, f))
 
-  undoes-bytes : (r t k : ℕ) (on : Bool) → r < rulesIn s → t ≡ u16At s (rulePlace r + 8) → on ≡ eqb (getD s (rulePlace r + 2) 0) 1 → k ≡ side t (not on) → k ≡ undoes (bookOf s) r
+  undoes-bytes : (r t k : ℕ) (on : Bool) → r < rulesIn s → t ≡ targetAt s (rulePlace r) → on ≡ eqb (effectAt s (rulePlace r)) 1 → k ≡ side t (not on) → k ≡ undoes (bookOf s) r
   unfolding ruleFrom
   undoes-bytes r t k on h e f g = rw (rule-read s r h) (g ∙ rw (e, f))
 
@@ -124,7 +123,7 @@ module _ (s : List ℕ) (rules : ℕ) (same opposite : List ℕ) where
       pub linking-inside : rulePlace (r - 1) + ruleSize ≤ length s
       linking-inside = rule-inside s (g .formed) (r - 1) inside
 
-      pub linking-mark : (t : ℕ) → t ≡ u16At s (rulePlace (r - 1) + 8) → t < maxMarks
+      pub linking-mark : (t : ℕ) → t ≡ targetAt s (rulePlace (r - 1)) → t < maxMarks
       linking-mark t e =
           let k = g .formed .rules (r - 1) inside .target in
           let m = g .formed .headed .counted .marks in
@@ -133,8 +132,8 @@ module _ (s : List ℕ) (rules : ℕ) (same opposite : List ℕ) where
       pub linking-stage : triggerExists maxEvents maxMarks (ruleFrom s (rulePlace (r - 1)) .trigger) ≡ true
       linking-stage = rw (rule-read s (r - 1) inside) at (g .linked .known (r - 1) (let e = linking-known in let i = inside in omega arith))
 
-      pub linking-on : (t here there own v low′ met : ℕ) → t ≡ u16At s (rulePlace (r - 1) + 8) → here ≡ side t (eqb (getD s (rulePlace (r - 1) + 2) 0) 1)
-          → there ≡ side t (not (eqb (getD s (rulePlace (r - 1) + 2) 0) 1)) → own ≡ stagesOf (ruleFrom s (rulePlace (r - 1)) .trigger)
+      pub linking-on : (t here there own v low′ met : ℕ) → t ≡ targetAt s (rulePlace (r - 1)) → here ≡ side t (eqb (effectAt s (rulePlace (r - 1))) 1)
+          → there ≡ side t (not (eqb (effectAt s (rulePlace (r - 1))) 1)) → own ≡ stagesOf (ruleFrom s (rulePlace (r - 1)) .trigger)
           → v ≡ cond (eqb (inter own (getD stages there 0)) 0) rules (getD next there 0) → low′ ≡ cond (ltb v rules) (r - 1) low → met ≡ union (getD stages here 0) own
           → Linking s rules (set same (r - 1) (getD next here 0)) (set opposite (r - 1) v) (set next here (r - 1)) (set stages here met) low′ (r - 1)
       linking-on t here there own v low′ met e f k o q x y =
@@ -142,7 +141,7 @@ module _ (s : List ℕ) (rules : ℕ) (same opposite : List ℕ) where
           rw (x, y) (record {
             formed = g .formed;
             linked = linked-more (bookOf s) rules same opposite next stages low (r - 1) here there own (subst (λ x. Linked (bookOf s) rules same opposite next stages low x) z (g .linked))
-                (rw (rule-read s (r - 1) inside) (unfold ruleFrom in linking-mark (u16At s (rulePlace (r - 1) + 8)) refl))
+                (rw (rule-read s (r - 1) inside) (unfold ruleFrom in linking-mark (targetAt s (rulePlace (r - 1))) refl))
                 (does-bytes s (r - 1) t here _ inside e refl f) (undoes-bytes s (r - 1) t there _ inside e refl k) (rw (rule-read s (r - 1) inside) o) v q;
           })
 
@@ -152,15 +151,15 @@ module _ (s : List ℕ) (rules : ℕ) (same opposite : List ℕ) where
 -- ---- the stages of a rule
 
 module _ (s : List ℕ) (at : ℕ) where
-  pub stage-fits : (n : ℕ) → triggerExists maxEvents maxMarks (ruleFrom s at .trigger) ≡ true → getD s at 0 ≡ 1 → n ≡ u16At s (at + 4) → n < maxEvents
+  pub stage-fits : (n : ℕ) → triggerExists maxEvents maxMarks (ruleFrom s at .trigger) ≡ true → kindAt s at ≡ 1 → n ≡ numberAt s at → n < maxEvents
   unfolding ruleFrom triggerFrom triggerExists
-  stage-fits n h e f = rw f (ltb-true (u16At s (at + 4)) maxEvents (rw e at h))
+  stage-fits n h e f = rw f (ltb-true (numberAt s at) maxEvents (rw e at h))
 
-  pub stages-one : (n r : ℕ) → getD s at 0 ≡ 1 → n ≡ u16At s (at + 4) → r ≡ only n → r ≡ stagesOf (ruleFrom s at .trigger)
+  pub stages-one : (n r : ℕ) → kindAt s at ≡ 1 → n ≡ numberAt s at → r ≡ only n → r ≡ stagesOf (ruleFrom s at .trigger)
   unfolding ruleFrom triggerFrom stagesOf
   stages-one n r e f g = rw (g, f, e)
 
-  pub stages-all : (r : ℕ) → (getD s at 0 ≡ 1 → ⊥) → r ≡ allBelow maxEvents → r ≡ stagesOf (ruleFrom s at .trigger)
+  pub stages-all : (r : ℕ) → (kindAt s at ≡ 1 → ⊥) → r ≡ allBelow maxEvents → r ≡ stagesOf (ruleFrom s at .trigger)
   unfolding ruleFrom triggerFrom stagesOf
   stages-all r n g =
-      g ∙ rw (ne-eqb (getD s at 0) 1 n) (cases (eqb (getD s at 0) 0) (λ e. rw e) (λ e. cases (eqb (getD s at 0) 2) (λ f. rw (e, f)) (λ f. rw (e, f))))
+      g ∙ rw (ne-eqb (kindAt s at) 1 n) (cases (eqb (kindAt s at) 0) (λ e. rw e) (λ e. cases (eqb (kindAt s at) 2) (λ f. rw (e, f)) (λ f. rw (e, f))))

@@ -12,6 +12,14 @@ ghost use Rattle.book.specs.WellFormed.{WellFormed};
 ghost use Rattle.clashes.specs.Clash.{otherStages, oppositeSenses, apart};
 ghost use Rattle.clashes.specs.Pairs.{clashFirst, clashSecond};
 ghost use Rattle.clashes.specs.Chains.{side, stagesOf, Chained};
+use book::rules::CONDITION_AT;
+use book::rules::EFFECT_AT;
+use book::rules::EFFECT_SET;
+use book::rules::NUMBER_AT;
+use book::rules::SENSE_AS_WRITTEN;
+use book::rules::SENSE_AT;
+use book::rules::TARGET_AT;
+use book::rules::TRIGGER_COMPLETED;
 use paper::BOOK_HEADER;
 use paper::MAX_EVENTS;
 use paper::MAX_MARKS;
@@ -41,8 +49,8 @@ fn stages_of(image: &[u8], at: usize) -> u64
     requires { ⌜ (at + ruleSize ≤ length (now image)) × (triggerExists maxEvents maxMarks (ruleFrom (now image) at .trigger) ≡ true) ⌝ }
     ensures { λ r. ⌜ r ≡ stagesOf (ruleFrom (now (image .entry)) at .trigger) ⌝ }
 {
-    if image[at] == 1 {
-        return sets::one(wire::u16_at(image, at + 4) as usize);
+    if image[at] == TRIGGER_COMPLETED {
+        return sets::one(wire::u16_at(image, at + NUMBER_AT) as usize);
     }
     sets::all_below(MAX_EVENTS)
 }
@@ -75,8 +83,8 @@ fn chain(image: &[u8], rules: usize, same: &mut [u16], opposite: &mut [u16]) -> 
     while 0 < r {
         r -= 1;
         let at = BOOK_HEADER + RULE_SIZE * r;
-        let target = wire::u16_at(image, at + 8);
-        let set = image[at + 2] == 1;
+        let target = wire::u16_at(image, at + TARGET_AT);
+        let set = image[at + EFFECT_AT] == EFFECT_SET;
         let here = side(target, set);
         let there = side(target, !set);
         let own = stages_of(image, at);
@@ -95,8 +103,8 @@ fn stages_differ(image: &[u8], a: usize, b: usize) -> bool
     requires { ⌜ (a + ruleSize ≤ length (now image)) × (b + ruleSize ≤ length (now image)) ⌝ }
     ensures { λ r. ⌜ r ≡ otherStages (ruleFrom (now (image .entry)) a .trigger) (ruleFrom (now (image .entry)) b .trigger) ⌝ }
 {
-    if (image[a] == 1) & (image[b] == 1) {
-        return wire::u16_at(image, a + 4) != wire::u16_at(image, b + 4);
+    if (image[a] == TRIGGER_COMPLETED) & (image[b] == TRIGGER_COMPLETED) {
+        return wire::u16_at(image, a + NUMBER_AT) != wire::u16_at(image, b + NUMBER_AT);
     }
     false
 }
@@ -106,10 +114,11 @@ fn senses_oppose(image: &[u8], a: usize, b: usize) -> bool
     requires { ⌜ (a + ruleSize ≤ length (now image)) × (b + ruleSize ≤ length (now image)) ⌝ }
     ensures { λ r. ⌜ r ≡ oppositeSenses (ruleFrom (now (image .entry)) a .sense) (ruleFrom (now (image .entry)) b .sense) ⌝ }
 {
-    let x = image[a + 1];
-    let y = image[b + 1];
-    let opposite = ((x == 1) & (1 < y)) | ((1 < x) & (y == 1));
-    opposite & (wire::u16_at(image, a + 6) == wire::u16_at(image, b + 6))
+    let x = image[a + SENSE_AT];
+    let y = image[b + SENSE_AT];
+    let opposite = ((x == SENSE_AS_WRITTEN) & (SENSE_AS_WRITTEN < y))
+        | ((SENSE_AS_WRITTEN < x) & (y == SENSE_AS_WRITTEN));
+    opposite & (wire::u16_at(image, a + CONDITION_AT) == wire::u16_at(image, b + CONDITION_AT))
 }
 
 fn are_apart(image: &[u8], p: usize, q: usize) -> bool

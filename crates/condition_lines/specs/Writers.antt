@@ -6,8 +6,8 @@ use lib.ListN.{length}
 use lib.Seq.{ext-getD}
 use borrow.Author.Tests.{ne-eqb}
 use Rattle.paper.specs.Limits.{wordSize, andWord, orWord, notWord}
-use Rattle.wire.specs.Wire.{u16At, u32At}
-use Rattle.book.specs.Image.{conditionPlace, wordPlace}
+use Rattle.wire.specs.Wire.{u16At}
+use Rattle.book.specs.Image.{conditionPlace, wordPlace, startAt, countAt}
 use Rattle.general.specs.Lists.{flat, packed, packed-one, each, length-each, getD-each}
 use Rattle.book.specs.Read.{wordsFrom, length-words, getD-words}
 use Rattle.book.specs.Reading.{spanFrom}
@@ -20,11 +20,11 @@ use Rattle.condition_lines.specs.Text.{wordText, conditionLine}
 
 -- where R rules and Q conditions stand before the words
 unfoldable pub conditionLineAt : List ℕ → ℕ → ℕ → ℕ → List ℕ
-conditionLineAt s R Q c = conditionLine c (wordsFrom s (wordPlace R Q (u32At s (conditionPlace R c))) (u32At s (conditionPlace R c + 4)))
+conditionLineAt s R Q c = conditionLine c (wordsFrom s (wordPlace R Q (startAt s (conditionPlace R c))) (countAt s (conditionPlace R c)))
 
 pub record ConditionsIn (s : List ℕ) (R Q : ℕ) : Type 0 where
   pub long : conditionPlace R Q ≤ length s
-  pub inside : (c : ℕ) → c < Q → wordPlace R Q (u32At s (conditionPlace R c)) + wordSize * u32At s (conditionPlace R c + 4) ≤ length s
+  pub inside : (c : ℕ) → c < Q → wordPlace R Q (startAt s (conditionPlace R c)) + wordSize * countAt s (conditionPlace R c) ≤ length s
 
 -- the words one by one
 pub words-each : (s : List ℕ) (at n : ℕ) → wordsFrom s at n ≡ each n (λ i. u16At s (at + wordSize * i))

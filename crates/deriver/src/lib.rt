@@ -9,6 +9,14 @@ ghost use Rattle.general.specs.Writing.{Wrote};
 ghost use Rattle.deriver.specs.Deriving.{derivingAnswer, derivedRoom, bookRuns, BookReady};
 ghost use Rattle.deriver.specs.Matching.{matchingOf};
 use book::Snapshot;
+use book::header::CONDITION_COUNT_AT;
+use book::header::CONDITIONS_OFFSET_AT;
+use book::header::MARK_COUNT_AT;
+use book::header::RULE_COUNT_AT;
+use book::header::RULES_OFFSET_AT;
+use book::header::STAGE_COUNT_AT;
+use book::header::WORD_COUNT_AT;
+use book::header::WORDS_OFFSET_AT;
 use graph::FlatChart;
 use graph::Marking;
 use paper::Answer;
@@ -36,14 +44,14 @@ fn put_header(room: &mut [u8], n: u32, rules: u32, words: u32) -> usize
 {
     let conditions = BOOK_HEADER + RULE_SIZE * rules as usize;
     let texts = conditions + CONDITION_SIZE * n as usize;
-    wire::put32(room, 0, n);
-    wire::put32(room, 4, 4 * n);
-    wire::put32(room, 8, rules);
-    wire::put32(room, 12, n);
-    wire::put32(room, 16, words);
-    wire::put32(room, 20, BOOK_HEADER as u32);
-    wire::put32(room, 24, conditions as u32);
-    wire::put32(room, 28, texts as u32);
+    wire::put32(room, STAGE_COUNT_AT, n);
+    wire::put32(room, MARK_COUNT_AT, 4 * n);
+    wire::put32(room, RULE_COUNT_AT, rules);
+    wire::put32(room, CONDITION_COUNT_AT, n);
+    wire::put32(room, WORD_COUNT_AT, words);
+    wire::put32(room, RULES_OFFSET_AT, BOOK_HEADER as u32);
+    wire::put32(room, CONDITIONS_OFFSET_AT, conditions as u32);
+    wire::put32(room, WORDS_OFFSET_AT, texts as u32);
     BOOK_HEADER
 }
 

@@ -5,18 +5,17 @@ use mathlib.Core.List.{List}
 use Prim.Native.Nat.{ℕ, _+_, _*_, _/_, _≤_, _<_}
 use native.Mathlib.Omega.{arith}
 use lib.Dec.{eqb, leb}
-use lib.ListN.{length, getD, replicate, length-replicate}
+use lib.ListN.{length, replicate, length-replicate}
 use borrow.Author.Tests.{eqb-true, eqb-false, eq-eqb, leb-true, le-leb, lt-leb}
 use Rattle.paper.specs.Limits.{maxMarks}
 use Rattle.general.specs.Cases.{cases, same-test}
 use Rattle.general.specs.Below.{some, some-step, first}
-use Rattle.wire.specs.Wire.{u16At}
 use Rattle.closure.specs.BitRows.{bit, putBit, takeRow, closed}
 use Rattle.closure.specs.Reached.{take-bit, take-other, put-bit, bit-zeros, length-takeRow, length-putBit}
 use Rattle.order_theory.specs.Loops.{leads, loop-rows}
 use Rattle.book.specs.Book.{ruleOf}
 use Rattle.book.specs.Firing.{refers}
-use Rattle.book.specs.Image.{rulesIn, marksIn, rulePlace, ruleFrom, bookOf}
+use Rattle.book.specs.Image.{rulesIn, marksIn, rulePlace, ruleFrom, bookOf, kindAt, senseAt, numberAt, conditionAt, targetAt}
 use Rattle.book.specs.Read.{rules-count, rule-read}
 use Rattle.book.specs.Marks.{wordBits, markWords}
 use Rattle.book.specs.WellFormed.{WellFormed}
@@ -28,11 +27,11 @@ use Rattle.loops.specs.Linked.{linkWords, withCondition, withTrigger, Li
 -- ---- one rule
 
 module _ (s : List ℕ) (w : WellFormed s) (r : ℕ) (h : r < rulesIn s) where
-  pub target-low : (t : ℕ) → t ≡ u16At s (rulePlace r + 8) → t < maxMarks
+  pub target-low : (t : ℕ) → t ≡ targetAt s (rulePlace r) → t < maxMarks
   target-low t e = let i = w .rules r h .target in let j = w .headed .counted .marks in omega arith
 
   -- a row of a target, and a row of a condition
-  pub link-row : (rows refs : List ℕ) (t c : ℕ) → length rows ≡ linkWords → References s refs → 1 ≤ getD s (rulePlace r + 1) 0 → t ≡ u16At s (rulePlace r + 8) → c ≡ u16At s (rulePlace r + 6)
+  pub link-row : (rows refs : List ℕ) (t c : ℕ) → length rows ≡ linkWords → References s refs → 1 ≤ senseAt s (rulePlace r) → t ≡ targetAt s (rulePlace r) → c ≡ conditionAt s (rulePlace r)
       → (t * markWords + markWords ≤ length rows) × (c * markWords + markWords ≤ length refs)
   link-row rows refs t c l f i e g =
       let a = target-low t e in
@@ -40,7 +39,7 @@ module _ (s : List ℕ) (w : WellFormed s) (r : ℕ) (h : r < rulesIn s) where
       let n = f .size in
       (omega arith, omega arith)
 
-  pub link-bit : (rows : List ℕ) (t m : ℕ) → length rows ≡ linkWords → 2 ≤ getD s (rulePlace r) 0 → t ≡ u16At s (rulePlace r + 8) → m ≡ u16At s (rulePlace r + 4)
+  pub link-bit : (rows : List ℕ) (t m : ℕ) → length rows ≡ linkWords → 2 ≤ kindAt s (rulePlace r) → t ≡ targetAt s (rulePlace r) → m ≡ numberAt s (rulePlace r)
       → t * markWords + m / wordBits < length rows
   link-bit rows t m l i e g =
       let a = target-low t e in
@@ -49,57 +48,57 @@ module _ (s : List ℕ) (w : WellFormed s) (r : ℕ) (h : r < rulesIn s) where
 
 -- the branches of the code
 module _ (s rows : List ℕ) (r : ℕ) where
-  pub condition-taken : (refs next : List ℕ) (t c : ℕ) → 1 ≤ getD s (rulePlace r + 1) 0 → t ≡ u16At s (rulePlace r + 8) → c ≡ u16At s (rulePlace r + 6)
+  pub condition-taken : (refs next : List ℕ) (t c : ℕ) → 1 ≤ senseAt s (rulePlace r) → t ≡ targetAt s (rulePlace r) → c ≡ conditionAt s (rulePlace r)
       → next ≡ takeRow markWords t c refs rows → next ≡ withCondition s refs rows r
   unfolding withCondition
-  condition-taken refs next t c h e f g = rw (le-leb 1 (getD s (rulePlace r + 1) 0) h) (g ∙ rw (e, f))
+  condition-taken refs next t c h e f g = rw (le-leb 1 (senseAt s (rulePlace r)) h) (g ∙ rw (e, f))
 
-  pub condition-left : (refs : List ℕ) → getD s (rulePlace r + 1) 0 < 1 → rows ≡ withCondition s refs rows r
+  pub condition-left : (refs : List ℕ) → senseAt s (rulePlace r) < 1 → rows ≡ withCondition s refs rows r
   unfolding withCondition
-  condition-left refs h = rw (lt-leb 1 (getD s (rulePlace r + 1) 0) h)
+  condition-left refs h = rw (lt-leb 1 (senseAt s (rulePlace r)) h)
 
-  pub trigger-taken : (next : List ℕ) (t m : ℕ) → 2 ≤ getD s (rulePlace r) 0 → t ≡ u16At s (rulePlace r + 8) → m ≡ u16At s (rulePlace r + 4) → next ≡ putBit rows markWords t m
+  pub trigger-taken : (next : List ℕ) (t m : ℕ) → 2 ≤ kindAt s (rulePlace r) → t ≡ targetAt s (rulePlace r) → m ≡ numberAt s (rulePlace r) → next ≡ putBit rows markWords t m
       → next ≡ withTrigger s rows r
   unfolding withTrigger
-  trigger-taken next t m h e f g = rw (le-leb 2 (getD s (rulePlace r) 0) h) (g ∙ rw (e, f))
+  trigger-taken next t m h e f g = rw (le-leb 2 (kindAt s (rulePlace r)) h) (g ∙ rw (e, f))
 
-  pub trigger-left : getD s (rulePlace r) 0 < 2 → rows ≡ withTrigger s rows r
+  pub trigger-left : kindAt s (rulePlace r) < 2 → rows ≡ withTrigger s rows r
   unfolding withTrigger
-  trigger-left h = rw (lt-leb 2 (getD s (rulePlace r) 0) h)
+  trigger-left h = rw (lt-leb 2 (kindAt s (rulePlace r)) h)
 
   length-condition : (refs : List ℕ) → length (withCondition s refs rows r) ≡ length rows
   unfolding withCondition
-  length-condition refs = cases (leb 1 (getD s (rulePlace r + 1) 0)) (λ e. rw e (length-takeRow markWords _ _ refs rows)) (λ e. rw e)
+  length-condition refs = cases (leb 1 (senseAt s (rulePlace r))) (λ e. rw e (length-takeRow markWords _ _ refs rows)) (λ e. rw e)
 
   length-trigger : length (withTrigger s rows r) ≡ length rows
   unfolding withTrigger
-  length-trigger = cases (leb 2 (getD s (rulePlace r) 0)) (λ e. rw e (length-putBit rows markWords _ _)) (λ e. rw e)
+  length-trigger = cases (leb 2 (kindAt s (rulePlace r))) (λ e. rw e (length-putBit rows markWords _ _)) (λ e. rw e)
 
 eqb-turned : (a b : ℕ) → eqb a b ≡ eqb b a
 eqb-turned a b = same-test (eqb a b) (eqb b a) (λ e. eq-eqb b a (sym (eqb-true a b e))) (λ e. eq-eqb a b (sym (eqb-true b a e)))
 
 module _ (s refs rows : List ℕ) (w : WellFormed s) (f : References s refs) (l : length rows ≡ linkWords) (r : ℕ) (h : r < rulesIn s) (b a : ℕ) (i : b < maxMarks) (j : a < maxMarks) where
   condition-bit : bit (withCondition s refs rows r) markWords b a
-      ≡ (bit rows markWords b a || (eqb (u16At s (rulePlace r + 8)) b && (leb 1 (getD s (rulePlace r + 1) 0) && bit refs markWords (u16At s (rulePlace r + 6)) a)))
+      ≡ (bit rows markWords b a || (eqb (targetAt s (rulePlace r)) b && (leb 1 (senseAt s (rulePlace r)) && bit refs markWords (conditionAt s (rulePlace r)) a)))
   unfolding withCondition
   condition-bit =
-      let t : ℕ = u16At s (rulePlace r + 8) in
-      let c : ℕ = u16At s (rulePlace r + 6) in
+      let t : ℕ = targetAt s (rulePlace r) in
+      let c : ℕ = conditionAt s (rulePlace r) in
       let q = target-low s w r h t refl in
-      cases (leb 1 (getD s (rulePlace r + 1) 0))
+      cases (leb 1 (senseAt s (rulePlace r)))
       (λ e. rw e (cases (eqb t b)
       (λ x. rw (x, eqb-true t b x) (take-bit markWords b c refs rows (omega arith) a (omega arith)))
       (λ x. rw x (take-other markWords t c refs rows (omega arith) b a (λ z. eqb-false t b x (sym z)) (omega arith) ∙ sym (or-false (bit rows markWords b a))))))
       (λ e. rw (e, and-false (eqb t b)) (sym (or-false (bit rows markWords b a))))
 
   trigger-bit : bit (withTrigger s rows r) markWords b a
-      ≡ (bit rows markWords b a || (eqb (u16At s (rulePlace r + 8)) b && (leb 2 (getD s (rulePlace r) 0) && eqb a (u16At s (rulePlace r + 4)))))
+      ≡ (bit rows markWords b a || (eqb (targetAt s (rulePlace r)) b && (leb 2 (kindAt s (rulePlace r)) && eqb a (numberAt s (rulePlace r)))))
   unfolding withTrigger
   trigger-bit =
-      let t : ℕ = u16At s (rulePlace r + 8) in
-      let m : ℕ = u16At s (rulePlace r + 4) in
-      cases (leb 2 (getD s (rulePlace r) 0))
-      (λ e. let k = leb-true 2 (getD s (rulePlace r) 0) e in
+      let t : ℕ = targetAt s (rulePlace r) in
+      let m : ℕ = numberAt s (rulePlace r) in
+      cases (leb 2 (kindAt s (rulePlace r)))
+      (λ e. let k = leb-true 2 (kindAt s (rulePlace r)) e in
       let n = awaited-in s r w h m k refl in
       rw (e, eqb-turned a m) (put-bit rows markWords t m b a (link-bit s w r h rows t m l k refl refl) (omega arith) (omega arith)))
       (λ e. rw (e, and-false (eqb t b)) (sym (or-false (bit rows markWords b a))))
@@ -156,7 +155,7 @@ linking-more s refs rows next last r g h e d =
       size = ap length d ∙ length-trigger s next r ∙ n;
       holds = λ a b i j.
           rw (d, trigger-bit s refs next w f n r h b a j i, e, condition-bit s refs rows w f (g .size) r h b a j i, some-step, g .holds a b i j, refers-bytes s refs r a w h f i, rule-read s r h)
-          (shuffle (some r (λ q. refers (bookOf s) q a && eqb (ruleOf (bookOf s) q .target) b)) (eqb (u16At s (rulePlace r + 8)) b) (leb 2 (getD s (rulePlace r) 0) && eqb a (u16At s (rulePlace r + 4))) (leb 1 (getD s (rulePlace r + 1) 0) && bit refs markWords (u16At s (rulePlace r + 6)) a));
+          (shuffle (some r (λ q. refers (bookOf s) q a && eqb (ruleOf (bookOf s) q .target) b)) (eqb (targetAt s (rulePlace r)) b) (leb 2 (kindAt s (rulePlace r)) && eqb a (numberAt s (rulePlace r))) (leb 1 (senseAt s (rulePlace r)) && bit refs markWords (conditionAt s (rulePlace r)) a));
     }
 
 pub linking-last : (s refs rows : List ℕ) (r : ℕ) → Linking s refs rows r → rulesIn s ≤ r → LinkedMarks s rows

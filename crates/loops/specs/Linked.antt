@@ -2,14 +2,13 @@
 use mathlib.Core.Bool.{cond}
 use mathlib.Core.Path.{_≡_}
 use mathlib.Core.List.{List}
-use Prim.Native.Nat.{ℕ, _+_, _*_, _<_}
+use Prim.Native.Nat.{ℕ, _*_, _<_}
 use lib.Dec.{leb}
-use lib.ListN.{length, getD}
+use lib.ListN.{length}
 use Rattle.paper.specs.Limits.{maxMarks}
-use Rattle.wire.specs.Wire.{u16At}
 use Rattle.closure.specs.BitRows.{bit, putBit, takeRow}
 use Rattle.order_theory.specs.Loops.{leads}
-use Rattle.book.specs.Image.{rulePlace, bookOf}
+use Rattle.book.specs.Image.{rulePlace, bookOf, kindAt, senseAt, numberAt, conditionAt, targetAt}
 use Rattle.book.specs.Marks.{markWords}
 use Rattle.rule_order.specs.Rules.{netOf}
 
@@ -19,10 +18,10 @@ linkWords = maxMarks * markWords
 
 -- the row of rule r's target takes in the row of its condition, and then the mark of its become trigger
 unfoldable pub withCondition : List ℕ → List ℕ → List ℕ → ℕ → List ℕ
-withCondition s refs rows r = cond (leb 1 (getD s (rulePlace r + 1) 0)) (takeRow markWords (u16At s (rulePlace r + 8)) (u16At s (rulePlace r + 6)) refs rows) rows
+withCondition s refs rows r = cond (leb 1 (senseAt s (rulePlace r))) (takeRow markWords (targetAt s (rulePlace r)) (conditionAt s (rulePlace r)) refs rows) rows
 
 unfoldable pub withTrigger : List ℕ → List ℕ → ℕ → List ℕ
-withTrigger s rows r = cond (leb 2 (getD s (rulePlace r) 0)) (putBit rows markWords (u16At s (rulePlace r + 8)) (u16At s (rulePlace r + 4))) rows
+withTrigger s rows r = cond (leb 2 (kindAt s (rulePlace r))) (putBit rows markWords (targetAt s (rulePlace r)) (numberAt s (rulePlace r))) rows
 
 -- row b has a exactly if some rule refers to a and targets b
 pub record LinkedMarks (s rows : List ℕ) : Type 0 where

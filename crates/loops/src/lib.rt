@@ -7,6 +7,12 @@ ghost use Rattle.book.specs.WellFormed.{WellFormed};
 ghost use Rattle.rule_order.specs.References.{References};
 ghost use Rattle.loops.specs.Linked.{linkWords, withCondition, withTrigger, LinkedMarks};
 ghost use Rattle.loops.specs.Places.{loopPlace};
+use book::rules::CONDITION_AT;
+use book::rules::NUMBER_AT;
+use book::rules::SENSE_AS_WRITTEN;
+use book::rules::SENSE_AT;
+use book::rules::TARGET_AT;
+use book::rules::TRIGGER_BECOME_YES;
 use paper::BOOK_HEADER;
 use paper::MAX_MARKS;
 use paper::RULE_SIZE;
@@ -22,22 +28,22 @@ fn link_condition(image: &[u8], r: usize, refs: &[u64; REFS], rows: &mut [u64])
     ensures { λ _. ⌜ now (rows .exit) ≡ withCondition (now (image .entry)) (now (refs .entry)) (now (rows .entry)) r ⌝ }
 {
     let at = BOOK_HEADER + RULE_SIZE * r;
-    if 1 <= image[at + 1] {
-        let target = wire::u16_at(image, at + 8) as usize;
-        let condition = wire::u16_at(image, at + 6) as usize;
+    if SENSE_AS_WRITTEN <= image[at + SENSE_AT] {
+        let target = wire::u16_at(image, at + TARGET_AT) as usize;
+        let condition = wire::u16_at(image, at + CONDITION_AT) as usize;
         closure::take_row(rows, MARK_WORDS, target, refs, condition);
     }
 }
 
-// And the mark that its trigger waits for: trigger kinds 2 and 3.
+// And the mark that its trigger waits for.
 fn link_trigger(image: &[u8], r: usize, rows: &mut [u64])
     requires { ⌜ (WellFormed (now image)) × (r < rulesIn (now image)) × (length (now rows) ≡ linkWords) ⌝ }
     ensures { λ _. ⌜ now (rows .exit) ≡ withTrigger (now (image .entry)) (now (rows .entry)) r ⌝ }
 {
     let at = BOOK_HEADER + RULE_SIZE * r;
-    if 2 <= image[at] {
-        let target = wire::u16_at(image, at + 8) as usize;
-        let mark = wire::u16_at(image, at + 4) as usize;
+    if TRIGGER_BECOME_YES <= image[at] {
+        let target = wire::u16_at(image, at + TARGET_AT) as usize;
+        let mark = wire::u16_at(image, at + NUMBER_AT) as usize;
         closure::put_bit(rows, MARK_WORDS, target, mark);
     }
 }

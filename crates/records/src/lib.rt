@@ -15,18 +15,34 @@ use paper::NO_PARENT;
 use paper::NODE_SIZE;
 use paper::RELATION_SIZE;
 
+// ---- the header's fields, at these bytes of the image
+const NODE_COUNT_AT: usize = 0;
+
+const RELATION_COUNT_AT: usize = 2;
+
+const NODES_OFFSET_AT: usize = 4;
+
+const RELATIONS_OFFSET_AT: usize = 6;
+
+// ---- the fields of a node, which begins with its parent, and of a relation, which begins with its from, at these bytes of the record
+const FLAGS_AT: usize = 2;
+
+const TO_AT: usize = 2;
+
+const KIND_AT: usize = 4;
+
 pub fn node_count(image: &[u8]) -> usize
     requires { ⌜ chartHeader ≤ length (now image) ⌝ }
     ensures { λ r. ⌜ r ≡ nodes (now (image .entry)) ⌝ }
 {
-    wire::u16_at(image, 0) as usize
+    wire::u16_at(image, NODE_COUNT_AT) as usize
 }
 
 pub fn relation_count(image: &[u8]) -> usize
     requires { ⌜ chartHeader ≤ length (now image) ⌝ }
     ensures { λ r. ⌜ r ≡ relations (now (image .entry)) ⌝ }
 {
-    wire::u16_at(image, 2) as usize
+    wire::u16_at(image, RELATION_COUNT_AT) as usize
 }
 
 pub fn parent_of(image: &[u8], i: usize) -> u16
@@ -40,7 +56,7 @@ pub fn flags_of(image: &[u8], i: usize) -> u16
     requires { ⌜ nodeAt i + nodeSize ≤ length (now image) ⌝ }
     ensures { λ r. ⌜ r ≡ flagsOf (now (image .entry)) i ⌝ }
 {
-    wire::u16_at(image, CHART_HEADER + NODE_SIZE * i + 2)
+    wire::u16_at(image, CHART_HEADER + NODE_SIZE * i + FLAGS_AT)
 }
 
 // The lower byte of the flags.
@@ -77,14 +93,14 @@ pub fn to_of(image: &[u8], n: usize, k: usize) -> u16
     requires { ⌜ (n ≡ nodes (now image)) × (relationAt n k + relationSize ≤ length (now image)) × (n ≤ maxNodes) × (k ≤ maxRelations) ⌝ }
     ensures { λ r. ⌜ r ≡ toOf (now (image .entry)) k ⌝ }
 {
-    wire::u16_at(image, relation_at(n, k) + 2)
+    wire::u16_at(image, relation_at(n, k) + TO_AT)
 }
 
 pub fn kind_of(image: &[u8], n: usize, k: usize) -> u16
     requires { ⌜ (n ≡ nodes (now image)) × (relationAt n k + relationSize ≤ length (now image)) × (n ≤ maxNodes) × (k ≤ maxRelations) ⌝ }
     ensures { λ r. ⌜ r ≡ kindOf (now (image .entry)) k ⌝ }
 {
-    wire::u16_at(image, relation_at(n, k) + 4)
+    wire::u16_at(image, relation_at(n, k) + KIND_AT)
 }
 
 pub fn out_of_range(image: &[u8]) -> bool
@@ -100,8 +116,8 @@ pub fn misplaced(image: &[u8], n: usize, k: usize) -> bool
     requires { ⌜ (chartHeader ≤ length (now image)) × (n ≡ nodes (now image)) × (k ≡ relations (now image)) × (n ≤ maxNodes) × (k ≤ maxRelations) ⌝ }
     ensures { λ r. ⌜ r ≡ misplaced (now (image .entry)) ⌝ }
 {
-    let nodes_at = wire::u16_at(image, 4) as usize;
-    let relations_at = wire::u16_at(image, 6) as usize;
+    let nodes_at = wire::u16_at(image, NODES_OFFSET_AT) as usize;
+    let relations_at = wire::u16_at(image, RELATIONS_OFFSET_AT) as usize;
     let whole = relation_at(n, k);
     let right = (nodes_at == CHART_HEADER)
         & (relations_at == CHART_HEADER + NODE_SIZE * n)

@@ -13,11 +13,10 @@ use Rattle.general.specs.Cases.{contra, cases, both, either, same-test, lt-suc,
 use Rattle.general.specs.Below.{some, some-of, some-at, some-none, some-same, find}
 use Rattle.sets.specs.Set.{has, inter}
 use Rattle.sets.specs.Laws.{has-inter, has-empty, none-zero, above}
-use Rattle.wire.specs.Wire.{u16At}
 use Rattle.closure.specs.BitRows.{bit}
 use Rattle.book.specs.Text.{elem}
 use Rattle.book.specs.Book.{Book, ruleOf, textOf}
-use Rattle.book.specs.Image.{rulesIn, conditionsIn, rulePlace, triggerFrom, senseFrom, ruleFrom, bookOf}
+use Rattle.book.specs.Image.{rulesIn, conditionsIn, rulePlace, triggerFrom, senseFrom, ruleFrom, bookOf, kindAt, senseAt, numberAt, conditionAt}
 use Rattle.book.specs.Read.{rule-read}
 use Rattle.book.specs.WellFormed.{WellFormed}
 use Rattle.book.specs.Marks.{wordBits, markWords, hasMark, marksOf, has-marks}
@@ -123,33 +122,33 @@ meeting-of rows marks c w x y z d e f g = rw (d, e, f, g)
 
 module _ (s : List ℕ) (r : ℕ) (g : WellFormed s) (h : r < rulesIn s) where
   -- trigger kinds 2 and 3 name a mark, and senses 1 and 2 a condition
-  pub awaited-in : (m : ℕ) → 2 ≤ getD s (rulePlace r) 0 → m ≡ u16At s (rulePlace r + 4) → m < maxMarks
+  pub awaited-in : (m : ℕ) → 2 ≤ kindAt s (rulePlace r) → m ≡ numberAt s (rulePlace r) → m < maxMarks
   awaited-in m l e = let i = g .rules r h .become l in let j = g .headed .counted .marks in omega arith
 
-  pub asked-in : (c : ℕ) → 1 ≤ getD s (rulePlace r + 1) 0 → c ≡ u16At s (rulePlace r + 6) → c < conditionsIn s
+  pub asked-in : (c : ℕ) → 1 ≤ senseAt s (rulePlace r) → c ≡ conditionAt s (rulePlace r) → c < conditionsIn s
   asked-in c l e = rw e (g .rules r h .condition l)
 
-  pub asked-row : (c : ℕ) → 1 ≤ getD s (rulePlace r + 1) 0 → c ≡ u16At s (rulePlace r + 6) → c < maxConditions
+  pub asked-row : (c : ℕ) → 1 ≤ senseAt s (rulePlace r) → c ≡ conditionAt s (rulePlace r) → c < maxConditions
   asked-row c l e = let j = g .headed .counted .conditions in omega (arith, asked-in c l e)
 
 module _ (s marks : List ℕ) (r : ℕ) (g : WellFormed s) (h : r < rulesIn s) where
   -- trigger kinds 0 and 1 wait for no mark
-  pub awaits-none : getD s (rulePlace r) 0 < 2 → false ≡ awaitsAny (bookOf s) r marks
+  pub awaits-none : kindAt s (rulePlace r) < 2 → false ≡ awaitsAny (bookOf s) r marks
   unfolding awaitsAny ruleFrom triggerFrom awaits
   awaits-none l =
       rw (rule-read s r h)
-      (sym (some-none maxMarks (λ m. awaits (triggerFrom (getD s (rulePlace r) 0) (u16At s (rulePlace r + 4))) m && hasMark marks m)
-      (λ m k. cases (eqb (getD s (rulePlace r) 0) 0) (λ x. rw x) (λ x. rw (x, eq-eqb (getD s (rulePlace r) 0) 1 (omega (arith, eqb-false (getD s (rulePlace r) 0) 0 x)))))))
+      (sym (some-none maxMarks (λ m. awaits (triggerFrom (kindAt s (rulePlace r)) (numberAt s (rulePlace r))) m && hasMark marks m)
+      (λ m k. cases (eqb (kindAt s (rulePlace r)) 0) (λ x. rw x) (λ x. rw (x, eq-eqb (kindAt s (rulePlace r)) 1 (omega (arith, eqb-false (kindAt s (rulePlace r)) 0 x)))))))
 
   -- kinds 2 and 3 wait for the mark that they name
-  pub awaits-mark : (m : ℕ) (b : Bool) → 2 ≤ getD s (rulePlace r) 0 → m ≡ u16At s (rulePlace r + 4) → b ≡ hasMark marks m → b ≡ awaitsAny (bookOf s) r marks
+  pub awaits-mark : (m : ℕ) (b : Bool) → 2 ≤ kindAt s (rulePlace r) → m ≡ numberAt s (rulePlace r) → b ≡ hasMark marks m → b ≡ awaitsAny (bookOf s) r marks
   unfolding awaitsAny ruleFrom triggerFrom awaits
-  awaits-mark m b l e q = q ∙ rw (rule-read s r h) (sym (some-same maxMarks (λ x. awaits (triggerFrom (getD s (rulePlace r) 0) (u16At s (rulePlace r + 4))) x && hasMark marks x) (λ x. eqb x m && hasMark marks x) named ∙ alone))
+  awaits-mark m b l e q = q ∙ rw (rule-read s r h) (sym (some-same maxMarks (λ x. awaits (triggerFrom (kindAt s (rulePlace r)) (numberAt s (rulePlace r))) x && hasMark marks x) (λ x. eqb x m && hasMark marks x) named ∙ alone))
     where
-      named : (x : ℕ) → x < maxMarks → (awaits (triggerFrom (getD s (rulePlace r) 0) (u16At s (rulePlace r + 4))) x && hasMark marks x) ≡ (eqb x m && hasMark marks x)
+      named : (x : ℕ) → x < maxMarks → (awaits (triggerFrom (kindAt s (rulePlace r)) (numberAt s (rulePlace r))) x && hasMark marks x) ≡ (eqb x m && hasMark marks x)
       named x k =
-          rw (ne-eqb (getD s (rulePlace r) 0) 0 (λ z. omega arith), ne-eqb (getD s (rulePlace r) 0) 1 (λ z. omega arith), e)
-          (cases (eqb (getD s (rulePlace r) 0) 2) (λ z. rw z) (λ z. rw z))
+          rw (ne-eqb (kindAt s (rulePlace r)) 0 (λ z. omega arith), ne-eqb (kindAt s (rulePlace r)) 1 (λ z. omega arith), e)
+          (cases (eqb (kindAt s (rulePlace r)) 2) (λ z. rw z) (λ z. rw z))
 
       alone : some maxMarks (λ x. eqb x m && hasMark marks x) ≡ hasMark marks m
       alone =
@@ -158,48 +157,48 @@ module _ (s marks : List ℕ) (r : ℕ) (g : WellFormed s) (h : r < rulesIn s) w
           (λ t. some-of maxMarks (λ x. eqb x m && hasMark marks x) m (awaited-in s r g h m l e) (rw (eq-eqb m m refl, t)))
 
   -- sense 0 asks no condition
-  pub reads-none : getD s (rulePlace r + 1) 0 < 1 → false ≡ readsAny (bookOf s) r marks
+  pub reads-none : senseAt s (rulePlace r) < 1 → false ≡ readsAny (bookOf s) r marks
   unfolding readsAny ruleFrom senseFrom reads
   reads-none l =
       rw (rule-read s r h)
-      (sym (some-none maxMarks (λ m. reads (textOf (bookOf s)) (senseFrom (getD s (rulePlace r + 1) 0) (u16At s (rulePlace r + 6))) m && hasMark marks m)
-      (λ m k. rw (eq-eqb (getD s (rulePlace r + 1) 0) 0 (omega arith)))))
+      (sym (some-none maxMarks (λ m. reads (textOf (bookOf s)) (senseFrom (senseAt s (rulePlace r)) (conditionAt s (rulePlace r))) m && hasMark marks m)
+      (λ m k. rw (eq-eqb (senseAt s (rulePlace r)) 0 (omega arith)))))
 
   -- senses 1 and 2 ask the condition that they name
-  pub reads-row : (rows : List ℕ) (c : ℕ) (b : Bool) → References s rows → 1 ≤ getD s (rulePlace r + 1) 0 → c ≡ u16At s (rulePlace r + 6) → b ≡ meeting rows c marks
+  pub reads-row : (rows : List ℕ) (c : ℕ) (b : Bool) → References s rows → 1 ≤ senseAt s (rulePlace r) → c ≡ conditionAt s (rulePlace r) → b ≡ meeting rows c marks
       → b ≡ readsAny (bookOf s) r marks
   unfolding readsAny ruleFrom senseFrom reads
-  reads-row rows c b f l e q = q ∙ meeting-is rows marks c ∙ rw (rule-read s r h) (some-same maxMarks (λ m. bit rows markWords c m && hasMark marks m) (λ m. reads (textOf (bookOf s)) (senseFrom (getD s (rulePlace r + 1) 0) (u16At s (rulePlace r + 6))) m && hasMark marks m) named)
+  reads-row rows c b f l e q = q ∙ meeting-is rows marks c ∙ rw (rule-read s r h) (some-same maxMarks (λ m. bit rows markWords c m && hasMark marks m) (λ m. reads (textOf (bookOf s)) (senseFrom (senseAt s (rulePlace r)) (conditionAt s (rulePlace r))) m && hasMark marks m) named)
     where
-      named : (m : ℕ) → m < maxMarks → (bit rows markWords c m && hasMark marks m) ≡ (reads (textOf (bookOf s)) (senseFrom (getD s (rulePlace r + 1) 0) (u16At s (rulePlace r + 6))) m && hasMark marks m)
+      named : (m : ℕ) → m < maxMarks → (bit rows markWords c m && hasMark marks m) ≡ (reads (textOf (bookOf s)) (senseFrom (senseAt s (rulePlace r)) (conditionAt s (rulePlace r))) m && hasMark marks m)
       named m k =
-          rw (ne-eqb (getD s (rulePlace r + 1) 0) 0 (λ z. omega arith), f .names c m (asked-in s r g h c l e) k, e)
-          (cases (eqb (getD s (rulePlace r + 1) 0) 1) (λ z. rw z) (λ z. rw z))
+          rw (ne-eqb (senseAt s (rulePlace r)) 0 (λ z. omega arith), f .names c m (asked-in s r g h c l e) k, e)
+          (cases (eqb (senseAt s (rulePlace r)) 1) (λ z. rw z) (λ z. rw z))
 
 -- ---- each mark that a rule refers to, by the bytes and the rows
 
 module _ (s rows : List ℕ) (r m : ℕ) (g : WellFormed s) (h : r < rulesIn s) where
-  awaits-byte : awaits (ruleOf (bookOf s) r .trigger) m ≡ (leb 2 (getD s (rulePlace r) 0) && eqb m (u16At s (rulePlace r + 4)))
+  awaits-byte : awaits (ruleOf (bookOf s) r .trigger) m ≡ (leb 2 (kindAt s (rulePlace r)) && eqb m (numberAt s (rulePlace r)))
   unfolding ruleFrom triggerFrom awaits
   awaits-byte =
       rw (rule-read s r h)
-      (cases (eqb (getD s (rulePlace r) 0) 0) (λ x. rw (x, lt-leb 2 (getD s (rulePlace r) 0) (omega (arith, eqb-true (getD s (rulePlace r) 0) 0 x))))
-      (λ x. cases (eqb (getD s (rulePlace r) 0) 1) (λ y. rw (x, y, lt-leb 2 (getD s (rulePlace r) 0) (omega (arith, eqb-true (getD s (rulePlace r) 0) 1 y))))
-      (λ y. rw (x, y, le-leb 2 (getD s (rulePlace r) 0) (omega (arith, eqb-false (getD s (rulePlace r) 0) 0 x, eqb-false (getD s (rulePlace r) 0) 1 y)))
-      (cases (eqb (getD s (rulePlace r) 0) 2) (λ z. rw z) (λ z. rw z)))))
+      (cases (eqb (kindAt s (rulePlace r)) 0) (λ x. rw (x, lt-leb 2 (kindAt s (rulePlace r)) (omega (arith, eqb-true (kindAt s (rulePlace r)) 0 x))))
+      (λ x. cases (eqb (kindAt s (rulePlace r)) 1) (λ y. rw (x, y, lt-leb 2 (kindAt s (rulePlace r)) (omega (arith, eqb-true (kindAt s (rulePlace r)) 1 y))))
+      (λ y. rw (x, y, le-leb 2 (kindAt s (rulePlace r)) (omega (arith, eqb-false (kindAt s (rulePlace r)) 0 x, eqb-false (kindAt s (rulePlace r)) 1 y)))
+      (cases (eqb (kindAt s (rulePlace r)) 2) (λ z. rw z) (λ z. rw z)))))
 
-  reads-byte : References s rows → m < maxMarks → reads (textOf (bookOf s)) (ruleOf (bookOf s) r .sense) m ≡ (leb 1 (getD s (rulePlace r + 1) 0) && bit rows markWords (u16At s (rulePlace r + 6)) m)
+  reads-byte : References s rows → m < maxMarks → reads (textOf (bookOf s)) (ruleOf (bookOf s) r .sense) m ≡ (leb 1 (senseAt s (rulePlace r)) && bit rows markWords (conditionAt s (rulePlace r)) m)
   unfolding ruleFrom senseFrom reads
   reads-byte f l =
       rw (rule-read s r h)
-      (cases (eqb (getD s (rulePlace r + 1) 0) 0) (λ x. rw (x, lt-leb 1 (getD s (rulePlace r + 1) 0) (omega (arith, eqb-true (getD s (rulePlace r + 1) 0) 0 x))))
-      (λ x. let i : 1 ≤ getD s (rulePlace r + 1) 0 = omega (arith, eqb-false (getD s (rulePlace r + 1) 0) 0 x) in
-      rw (x, le-leb 1 (getD s (rulePlace r + 1) 0) i, f .names (u16At s (rulePlace r + 6)) m (g .rules r h .condition i) l)
-      (cases (eqb (getD s (rulePlace r + 1) 0) 1) (λ z. rw z) (λ z. rw z))))
+      (cases (eqb (senseAt s (rulePlace r)) 0) (λ x. rw (x, lt-leb 1 (senseAt s (rulePlace r)) (omega (arith, eqb-true (senseAt s (rulePlace r)) 0 x))))
+      (λ x. let i : 1 ≤ senseAt s (rulePlace r) = omega (arith, eqb-false (senseAt s (rulePlace r)) 0 x) in
+      rw (x, le-leb 1 (senseAt s (rulePlace r)) i, f .names (conditionAt s (rulePlace r)) m (g .rules r h .condition i) l)
+      (cases (eqb (senseAt s (rulePlace r)) 1) (λ z. rw z) (λ z. rw z))))
 
   -- the trigger's mark, if kind 2 or 3, and the marks of the condition's row, if sense 1 or 2
   pub refers-bytes : References s rows → m < maxMarks
-      → refers (bookOf s) r m ≡ ((leb 2 (getD s (rulePlace r) 0) && eqb m (u16At s (rulePlace r + 4))) || (leb 1 (getD s (rulePlace r + 1) 0) && bit rows markWords (u16At s (rulePlace r + 6)) m))
+      → refers (bookOf s) r m ≡ ((leb 2 (kindAt s (rulePlace r)) && eqb m (numberAt s (rulePlace r))) || (leb 1 (senseAt s (rulePlace r)) && bit rows markWords (conditionAt s (rulePlace r)) m))
   unfolding refers
   refers-bytes f l = rw (awaits-byte, reads-byte f l)
 

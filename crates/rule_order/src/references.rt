@@ -8,6 +8,11 @@ ghost use Rattle.book.specs.WellRead.{Opened};
 ghost use Rattle.book.specs.WellFormed.{WellFormed};
 ghost use Rattle.rule_order.specs.References.{refWords, References, meetWord, meeting, awaitsAny, readsAny, touches};
 use book::Counts;
+use book::rules::CONDITION_AT;
+use book::rules::NUMBER_AT;
+use book::rules::SENSE_AS_WRITTEN;
+use book::rules::SENSE_AT;
+use book::rules::TRIGGER_BECOME_YES;
 use paper::BOOK_HEADER;
 use paper::MAX_CONDITIONS;
 use paper::RULE_SIZE;
@@ -51,16 +56,16 @@ fn row_meets<'a>(refs: &'a [u64; REFS], c: usize, set: &'a [u64; MARK_WORDS]) ->
         | meet(refs[at + 3], set[3])
 }
 
-// Whether rule r waits for a mark of the set to become yes or no: trigger kinds 2 and 3.
+// Whether rule r waits for a mark of the set to become yes or no. From raw bytes: a rule is asked whenever the scan meets it.
 fn trigger_touches(image: &[u8], r: usize, set: &[u64; MARK_WORDS]) -> bool
     requires { ⌜ (WellFormed (now image)) × (r < rulesIn (now image)) ⌝ }
     ensures { λ b. ⌜ b ≡ awaitsAny (bookOf (now (image .entry))) r (now (set .entry)) ⌝ }
 {
     let at = BOOK_HEADER + RULE_SIZE * r;
-    if image[at] < 2 {
+    if image[at] < TRIGGER_BECOME_YES {
         return false;
     }
-    let m = wire::u16_at(image, at + 4) as usize;
+    let m = wire::u16_at(image, at + NUMBER_AT) as usize;
     sets::member(set[m / 64], m % 64)
 }
 
@@ -75,10 +80,10 @@ fn condition_touches<'a>(
     ensures { λ b. ⌜ b ≡ readsAny (bookOf (now (image .entry))) r (now (set .entry)) ⌝ }
 {
     let at = BOOK_HEADER + RULE_SIZE * r;
-    if image[at + 1] < 1 {
+    if image[at + SENSE_AT] < SENSE_AS_WRITTEN {
         return false;
     }
-    row_meets(refs, wire::u16_at(image, at + 6) as usize, set)
+    row_meets(refs, wire::u16_at(image, at + CONDITION_AT) as usize, set)
 }
 
 // Whether rule r refers to a mark of the set.

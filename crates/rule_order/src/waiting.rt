@@ -9,6 +9,7 @@ ghost use Rattle.book.specs.WellFormed.{WellFormed};
 ghost use Rattle.order_theory.specs.Written.{none};
 ghost use Rattle.rule_order.specs.Nets.{rulesOf};
 ghost use Rattle.rule_order.specs.Counters.{Counters, Struck};
+use book::rules::TARGET_AT;
 use paper::BOOK_HEADER;
 use paper::MAX_MARKS;
 use paper::RULE_SIZE;
@@ -19,7 +20,7 @@ pub fn target_of(image: &[u8], r: usize) -> usize
     requires { ⌜ (WellFormed (now image)) × (r < rulesIn (now image)) ⌝ }
     ensures { λ t. ⌜ (t ≡ rulesOf (now (image .entry)) .target r) × (t < maxMarks) ⌝ }
 {
-    wire::u16_at(image, BOOK_HEADER + RULE_SIZE * r + 8) as usize
+    wire::u16_at(image, BOOK_HEADER + RULE_SIZE * r + TARGET_AT) as usize
 }
 
 // Before any rule is written: one pass over the rules.

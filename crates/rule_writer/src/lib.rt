@@ -12,6 +12,19 @@ ghost use Rattle.derived.specs.Derived.{on, answering, completion, stageRules};
 ghost use Rattle.derived.specs.Sizes.{effects, completionSize, completionsSize};
 ghost use Rattle.general.specs.Writing.{Fits, Wrote};
 ghost use Rattle.derived.specs.Parts.{completionAt, CompletionsIn};
+use book::rules::CONDITION_AT;
+use book::rules::EFFECT_AT;
+use book::rules::EFFECT_CLEAR;
+use book::rules::EFFECT_SET;
+use book::rules::NUMBER_AT;
+use book::rules::SENSE_AS_WRITTEN;
+use book::rules::SENSE_AT;
+use book::rules::SENSE_NEGATED;
+use book::rules::SENSE_NONE;
+use book::rules::SPARE_AT;
+use book::rules::TARGET_AT;
+use book::rules::TRIGGER_COMPLETED;
+use book::rules::TRIGGER_NONE;
 use paper::MAX_EVENTS;
 use paper::RULE_SIZE;
 
@@ -19,9 +32,9 @@ fn flag(b: bool) -> u8
     ensures { λ r. ⌜ r ≡ effectByte b ⌝ }
 {
     if b {
-        return 1;
+        return EFFECT_SET;
     }
-    0
+    EFFECT_CLEAR
 }
 
 // One record. Every writer here hands back the place behind what it wrote.
@@ -39,12 +52,12 @@ fn put_rule(
     ensures { λ r. ⌜ Wrote (now (room .entry)) at (ruleRecord kind sense effect number condition target) r (now (room .exit)) ⌝ }
 {
     room[at] = kind;
-    room[at + 1] = sense;
-    room[at + 2] = effect;
-    room[at + 3] = 0;
-    wire::put16(room, at + 4, number);
-    wire::put16(room, at + 6, condition);
-    wire::put16(room, at + 8, target);
+    room[at + SENSE_AT] = sense;
+    room[at + EFFECT_AT] = effect;
+    room[at + SPARE_AT] = 0;
+    wire::put16(room, at + NUMBER_AT, number);
+    wire::put16(room, at + CONDITION_AT, condition);
+    wire::put16(room, at + TARGET_AT, target);
     at + RULE_SIZE
 }
 
@@ -53,7 +66,16 @@ fn put_on(room: &mut [u8], at: usize, e: usize, effect: bool, mark: usize) -> us
     requires { ⌜ (e < 65536) × (mark < 65536) × (at + ruleSize ≤ length (now room)) ⌝ }
     ensures { λ r. ⌜ Wrote (now (room .entry)) at (packed ruleBytes (on e effect mark ∷ [])) r (now (room .exit)) ⌝ }
 {
-    put_rule(room, at, 1, 0, flag(effect), e as u16, 0, mark as u16)
+    put_rule(
+        room,
+        at,
+        TRIGGER_COMPLETED,
+        SENSE_NONE,
+        flag(effect),
+        e as u16,
+        0,
+        mark as u16,
+    )
 }
 
 // On completion of e, for each f of among, rising: set the mark base + f where f is in raise, and else clear it.
@@ -135,8 +157,26 @@ fn put_stage(room: &mut [u8], at: usize, e: usize) -> usize
     ensures { λ r. ⌜ Wrote (now (room .entry)) at (packed ruleBytes (stageRules e)) r (now (room .exit)) ⌝ }
 {
     let e = e as u16;
-    let next = put_rule(room, at, 0, 1, 1, 0, e, e);
-    put_rule(room, next, 0, 2, 0, 0, e, e)
+    let next = put_rule(
+        room,
+        at,
+        TRIGGER_NONE,
+        SENSE_AS_WRITTEN,
+        EFFECT_SET,
+        0,
+        e,
+        e,
+    );
+    put_rule(
+        room,
+        next,
+        TRIGGER_NONE,
+        SENSE_NEGATED,
+        EFFECT_CLEAR,
+        0,
+        e,
+        e,
+    )
 }
 
 pub fn put_stages(room: &mut [u8], at: usize, n: usize) -> usize

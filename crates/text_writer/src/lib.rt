@@ -13,6 +13,7 @@ ghost use Rattle.derived.specs.Derived.{listed, textFor};
 ghost use Rattle.derived.specs.Sizes.{textSize, textsSize};
 ghost use Rattle.general.specs.Writing.{Fits, Wrote};
 ghost use Rattle.derived.specs.Parts.{conditionMade, clauseFrom, textAt, conditionPart, TextsIn};
+use book::conditions::COUNT_AT;
 use paper::AND;
 use paper::CONDITION_SIZE;
 use paper::MAX_EVENTS;
@@ -48,7 +49,7 @@ fn put_condition(room: &mut [u8], at: usize, start: usize, count: usize) -> usiz
     ensures { λ r. ⌜ Wrote (now (room .entry)) at (packed conditionBytes (conditionMade start count ∷ [])) r (now (room .exit)) ⌝ }
 {
     wire::put32(room, at, start as u32);
-    wire::put32(room, at + 4, count as u32);
+    wire::put32(room, at + COUNT_AT, count as u32);
     at + CONDITION_SIZE
 }
 

@@ -9,15 +9,14 @@ use borrow.Author.Tests.{not-true, not-false, le-leb, lt-leb, lt-ltb, le-ltb}
 use Rattle.paper.specs.Limits.{bookHeader, ruleSize, conditionSize, wordSize, bookShort, bookCount, bookLength, badRule, badCondition}
 use Rattle.paper.specs.Answers.{answer, granted, refusal}
 use Rattle.paper.specs.declared.Answer.{Answer}
-use Rattle.wire.specs.Wire.{u32At}
 use Rattle.book.specs.GoodTexts.{good}
-use Rattle.book.specs.Image.{rulePlace, conditionPlace, wordPlace}
+use Rattle.book.specs.Image.{rulePlace, conditionPlace, wordPlace, startAt, countAt}
 use Rattle.book.specs.Read.{wordsFrom}
 use Rattle.book.specs.Judging.{countsOf, countsFit, layoutFits, conditionFits, firstBadRule, firstBadCondition, bodyAnswer, imageAnswer}
 use Rattle.book.specs.WellFormed.{layout-says}
 use Rattle.book.specs.declared.Counts.{Counts}
 
-module _ (M W from : ℕ) (s : List ℕ) (at start count : ℕ) (p : start ≡ u32At s at) (q : count ≡ u32At s (at + 4)) where
+module _ (M W from : ℕ) (s : List ℕ) (at start count : ℕ) (p : start ≡ startAt s at) (q : count ≡ countAt s at) where
   pub condition-none : count < 1 → false ≡ conditionFits M W from s at
   unfolding conditionFits
   condition-none h = rw (← q, lt-leb 1 count h)

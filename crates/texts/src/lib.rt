@@ -15,6 +15,7 @@ ghost use Rattle.wire.specs.Wire.{u16At};
 ghost use Rattle.book.specs.Judging.{conditionFits};
 ghost use Rattle.book.specs.Reading.{spanFrom};
 use book::Span;
+use book::conditions::COUNT_AT;
 use book::header::conditions_from;
 use book::header::words_from;
 use paper::CONDITION_SIZE;
@@ -61,7 +62,7 @@ fn condition_fits(image: &[u8], at: usize, from: usize, marks: u32, words: u32) 
     ensures { λ r. ⌜ r ≡ conditionFits marks words from (now (image .entry)) at ⌝ }
 {
     let start = wire::u32_at(image, at) as usize;
-    let count = wire::u32_at(image, at + 4) as usize;
+    let count = wire::u32_at(image, at + COUNT_AT) as usize;
     if count < 1 {
         return false;
     }

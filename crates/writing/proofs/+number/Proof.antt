@@ -1,5 +1,5 @@
 -- The proof of the cycle of calls {number}. The measure is the number, which has one digit less at each call. Assumes nothing.
-use Prim.Native.Nat.{ℕ}
+use Prim.Native.Nat.{ℕ, _<_}
 use native.Mathlib.Omega.{arith}
 use borrow.Author.Needs.{needs}
 use borrow.Fn.Kinds.{In}

@@ -1,7 +1,7 @@
 -- `texts::eval::text_holds` meets its contract. The loop's invariant is `Going`: the rest of the text says of this stack what the whole says of none. Assumes nothing.
 use Prim.Native.Nat.{_-_}
 use mathlib.Core.Path.{_≡_}
-use mathlib.Core.Bool.{not}
+use mathlib.Core.Bool.{not, _&&_, _||_}
 use mathlib.Core.Logic.{⊎-elim}
 use native.Mathlib.Omega.{arith}
 use borrow.Author.Needs.{needs}
