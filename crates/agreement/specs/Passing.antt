@@ -14,6 +14,7 @@ use Rattle.graph.specs.Chart.{setOf, condition, response, milestone, include, e
 use Rattle.graph.specs.declared.FlatChart.{FlatChart}
 use Rattle.book.specs.Text.{elem}
 use Rattle.book.specs.Book.{ruleOf, textOf, noRule}
+use Rattle.book.specs.Effects.{beq-refl}
 use Rattle.book.specs.Firing.{refers, awaits, reads}
 use Rattle.general.specs.Lists.{flat, All, all-append, all-flat, all-at}
 use Rattle.book.specs.declared.Rule.{Rule}
@@ -27,10 +28,6 @@ all-elem : (P : ℕ → Type 0) (l : List ℕ) → All P l → (k : ℕ) → ele
 unfolding elem
 all-elem P [] a k e = contra e refl
 all-elem P (x ∷ l) a k e = either (eqb k x) (elem k l) e (λ q. rw (eqb-true k x q) (a .0)) (all-elem P l (a .1) k)
-
-beq-refl : (b : Bool) → Bool·beq b b ≡ true
-beq-refl true = refl
-beq-refl false = refl
 
 module _ (c : FlatChart) where
   -- what the completion of d writes to the mark k, if it writes k

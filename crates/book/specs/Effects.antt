@@ -22,6 +22,10 @@ effectOn marks r = set marks (r .target) (r .effect)
 pub length-effect : (marks : List Bool) (r : Rule) → length (effectOn marks r) ≡ length marks
 length-effect marks r = length-set marks (r .target) (r .effect)
 
+pub beq-refl : (a : Bool) → Bool·beq a a ≡ true
+beq-refl true = refl
+beq-refl false = refl
+
 -- it leaves them as they are exactly if the target has its value
 pub effect-alters : (marks : List Bool) (r : Rule) → r .target < length marks → (not (Bool·beq (getD marks (r .target) false) (r .effect)) ≡ false) ↔ (effectOn marks r ≡ marks)
 effect-alters marks r h =
@@ -31,7 +35,7 @@ effect-alters marks r h =
       λ e. contra refl e,
       λ z.
           let v : r .effect ≡ getD marks (r .target) false = sym (getD-set-same marks (r .target) (r .effect) false h) ∙ ap (λ (m : List Bool). getD m (r .target) false) z in
-          contra (rw v (itself (getD marks (r .target) false))) t,
+          contra (rw v (beq-refl (getD marks (r .target) false))) t,
     ))
   where
     same : (a b : Bool) → Bool·beq a b ≡ true → a ≡ b
@@ -39,7 +43,3 @@ effect-alters marks r h =
     same true false e = contra e refl
     same false true e = contra e refl
     same false false e = refl
-
-    itself : (a : Bool) → Bool·beq a a ≡ true
-    itself true = refl
-    itself false = refl

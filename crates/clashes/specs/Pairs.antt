@@ -2,6 +2,7 @@
 use mathlib.Core.Path.{_≡_, sym, _∙_}
 use mathlib.Core.Logic.{_↔_}
 use mathlib.Core.Bool.{Bool, true, false, _&&_}
+use mathlib.Core.List.{List}
 use Prim.Native.Nat.{ℕ, _≤_, _<_}
 use native.Mathlib.Omega.{arith}
 use lib.Dec.{ltb}
@@ -9,7 +10,11 @@ use lib.ListN.{length}
 use borrow.Author.Tests.{ltb-true, ltb-false, lt-ltb, le-ltb}
 use Rattle.general.specs.Cases.{contra, cases, both, not-so}
 use Rattle.general.specs.Below.{some, some-of, some-at, some-none, first, first-is, first-found, first-none}
+use Rattle.paper.specs.Limits.{maxRules}
 use Rattle.book.specs.Book.{Book, ruleOf}
+use Rattle.book.specs.Image.{bookOf}
+use Rattle.book.specs.Read.{rules-count}
+use Rattle.book.specs.WellFormed.{WellFormed}
 use Rattle.clashes.specs.Clash.{clash, Clashes, clashes-so, NoClash}
 
 -- a pair that clashes, named with the lower rule first
@@ -106,3 +111,7 @@ module _ (b : Book) where
             (λ t. clashing-low p q (ltb-false p q t))))),
         λ e p q i m. sym (clashing-of p q i) ∙ some-alone p (first-is R (λ p. some R (clashing b p)) .lowest p (rw e (omega arith))) q m,
       )
+
+-- in a well-formed image no rule of the pair is past the limit
+pub second-small : (s : List ℕ) (w : WellFormed s) (p q : ℕ) → q ≡ clashSecond (bookOf s) p → q ≤ maxRules
+second-small s w p q e = let h = w .headed .counted .rules in omega (arith, second-fits (bookOf s) p, rules-count s)

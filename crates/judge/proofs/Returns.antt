@@ -9,7 +9,7 @@ use lib.Dec.{ltb}
 use lib.ListN.{length, getD, set, take, drop}
 use lib.Seq.{length-take-le, take-suc, drop-cons, append-snoc, set-at, take-at}
 use borrow.Author.Tests.{ne-eqb, ltb-true, ltb-false, lt-ltb, le-ltb}
-use Rattle.paper.specs.Limits.{maxMarks, maxRules, loopFound, clash, orderRoom}
+use Rattle.paper.specs.Limits.{maxMarks, loopFound, clash, orderRoom}
 use Rattle.paper.specs.Answers.{answer, granted}
 use Rattle.paper.specs.declared.Answer.{Answer}
 use Rattle.general.specs.Cases.{cases}
@@ -25,7 +25,7 @@ use Rattle.rule_order.specs.Rules.{netOf}
 use Rattle.rule_order.specs.Nets.{rulesOf, count-is}
 use Rattle.judge.proofs.Whole.{running-few, running-full}
 use Rattle.loops.specs.Places.{loopPlace, loop-fits, loop-place}
-use Rattle.clashes.specs.Pairs.{clashFirst, clashSecond, second-fits}
+use Rattle.clashes.specs.Pairs.{clashFirst, clashSecond}
 use Rattle.judge.specs.Checking.{rulesAnswer, bookAnswer, checking, checkedRoom, targets, targets-in, book-answer, granted-room, refused-room}
 
 -- ---- a run copied to the front of a room
@@ -48,9 +48,6 @@ module _ (s : List ℕ) (w : WellFormed s) where
   pub place-small : (p : ℕ) → p ≡ loopPlace (bookOf s) → p ≤ maxMarks
   unfolding bookOf
   place-small p e = let h = w .headed .counted .marks in omega (arith, loop-fits (bookOf s))
-
-  pub second-small : (p q : ℕ) → q ≡ clashSecond (bookOf s) p → q ≤ maxRules
-  second-small p q e = let h = w .headed .counted .rules in omega (arith, second-fits (bookOf s) p, rules-count s)
 
   module _ (rules written : ℕ) (many : rules ≡ rulesIn s) (n : written ≡ length (runningOrder (rulesOf s))) where
     no-loop : rules ≤ written → NoLoop (rulesOf s)

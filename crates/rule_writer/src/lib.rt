@@ -157,26 +157,9 @@ fn put_stage(room: &mut [u8], at: usize, e: usize) -> usize
     ensures { λ r. ⌜ Wrote (now (room .entry)) at (packed ruleBytes (stageRules e)) r (now (room .exit)) ⌝ }
 {
     let e = e as u16;
-    let next = put_rule(
-        room,
-        at,
-        TRIGGER_NONE,
-        SENSE_AS_WRITTEN,
-        EFFECT_SET,
-        0,
-        e,
-        e,
-    );
-    put_rule(
-        room,
-        next,
-        TRIGGER_NONE,
-        SENSE_NEGATED,
-        EFFECT_CLEAR,
-        0,
-        e,
-        e,
-    )
+    let kind = TRIGGER_NONE;
+    let next = put_rule(room, at, kind, SENSE_AS_WRITTEN, EFFECT_SET, 0, e, e);
+    put_rule(room, next, kind, SENSE_NEGATED, EFFECT_CLEAR, 0, e, e)
 }
 
 pub fn put_stages(room: &mut [u8], at: usize, n: usize) -> usize

@@ -7,7 +7,7 @@ use native.Mathlib.Omega.{arith}
 use lib.Dec.{eqb, ltb, leb}
 use lib.ListN.{length, getD}
 use borrow.Author.Tests.{eqb-true, eqb-false, eq-eqb, ne-eqb, lt-ltb, le-ltb, le-leb, leb-true, not-true, not-false}
-use Rattle.paper.specs.Limits.{maxMarks, maxRules, loopFound, clash, orderUnfit, markAbove, noSuchStage, stageClosed}
+use Rattle.paper.specs.Limits.{maxMarks, loopFound, clash, orderUnfit, markAbove, noSuchStage, stageClosed}
 use Rattle.paper.specs.Answers.{answer, granted, refusal}
 use Rattle.paper.specs.declared.Answer.{Answer}
 use Rattle.general.specs.Cases.{cases}
@@ -24,7 +24,7 @@ use Rattle.book.specs.WellFormed.{WellFormed, well-granted}
 use Rattle.book.specs.declared.Snapshot.{Snapshot}
 use Rattle.rule_order.specs.Nets.{rulesOf, count-is}
 use Rattle.clashes.specs.Clash.{NoClash}
-use Rattle.clashes.specs.Pairs.{clashFirst, clashSecond, second-fits}
+use Rattle.clashes.specs.Pairs.{clashFirst, clashSecond}
 use Rattle.loops.specs.Places.{loopPlace, loop-place}
 use Rattle.judge.specs.Checking.{rulesAnswer, bookAnswer, checking, CheckPasses, passed-is, marks-many, targets}
 use Rattle.runner.specs.Completing.{fitted, orderAnswer, anyFrom, snapshotAnswer, completionAnswer, through, completing}
@@ -84,9 +84,6 @@ module _ (s : List ℕ) where
   module _ (w : WellFormed s) where
     pub acyclic-place : (marks : ℕ) → marks ≡ marksIn s → NoLoop (rulesOf s) → marks ≡ loopPlace (bookOf s)
     acyclic-place marks e n = e ∙ sym (marks-many s) ∙ sym (loop-place (bookOf s) (targets s w) .1 .0 n)
-
-    pub second-small : (x y : ℕ) → y ≡ clashSecond (bookOf s) x → y ≤ maxRules
-    second-small x y e = let i = second-fits (bookOf s) x in let j = w .headed .counted .rules in omega (arith, rules-count s)
 
   module _ (marks m : ℕ) (fits : Bool) (e : marks ≡ marksIn s) (p : m ≡ loopPlace (bookOf s)) where
     pub looped-answer : (a : Answer) → m < marks → a ≡ answer loopFound m 0 → a ≡ fitted (rulesAnswer (bookOf s)) fits

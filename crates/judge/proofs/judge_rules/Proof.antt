@@ -1,5 +1,6 @@
 -- `judge::judge_rules` meets its contract: a law for each return. Assumes nothing.
-use Rattle.judge.proofs.Returns.{place-small, second-small, rules-loop, rules-clash, rules-pass}
+use Rattle.clashes.specs.Pairs.{second-small}
+use Rattle.judge.proofs.Returns.{place-small, rules-loop, rules-clash, rules-pass}
 use borrow.Author.Needs.{needs}
 use native.Mathlib.Omega.{arith}
 use Rattle.judge.proofs.judge_rules.Statement.{statement}

@@ -1,6 +1,7 @@
 -- `runner::judging::judge_rules` meets its contract. Assumes nothing.
 use Rattle.rule_order.specs.Nets.{rules-few}
-use Rattle.runner.specs.Ordered.{fit-acyclic, second-small, looped-answer, clashed-answer, fit-answer, unfit-answer}
+use Rattle.clashes.specs.Pairs.{second-small}
+use Rattle.runner.specs.Ordered.{fit-acyclic, looped-answer, clashed-answer, fit-answer, unfit-answer}
 use borrow.Author.Needs.{needs}
 use native.Mathlib.Omega.{arith}
 use Rattle.runner.proofs.judging.judge_rules.Statement.{statement}
