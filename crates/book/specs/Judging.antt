@@ -9,7 +9,8 @@ use Rattle.paper.specs.Answers.{answer, granted, refusal}
 use Rattle.paper.specs.declared.Answer.{Answer}
 use Rattle.general.specs.Below.{first}
 use Rattle.book.specs.GoodTexts.{good}
-use Rattle.book.specs.Image.{stagesIn, marksIn, rulesIn, conditionsIn, wordsIn, rulePlace, conditionPlace, wordPlace, kindAt, senseAt, effectAt, spareAt, numberAt, conditionAt, targetAt, startAt, countAt, rulesOffset, conditionsOffset, wordsOffset}
+use Rattle.book.specs.Image.{stagesIn, marksIn, rulesIn, conditionsIn, wordsIn, rulePlace, conditionPlace, wordPlace, rulesOffset, conditionsOffset, wordsOffset}
+use Rattle.book.specs.Image.{kindAt, senseAt, effectAt, spareAt, numberAt, conditionAt, targetAt, startAt, countAt}
 use Rattle.book.specs.Read.{wordsFrom}
 use Rattle.book.specs.declared.Counts.{Counts}
 

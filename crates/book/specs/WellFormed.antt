@@ -14,7 +14,8 @@ use Rattle.general.specs.Cases.{contra, cases, both, all3, not-so}
 use Rattle.general.specs.Below.{first, first-is, first-found, first-none}
 use Rattle.book.specs.GoodTexts.{GoodText, good, good-text, text-good}
 use Rattle.book.specs.Book.{Condition}
-use Rattle.book.specs.Image.{stagesIn, marksIn, rulesIn, conditionsIn, wordsIn, rulePlace, conditionPlace, wordPlace, conditionFrom, kindAt, senseAt, effectAt, spareAt, numberAt, conditionAt, targetAt, startAt, countAt, rulesOffset, conditionsOffset, wordsOffset}
+use Rattle.book.specs.Image.{stagesIn, marksIn, rulesIn, conditionsIn, wordsIn, rulePlace, conditionPlace, wordPlace, conditionFrom, rulesOffset, conditionsOffset, wordsOffset}
+use Rattle.book.specs.Image.{kindAt, senseAt, effectAt, spareAt, numberAt, conditionAt, targetAt, startAt, countAt}
 use Rattle.book.specs.Read.{textFrom}
 use Rattle.book.specs.Judging.{countsOf, countsFit, layoutFits, triggerFits, senseFits, ruleFits, conditionFits, firstBadRule, firstBadCondition, bodyAnswer, imageAnswer}
 use Rattle.book.specs.declared.Counts.{Counts}

@@ -12,7 +12,8 @@ use Rattle.general.specs.Cases.{cases}
 use Rattle.book.specs.Text.{Snap, holds}
 use Rattle.book.specs.GoodTexts.{good, text-good, good-wider}
 use Rattle.book.specs.Book.{ruleOf, textOf}
-use Rattle.book.specs.Image.{stagesIn, marksIn, rulesIn, conditionsIn, rulePlace, conditionPlace, triggerFrom, senseFrom, ruleFrom, conditionFrom, bookOf, kindAt, senseAt, numberAt, conditionAt, startAt, countAt}
+use Rattle.book.specs.Image.{stagesIn, marksIn, rulesIn, conditionsIn, rulePlace, conditionPlace, triggerFrom, senseFrom, ruleFrom, conditionFrom, bookOf}
+use Rattle.book.specs.Image.{kindAt, senseAt, numberAt, conditionAt, startAt, countAt}
 use Rattle.book.specs.Read.{wordsFrom, textFrom, rule-read, text-read}
 use Rattle.book.specs.Judging.{countsOf}
 use Rattle.book.specs.Reading.{spanFrom}

@@ -31,7 +31,8 @@ module _ (s : List ℕ) (w : WellFormed s) (r : ℕ) (h : r < rulesIn s) where
   target-low t e = let i = w .rules r h .target in let j = w .headed .counted .marks in omega arith
 
   -- a row of a target, and a row of a condition
-  pub link-row : (rows refs : List ℕ) (t c : ℕ) → length rows ≡ linkWords → References s refs → 1 ≤ senseAt s (rulePlace r) → t ≡ targetAt s (rulePlace r) → c ≡ conditionAt s (rulePlace r)
+  pub link-row : (rows refs : List ℕ) (t c : ℕ) → length rows ≡ linkWords → References s refs → 1 ≤ senseAt s (rulePlace r)
+      → t ≡ targetAt s (rulePlace r) → c ≡ conditionAt s (rulePlace r)
       → (t * markWords + markWords ≤ length rows) × (c * markWords + markWords ≤ length refs)
   link-row rows refs t c l f i e g =
       let a = target-low t e in
@@ -155,7 +156,8 @@ linking-more s refs rows next last r g h e d =
       size = ap length d ∙ length-trigger s next r ∙ n;
       holds = λ a b i j.
           rw (d, trigger-bit s refs next w f n r h b a j i, e, condition-bit s refs rows w f (g .size) r h b a j i, some-step, g .holds a b i j, refers-bytes s refs r a w h f i, rule-read s r h)
-          (shuffle (some r (λ q. refers (bookOf s) q a && eqb (ruleOf (bookOf s) q .target) b)) (eqb (targetAt s (rulePlace r)) b) (leb 2 (kindAt s (rulePlace r)) && eqb a (numberAt s (rulePlace r))) (leb 1 (senseAt s (rulePlace r)) && bit refs markWords (conditionAt s (rulePlace r)) a));
+          (shuffle (some r (λ q. refers (bookOf s) q a && eqb (ruleOf (bookOf s) q .target) b)) (eqb (targetAt s (rulePlace r)) b)
+          (leb 2 (kindAt s (rulePlace r)) && eqb a (numberAt s (rulePlace r))) (leb 1 (senseAt s (rulePlace r)) && bit refs markWords (conditionAt s (rulePlace r)) a));
     }
 
 pub linking-last : (s refs rows : List ℕ) (r : ℕ) → Linking s refs rows r → rulesIn s ≤ r → LinkedMarks s rows

@@ -143,7 +143,9 @@ module _ (s marks : List ℕ) (r : ℕ) (g : WellFormed s) (h : r < rulesIn s) w
   -- kinds 2 and 3 wait for the mark that they name
   pub awaits-mark : (m : ℕ) (b : Bool) → 2 ≤ kindAt s (rulePlace r) → m ≡ numberAt s (rulePlace r) → b ≡ hasMark marks m → b ≡ awaitsAny (bookOf s) r marks
   unfolding awaitsAny ruleFrom triggerFrom awaits
-  awaits-mark m b l e q = q ∙ rw (rule-read s r h) (sym (some-same maxMarks (λ x. awaits (triggerFrom (kindAt s (rulePlace r)) (numberAt s (rulePlace r))) x && hasMark marks x) (λ x. eqb x m && hasMark marks x) named ∙ alone))
+  awaits-mark m b l e q =
+      q ∙ rw (rule-read s r h) (sym (some-same maxMarks (λ x. awaits (triggerFrom (kindAt s (rulePlace r)) (numberAt s (rulePlace r))) x && hasMark marks x)
+      (λ x. eqb x m && hasMark marks x) named ∙ alone))
     where
       named : (x : ℕ) → x < maxMarks → (awaits (triggerFrom (kindAt s (rulePlace r)) (numberAt s (rulePlace r))) x && hasMark marks x) ≡ (eqb x m && hasMark marks x)
       named x k =
@@ -168,9 +170,12 @@ module _ (s marks : List ℕ) (r : ℕ) (g : WellFormed s) (h : r < rulesIn s) w
   pub reads-row : (rows : List ℕ) (c : ℕ) (b : Bool) → References s rows → 1 ≤ senseAt s (rulePlace r) → c ≡ conditionAt s (rulePlace r) → b ≡ meeting rows c marks
       → b ≡ readsAny (bookOf s) r marks
   unfolding readsAny ruleFrom senseFrom reads
-  reads-row rows c b f l e q = q ∙ meeting-is rows marks c ∙ rw (rule-read s r h) (some-same maxMarks (λ m. bit rows markWords c m && hasMark marks m) (λ m. reads (textOf (bookOf s)) (senseFrom (senseAt s (rulePlace r)) (conditionAt s (rulePlace r))) m && hasMark marks m) named)
+  reads-row rows c b f l e q =
+      q ∙ meeting-is rows marks c ∙ rw (rule-read s r h) (some-same maxMarks (λ m. bit rows markWords c m && hasMark marks m)
+      (λ m. reads (textOf (bookOf s)) (senseFrom (senseAt s (rulePlace r)) (conditionAt s (rulePlace r))) m && hasMark marks m) named)
     where
-      named : (m : ℕ) → m < maxMarks → (bit rows markWords c m && hasMark marks m) ≡ (reads (textOf (bookOf s)) (senseFrom (senseAt s (rulePlace r)) (conditionAt s (rulePlace r))) m && hasMark marks m)
+      named : (m : ℕ) → m < maxMarks
+          → (bit rows markWords c m && hasMark marks m) ≡ (reads (textOf (bookOf s)) (senseFrom (senseAt s (rulePlace r)) (conditionAt s (rulePlace r))) m && hasMark marks m)
       named m k =
           rw (ne-eqb (senseAt s (rulePlace r)) 0 (λ z. omega arith), f .names c m (asked-in s r g h c l e) k, e)
           (cases (eqb (senseAt s (rulePlace r)) 1) (λ z. rw z) (λ z. rw z))
@@ -187,7 +192,8 @@ module _ (s rows : List ℕ) (r m : ℕ) (g : WellFormed s) (h : r < rulesIn s) 
       (λ y. rw (x, y, le-leb 2 (kindAt s (rulePlace r)) (omega (arith, eqb-false (kindAt s (rulePlace r)) 0 x, eqb-false (kindAt s (rulePlace r)) 1 y)))
       (cases (eqb (kindAt s (rulePlace r)) 2) (λ z. rw z) (λ z. rw z)))))
 
-  reads-byte : References s rows → m < maxMarks → reads (textOf (bookOf s)) (ruleOf (bookOf s) r .sense) m ≡ (leb 1 (senseAt s (rulePlace r)) && bit rows markWords (conditionAt s (rulePlace r)) m)
+  reads-byte : References s rows → m < maxMarks
+      → reads (textOf (bookOf s)) (ruleOf (bookOf s) r .sense) m ≡ (leb 1 (senseAt s (rulePlace r)) && bit rows markWords (conditionAt s (rulePlace r)) m)
   unfolding ruleFrom senseFrom reads
   reads-byte f l =
       rw (rule-read s r h)
