@@ -1,6 +1,6 @@
 // A reader that keeps the borrowed image beside its header counts.
 ghost use mathlib.Core.Path.{_≡_};
-ghost use Prim.Native.Nat.{_+_, _*_, _≤_};
+ghost use Prim.Native.Nat.{_+_, _≤_};
 ghost use lib.ListN.{length};
 ghost use Rattle.paper.specs.Limits.{ruleSize, conditionSize};
 ghost use Rattle.book.specs.Image.{rulePlace, conditionPlace, ruleFrom};

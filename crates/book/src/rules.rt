@@ -1,7 +1,7 @@
 // Rule records: ten bytes judged, and decoded.
 ghost use mathlib.Core.Path.{_≡_};
 ghost use mathlib.Core.Bool.{not};
-ghost use Prim.Native.Nat.{ℕ, _+_, _*_, _≤_};
+ghost use Prim.Native.Nat.{_+_, _*_, _≤_};
 ghost use lib.ListN.{length};
 ghost use Rattle.paper.specs.Limits.{bookHeader, ruleSize};
 ghost use Rattle.general.specs.Below.{first};

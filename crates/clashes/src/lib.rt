@@ -5,7 +5,6 @@ ghost use Prim.Native.Nat.{_+_, _*_, _≤_, _<_};
 ghost use lib.Dec.{eqb, ltb};
 ghost use lib.ListN.{length};
 ghost use Rattle.paper.specs.Limits.{maxMarks, maxEvents, ruleSize};
-ghost use Rattle.book.specs.Book.{ruleOf};
 ghost use Rattle.book.specs.Image.{rulesIn, rulePlace, ruleFrom, bookOf};
 ghost use Rattle.book.specs.WellRead.{triggerExists};
 ghost use Rattle.book.specs.WellFormed.{WellFormed};

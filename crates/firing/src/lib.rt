@@ -1,6 +1,6 @@
 // Whether a rule fires: its trigger, and its condition in the marks as they now stand.
 ghost use mathlib.Core.Path.{_≡_};
-ghost use mathlib.Core.Bool.{true, _&&_};
+ghost use mathlib.Core.Bool.{true};
 ghost use Prim.Native.Nat.{_<_};
 ghost use Rattle.paper.specs.Limits.{maxEvents, maxMarks};
 ghost use Rattle.book.specs.Text.{holds, snapOf};

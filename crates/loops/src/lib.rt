@@ -1,6 +1,6 @@
 // The lowest mark targeted by a rule on a loop.
 ghost use mathlib.Core.Path.{_≡_};
-ghost use Prim.Native.Nat.{ℕ, _<_};
+ghost use Prim.Native.Nat.{_<_};
 ghost use lib.ListN.{length, replicate};
 ghost use Rattle.book.specs.Image.{rulesIn, marksIn, bookOf};
 ghost use Rattle.book.specs.WellFormed.{WellFormed};
