@@ -6,3 +6,4 @@ pub mod Lists
 pub mod Numbering
 pub mod Writing
 pub mod Scan
+pub mod Refusals

@@ -10,6 +10,7 @@ use Rattle.paper.specs.Limits.{maxEvents, noSuchEvent, notPermitted, notInclude
 use Rattle.paper.specs.Answers.{answer, granted, refusal}
 use Rattle.general.specs.Cases.{contra, cases, both, all3, either, or-right, not-so, same-test, coincide}
 use Rattle.general.specs.Below.{tally, Lowest, lowest-one}
+use Rattle.general.specs.Refusals.{Rows, row, otherwise, unless, firstRow, Told, first-told, told-only, fails}
 use Rattle.sets.specs.Set.{has, inter, minus, only, lowest}
 use Rattle.sets.specs.Laws.{has-union, has-inter, has-minus, has-only, has-empty, none-zero, ext, lowest-has, lowest-lt, lowest-least, has-collect, size-collect, below, apart-not, not-apart, lowest-none}
 use Rattle.graph.specs.Chart.{condition, response, milestone, include, exclude, setOf, rolesOf, In, Fit, FitMarking}
@@ -171,54 +172,60 @@ module _ (c : FlatChart) (m : Marking) (e : ℕ) where
         least = λ g l p. contra (h g .1 p) (lowest-least maxEvents s g l);
       }
 
-  pub executes : (r : ℕ) → Executes c m e r (executing c m e r)
-  unfolding executing steppingBy stepping openWith
-  executes r =
-      cases (fit c m)
-      (λ ok. let t = fit-both c m ok in
-      cases (leb (c .count) e)
-      (λ g. rw (ok, g) (isGone (t .0) (t .1) (leb-true (c .count) e g)))
-      (λ g. let d : Stands c m e = record { chart = t .0; marking = t .1; exists = leb-false (c .count) e g } in
-      cases (permits (rolesOf c e) r)
-      (λ o. let s : Admitted c m e r = record { stands = d; permitted = permits-so (rolesOf c e) r .0 o } in
-      cases (has (m .included) e)
-      (λ i. cases (eqb (unmetOf m (setOf c condition e)) 0)
-      (λ u. cases (eqb (awaitedOf m (setOf c milestone e)) 0)
-      (λ w. rw (ok, g, o, i, u, w) (isDone s (open-enabled c m e .0 (opens i u w)) (after-executed c m e)))
-      (λ w. rw (ok, g, o, i, u, w) (isAwaiting s i (λ f x. contra (unmet-wanting c m e f .1 x) (ap (λ (y : ℕ). has y f) (eqb-true _ 0 u) ∙ has-empty f))
-      (lowest-in (t .0) (t .1) (Awaiting c m e) (awaitedOf m (setOf c milestone e)) (awaited-awaiting c m e) (λ f x. x .included) (eqb-false _ 0 w)))))
-      (λ u. rw (ok, g, o, i, u) (isWanting s i (lowest-in (t .0) (t .1) (Wanting c m e) (unmetOf m (setOf c condition e)) (unmet-wanting c m e) (λ f x. x .included) (eqb-false _ 0 u)))))
-      (λ i. rw (ok, g, o, i) (isExcluded s (λ x. contra x i))))
-      (λ o. rw (ok, g, o) (isForbidden d (λ x. contra (permits-so (rolesOf c e) r .1 x) o)))))
-      (λ no. rw no (isUnfit (λ f t. contra (both-fit c m f t) no)))
-    where
-      opens : has (m .included) e ≡ true → eqb (unmetOf m (setOf c condition e)) 0 ≡ true → eqb (awaitedOf m (setOf c milestone e)) 0 ≡ true → isOpen c m e ≡ true
-      opens i u w = rw (i, u, w)
+  lowest-wanting : Stands c m e → (unmetOf m (setOf c condition e) ≡ 0 → ⊥) → Lowest (c .count) (Wanting c m e) (lowest maxEvents (unmetOf m (setOf c condition e)))
+  lowest-wanting s = lowest-in (s .chart) (s .marking) (Wanting c m e) (unmetOf m (setOf c condition e)) (unmet-wanting c m e) (λ f x. x .included)
 
-  some-in : (s f : ℕ) → In s f → s ≡ 0 → ⊥
-  some-in s f h z = contra h (ap (λ (x : ℕ). has x f) z ∙ has-empty f)
+  lowest-awaiting : Stands c m e → (awaitedOf m (setOf c milestone e) ≡ 0 → ⊥) → Lowest (c .count) (Awaiting c m e) (lowest maxEvents (awaitedOf m (setOf c milestone e)))
+  lowest-awaiting s = lowest-in (s .chart) (s .marking) (Awaiting c m e) (awaitedOf m (setOf c milestone e)) (awaited-awaiting c m e) (λ f x. x .included)
+
+  some-in : (s f : ℕ) → In s f → eqb s 0 ≡ true → ⊥
+  some-in s f h z = contra h (ap (λ (x : ℕ). has x f) (eqb-true s 0 z) ∙ has-empty f)
+
+  opens : ((has (m .included) e ≡ true) × (eqb (unmetOf m (setOf c condition e)) 0 ≡ true) × (eqb (awaitedOf m (setOf c milestone e)) 0 ≡ true)) ↔ Enabled c m e
+  unfolding openWith
+  opens = (
+    λ k. open-enabled c m e .0 (rw (k .0, k .1, k .2)),
+    λ x. all3 (has (m .included) e) (eqb (unmetOf m (setOf c condition e)) 0) (eqb (awaitedOf m (setOf c milestone e)) 0) (open-enabled c m e .1 x),
+  )
+
+  -- the rows in the order in which executing tests them
+  unfoldable executionRows : (r : ℕ) → Rows (Executes c m e r) (Unit {0})
+  executionRows r =
+      unless (fit c m) (refusing unfit 0 m) (λ _ h. isUnfit (λ f t. contra (both-fit c m f t) h))
+      (λ k. fit-both c m (k .1), λ k. (tt, both-fit c m (k .0) (k .1)))
+      (row {N = Stands c m e} (leb (c .count) e) (refusing noSuchEvent 0 m) (λ k h. isGone (k .0) (k .1) (leb-true (c .count) e h))
+      (λ k. record { chart = k .0 .0; marking = k .0 .1; exists = leb-false (c .count) e (k .1) }, λ k. ((k .chart, k .marking), lt-leb (c .count) e (k .exists)))
+      (unless {N = Admitted c m e r} (permits (rolesOf c e) r) (refusing notPermitted 0 m) (λ k h. isForbidden k (λ x. contra (permits-so (rolesOf c e) r .1 x) h))
+      (λ k. record { stands = k .0; permitted = permits-so (rolesOf c e) r .0 (k .1) }, λ k. (k .stands, permits-so (rolesOf c e) r .1 (k .permitted)))
+      (unless (has (m .included) e) (refusing notIncluded 0 m) (λ k h. isExcluded k (λ x. contra x h)) (λ k. k, λ k. k)
+      (unless (eqb (unmetOf m (setOf c condition e)) 0) (refusing conditionWanting (lowest maxEvents (unmetOf m (setOf c condition e))) m)
+      (λ k h. isWanting (k .0) (k .1) (lowest-wanting (k .0 .stands) (eqb-false _ 0 h))) (λ k. k, λ k. k)
+      (unless {N = Admitted c m e r × Enabled c m e} (eqb (awaitedOf m (setOf c milestone e)) 0) (refusing milestoneWanting (lowest maxEvents (awaitedOf m (setOf c milestone e))) m)
+      (λ k h. isAwaiting (k .0 .0) (k .0 .1) (λ f x. some-in _ f (unmet-wanting c m e f .1 x) (k .1)) (lowest-awaiting (k .0 .0 .stands) (eqb-false _ 0 h)))
+      (λ k. (k .0 .0 .0, opens .0 (k .0 .0 .1, k .0 .1, k .1)), λ k. let o = opens .1 (k .1) in (((k .0, o .0), o .1), o .2))
+      (otherwise (granting (after c m e)) (λ k. isDone (k .0) (k .1) (after-executed c m e))))))))
+
+  pub executes : (r : ℕ) → Executes c m e r (executing c m e r)
+  unfolding executing steppingBy stepping executionRows firstRow
+  executes r = first-told (executionRows r) tt
 
   -- and nothing else: whatever the paper's cases allow is what executing gives
   pub executes-only : {r : ℕ} {s : Step} → Executes c m e r s → s ≡ executing c m e r
-  unfolding executing steppingBy stepping openWith
-  executes-only {r} (isUnfit n) = let no : fit c m ≡ false = not-so (λ ok. let t = fit-both c m ok in n (t .0) (t .1)) in rw no
-  executes-only {r} (isGone f t g) = rw (both-fit c m f t, le-leb (c .count) e g)
-  executes-only {r} (isForbidden s x) = rw (both-fit c m (s .chart) (s .marking), lt-leb (c .count) e (s .exists), not-so (λ o. x (permits-so (rolesOf c e) r .0 o)))
-  executes-only {r} (isExcluded s x) = rw (both-fit c m (s .stands .chart) (s .stands .marking), lt-leb (c .count) e (s .stands .exists), permits-so _ r .1 (s .permitted), not-so x)
+  unfolding executing steppingBy stepping executionRows firstRow Told
+  executes-only {r} (isUnfit n) = told-only (executionRows r) (inl (tt, fails (λ ok. let t = fit-both c m ok in n (t .0) (t .1)), refl))
+  executes-only {r} (isGone f t g) = told-only (executionRows r) (inr (inl ((f, t), le-leb (c .count) e g, refl)))
+  executes-only {r} (isForbidden s x) = told-only (executionRows r) (inr (inr (inl (s, fails (λ o. x (permits-so (rolesOf c e) r .0 o)), refl))))
+  executes-only {r} (isExcluded s x) = told-only (executionRows r) (inr (inr (inr (inl (s, fails x, refl)))))
   executes-only {r} (isWanting {f} s i l) =
-      let u : unmetOf m (setOf c condition e) ≡ 0 → ⊥ = some-in _ f (unmet-wanting c m e f .1 (l .holds)) in
-      let o : f ≡ lowest maxEvents (unmetOf m (setOf c condition e)) = lowest-one (c .count) (Wanting c m e) f _ l
-      (lowest-in (s .stands .chart) (s .stands .marking) (Wanting c m e) (unmetOf m (setOf c condition e)) (unmet-wanting c m e) (λ g x. x .included) u) in
-      rw (both-fit c m (s .stands .chart) (s .stands .marking), lt-leb (c .count) e (s .stands .exists), permits-so _ r .1 (s .permitted), i, ne-eqb _ 0 u) (ap (λ (x : ℕ). refusing conditionWanting x m) o)
+      let u = some-in _ f (unmet-wanting c m e f .1 (l .holds)) in
+      told-only (executionRows r) (inr (inr (inr (inr (inl ((s, i), fails u,
+      ap (λ (x : ℕ). refusing conditionWanting x m) (lowest-one (c .count) (Wanting c m e) f _ l (lowest-wanting (s .stands) (eqb-false _ 0 (not-so u))))))))))
   executes-only {r} (isAwaiting {f} s i n l) =
-      let z : unmetOf m (setOf c condition e) ≡ 0 = none-zero _ (λ g. not-so (λ h. n g (unmet-wanting c m e g .0 h))) in
-      let w : awaitedOf m (setOf c milestone e) ≡ 0 → ⊥ = some-in _ f (awaited-awaiting c m e f .1 (l .holds)) in
-      let o : f ≡ lowest maxEvents (awaitedOf m (setOf c milestone e)) = lowest-one (c .count) (Awaiting c m e) f _ l
-      (lowest-in (s .stands .chart) (s .stands .marking) (Awaiting c m e) (awaitedOf m (setOf c milestone e)) (awaited-awaiting c m e) (λ g x. x .included) w) in
-      rw (both-fit c m (s .stands .chart) (s .stands .marking), lt-leb (c .count) e (s .stands .exists), permits-so _ r .1 (s .permitted), i, eq-eqb _ 0 z, ne-eqb _ 0 w) (ap (λ (x : ℕ). refusing milestoneWanting x m) o)
-  executes-only {r} (isDone {n} s t x) =
-      let o = all3 (has (m .included) e) (eqb (unmetOf m (setOf c condition e)) 0) (eqb (awaitedOf m (setOf c milestone e)) 0) (open-enabled c m e .1 t) in
-      rw (both-fit c m (s .stands .chart) (s .stands .marking), lt-leb (c .count) e (s .stands .exists), permits-so _ r .1 (s .permitted), o .0, o .1, o .2) (ap granting (executed-one c m e n _ x (after-executed c m e)))
+      let w = some-in _ f (awaited-awaiting c m e f .1 (l .holds)) in
+      let z = eq-eqb _ 0 (none-zero (unmetOf m (setOf c condition e)) (λ g. not-so (λ h. n g (unmet-wanting c m e g .0 h)))) in
+      told-only (executionRows r) (inr (inr (inr (inr (inr (inl (((s, i), z), fails w,
+      ap (λ (x : ℕ). refusing milestoneWanting x m) (lowest-one (c .count) (Awaiting c m e) f _ l (lowest-awaiting (s .stands) (eqb-false _ 0 (not-so w)))))))))))
+  executes-only {r} (isDone {n} s t x) = told-only (executionRows r) (inr (inr (inr (inr (inr (inr ((s, t), ap granting (executed-one c m e n _ x (after-executed c m e)))))))))
 
   -- granted exactly if enabled, by a role that may
   pub granted-enabled : (r : ℕ) → (executing c m e r .answer .code ≡ 0) ↔ (Admitted c m e r × Enabled c m e)
