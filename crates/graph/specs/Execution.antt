@@ -172,11 +172,11 @@ module _ (c : FlatChart) (m : Marking) (e : ℕ) where
         least = λ g l p. contra (h g .1 p) (lowest-least maxEvents s g l);
       }
 
-  lowest-wanting : Stands c m e → (unmetOf m (setOf c condition e) ≡ 0 → ⊥) → Lowest (c .count) (Wanting c m e) (lowest maxEvents (unmetOf m (setOf c condition e)))
-  lowest-wanting s = lowest-in (s .chart) (s .marking) (Wanting c m e) (unmetOf m (setOf c condition e)) (unmet-wanting c m e) (λ f x. x .included)
+  lowest-wanting : Stands c m e → eqb (unmetOf m (setOf c condition e)) 0 ≡ false → Lowest (c .count) (Wanting c m e) (lowest maxEvents (unmetOf m (setOf c condition e)))
+  lowest-wanting s h = lowest-in (s .chart) (s .marking) (Wanting c m e) (unmetOf m (setOf c condition e)) (unmet-wanting c m e) (λ f x. x .included) (eqb-false _ 0 h)
 
-  lowest-awaiting : Stands c m e → (awaitedOf m (setOf c milestone e) ≡ 0 → ⊥) → Lowest (c .count) (Awaiting c m e) (lowest maxEvents (awaitedOf m (setOf c milestone e)))
-  lowest-awaiting s = lowest-in (s .chart) (s .marking) (Awaiting c m e) (awaitedOf m (setOf c milestone e)) (awaited-awaiting c m e) (λ f x. x .included)
+  lowest-awaiting : Stands c m e → eqb (awaitedOf m (setOf c milestone e)) 0 ≡ false → Lowest (c .count) (Awaiting c m e) (lowest maxEvents (awaitedOf m (setOf c milestone e)))
+  lowest-awaiting s h = lowest-in (s .chart) (s .marking) (Awaiting c m e) (awaitedOf m (setOf c milestone e)) (awaited-awaiting c m e) (λ f x. x .included) (eqb-false _ 0 h)
 
   some-in : (s f : ℕ) → In s f → eqb s 0 ≡ true → ⊥
   some-in s f h z = contra h (ap (λ (x : ℕ). has x f) (eqb-true s 0 z) ∙ has-empty f)
@@ -199,9 +199,9 @@ module _ (c : FlatChart) (m : Marking) (e : ℕ) where
       (λ k. record { stands = k .0; permitted = permits-so (rolesOf c e) r .0 (k .1) }, λ k. (k .stands, permits-so (rolesOf c e) r .1 (k .permitted)))
       (unless (has (m .included) e) (refusing notIncluded 0 m) (λ k h. isExcluded k (λ x. contra x h)) (λ k. k, λ k. k)
       (unless (eqb (unmetOf m (setOf c condition e)) 0) (refusing conditionWanting (lowest maxEvents (unmetOf m (setOf c condition e))) m)
-      (λ k h. isWanting (k .0) (k .1) (lowest-wanting (k .0 .stands) (eqb-false _ 0 h))) (λ k. k, λ k. k)
+      (λ k h. isWanting (k .0) (k .1) (lowest-wanting (k .0 .stands) h)) (λ k. k, λ k. k)
       (unless {N = Admitted c m e r × Enabled c m e} (eqb (awaitedOf m (setOf c milestone e)) 0) (refusing milestoneWanting (lowest maxEvents (awaitedOf m (setOf c milestone e))) m)
-      (λ k h. isAwaiting (k .0 .0) (k .0 .1) (λ f x. some-in _ f (unmet-wanting c m e f .1 x) (k .1)) (lowest-awaiting (k .0 .0 .stands) (eqb-false _ 0 h)))
+      (λ k h. isAwaiting (k .0 .0) (k .0 .1) (λ f x. some-in _ f (unmet-wanting c m e f .1 x) (k .1)) (lowest-awaiting (k .0 .0 .stands) h))
       (λ k. (k .0 .0 .0, opens .0 (k .0 .0 .1, k .0 .1, k .1)), λ k. let o = opens .1 (k .1) in (((k .0, o .0), o .1), o .2))
       (otherwise (granting (after c m e)) (λ k. isDone (k .0) (k .1) (after-executed c m e))))))))
 
@@ -212,58 +212,45 @@ module _ (c : FlatChart) (m : Marking) (e : ℕ) where
   -- and nothing else: whatever the paper's cases allow is what executing gives
   pub executes-only : {r : ℕ} {s : Step} → Executes c m e r s → s ≡ executing c m e r
   unfolding executing steppingBy stepping executionRows firstRow Told
-  executes-only {r} (isUnfit n) = told-only (executionRows r) (inl (tt, fails (λ ok. let t = fit-both c m ok in n (t .0) (t .1)), refl))
-  executes-only {r} (isGone f t g) = told-only (executionRows r) (inr (inl ((f, t), le-leb (c .count) e g, refl)))
-  executes-only {r} (isForbidden s x) = told-only (executionRows r) (inr (inr (inl (s, fails (λ o. x (permits-so (rolesOf c e) r .0 o)), refl))))
-  executes-only {r} (isExcluded s x) = told-only (executionRows r) (inr (inr (inr (inl (s, fails x, refl)))))
+  executes-only {r} (isUnfit n) = let h = fails (λ ok. let t = fit-both c m ok in n (t .0) (t .1)) in told-only (executionRows r) (search (inl, inr, tt) depth 12)
+  executes-only {r} (isGone f t g) = let h = le-leb (c .count) e g in told-only (executionRows r) (search (inl, inr) depth 12)
+  executes-only {r} (isForbidden s x) = let h = fails (λ o. x (permits-so (rolesOf c e) r .0 o)) in told-only (executionRows r) (search (inl, inr) depth 12)
+  executes-only {r} (isExcluded s x) = let h = fails x in told-only (executionRows r) (search (inl, inr) depth 12)
   executes-only {r} (isWanting {f} s i l) =
-      let u = some-in _ f (unmet-wanting c m e f .1 (l .holds)) in
-      told-only (executionRows r) (inr (inr (inr (inr (inl ((s, i), fails u,
-      ap (λ (x : ℕ). refusing conditionWanting x m) (lowest-one (c .count) (Wanting c m e) f _ l (lowest-wanting (s .stands) (eqb-false _ 0 (not-so u))))))))))
+      let h = some-in _ f (unmet-wanting c m e f .1 (l .holds)) in
+      let k = fails h in
+      let q = ap (λ (x : ℕ). refusing conditionWanting x m) (lowest-one (c .count) (Wanting c m e) f _ l (lowest-wanting (s .stands) (not-so h))) in
+      told-only (executionRows r) (search (inl, inr) depth 12)
   executes-only {r} (isAwaiting {f} s i n l) =
-      let w = some-in _ f (awaited-awaiting c m e f .1 (l .holds)) in
       let z = eq-eqb _ 0 (none-zero (unmetOf m (setOf c condition e)) (λ g. not-so (λ h. n g (unmet-wanting c m e g .0 h)))) in
-      told-only (executionRows r) (inr (inr (inr (inr (inr (inl (((s, i), z), fails w,
-      ap (λ (x : ℕ). refusing milestoneWanting x m) (lowest-one (c .count) (Awaiting c m e) f _ l (lowest-awaiting (s .stands) (eqb-false _ 0 (not-so w)))))))))))
-  executes-only {r} (isDone {n} s t x) = told-only (executionRows r) (inr (inr (inr (inr (inr (inr ((s, t), ap granting (executed-one c m e n _ x (after-executed c m e)))))))))
+      let h = some-in _ f (awaited-awaiting c m e f .1 (l .holds)) in
+      let k = fails h in
+      let q = ap (λ (x : ℕ). refusing milestoneWanting x m) (lowest-one (c .count) (Awaiting c m e) f _ l (lowest-awaiting (s .stands) (not-so h))) in
+      told-only (executionRows r) (search (inl, inr) depth 12)
+  executes-only {r} (isDone {n} s t x) = let q = ap granting (executed-one c m e n _ x (after-executed c m e)) in told-only (executionRows r) (search (inl, inr) depth 12)
+
+  -- a refused step returns its marking; a granted one is that of an admitted, enabled event, and is Definition 3's
+  outcome : {r : ℕ} {s : Step} → Executes c m e r s → ((s .answer .code ≡ 0 → ⊥) × (s .marking ≡ m)) ⊎ (Admitted c m e r × Enabled c m e × Executed c m e (s .marking))
+  outcome (isUnfit _) = inl (λ h. omega arith, refl)
+  outcome (isGone _ _ _) = inl (λ h. omega arith, refl)
+  outcome (isForbidden _ _) = inl (λ h. omega arith, refl)
+  outcome (isExcluded _ _) = inl (λ h. omega arith, refl)
+  outcome (isWanting _ _ _) = inl (λ h. omega arith, refl)
+  outcome (isAwaiting _ _ _ _) = inl (λ h. omega arith, refl)
+  outcome (isDone s t x) = inr (s, t, x)
 
   -- granted exactly if enabled, by a role that may
   pub granted-enabled : (r : ℕ) → (executing c m e r .answer .code ≡ 0) ↔ (Admitted c m e r × Enabled c m e)
-  granted-enabled r = (λ h. grants (executes r) h, λ t. ap (λ (s : Step). s .answer .code) (sym (executes-only (isDone (t .0) (t .1) (after-executed c m e)))))
-    where
-      grants : {s : Step} → Executes c m e r s → s .answer .code ≡ 0 → Admitted c m e r × Enabled c m e
-      grants (isUnfit _) h = absurd (omega arith)
-      grants (isGone _ _ _) h = absurd (omega arith)
-      grants (isForbidden _ _) h = absurd (omega arith)
-      grants (isExcluded _ _) h = absurd (omega arith)
-      grants (isWanting _ _ _) h = absurd (omega arith)
-      grants (isAwaiting _ _ _ _) h = absurd (omega arith)
-      grants (isDone s t _) h = (s, t)
+  granted-enabled r = (
+    λ h. ⊎-elim (λ k. absurd (k .0 h)) (λ k. (k .0, k .1)) (outcome (executes r)),
+    λ t. ap (λ (s : Step). s .answer .code) (sym (executes-only (isDone (t .0) (t .1) (after-executed c m e)))),
+  )
 
-  -- a granted step is Definition 3's; a refused one returns its marking
   pub granted-executed : (r : ℕ) → executing c m e r .answer .code ≡ 0 → Executed c m e (executing c m e r .marking)
-  granted-executed r h = told (executes r) h
-    where
-      told : {s : Step} → Executes c m e r s → s .answer .code ≡ 0 → Executed c m e (s .marking)
-      told (isUnfit _) h = absurd (omega arith)
-      told (isGone _ _ _) h = absurd (omega arith)
-      told (isForbidden _ _) h = absurd (omega arith)
-      told (isExcluded _ _) h = absurd (omega arith)
-      told (isWanting _ _ _) h = absurd (omega arith)
-      told (isAwaiting _ _ _ _) h = absurd (omega arith)
-      told (isDone _ _ x) h = x
+  granted-executed r h = ⊎-elim (λ k. absurd (k .0 h)) (λ k. k .2) (outcome (executes r))
 
   pub refused-kept : (r : ℕ) → (executing c m e r .answer .code ≡ 0 → ⊥) → executing c m e r .marking ≡ m
-  refused-kept r h = told (executes r) h
-    where
-      told : {s : Step} → Executes c m e r s → (s .answer .code ≡ 0 → ⊥) → s .marking ≡ m
-      told (isUnfit _) h = refl
-      told (isGone _ _ _) h = refl
-      told (isForbidden _ _) h = refl
-      told (isExcluded _ _) h = refl
-      told (isWanting _ _ _) h = refl
-      told (isAwaiting _ _ _ _) h = refl
-      told (isDone _ _ _) h = absurd (h refl)
+  refused-kept r h = ⊎-elim (λ k. k .1) (λ k. absurd (h (granted-enabled r .1 (k .0, k .1)))) (outcome (executes r))
 
   -- a granted step keeps the marking fit
   pub after-fit : Fit c → FitMarking (c .count) m → e < c .count → FitMarking (c .count) (after c m e)
