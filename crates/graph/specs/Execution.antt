@@ -181,11 +181,13 @@ module _ (c : FlatChart) (m : Marking) (e : ℕ) where
   some-in : (s f : ℕ) → In s f → eqb s 0 ≡ true → ⊥
   some-in s f h z = contra h (ap (λ (x : ℕ). has x f) (eqb-true s 0 z) ∙ has-empty f)
 
-  opens : ((has (m .included) e ≡ true) × (eqb (unmetOf m (setOf c condition e)) 0 ≡ true) × (eqb (awaitedOf m (setOf c milestone e)) 0 ≡ true)) ↔ Enabled c m e
+  -- no test of the event's own holds it back: it is enabled
+  frees : {B : Type 0} → (((B × In (m .included) e) × (eqb (unmetOf m (setOf c condition e)) 0 ≡ true)) × (eqb (awaitedOf m (setOf c milestone e)) 0 ≡ true)) ↔ (B × Enabled c m e)
   unfolding openWith
-  opens = (
-    λ k. open-enabled c m e .0 (rw (k .0, k .1, k .2)),
-    λ x. all3 (has (m .included) e) (eqb (unmetOf m (setOf c condition e)) 0) (eqb (awaitedOf m (setOf c milestone e)) 0) (open-enabled c m e .1 x),
+  frees = (
+    λ k. (k .0 .0 .0, open-enabled c m e .0 (rw (k .0 .0 .1, k .0 .1, k .1))),
+    λ k. let o = all3 (has (m .included) e) (eqb (unmetOf m (setOf c condition e)) 0) (eqb (awaitedOf m (setOf c milestone e)) 0) (open-enabled c m e .1 (k .1)) in
+        (((k .0, o .0), o .1), o .2),
   )
 
   -- the rows in the order in which executing tests them
@@ -200,9 +202,8 @@ module _ (c : FlatChart) (m : Marking) (e : ℕ) where
       (unless (has (m .included) e) (refusing notIncluded 0 m) (λ k h. isExcluded k (λ x. contra x h)) (λ k. k, λ k. k)
       (unless (eqb (unmetOf m (setOf c condition e)) 0) (refusing conditionWanting (lowest maxEvents (unmetOf m (setOf c condition e))) m)
       (λ k h. isWanting (k .0) (k .1) (lowest-wanting (k .0 .stands) h)) (λ k. k, λ k. k)
-      (unless {N = Admitted c m e r × Enabled c m e} (eqb (awaitedOf m (setOf c milestone e)) 0) (refusing milestoneWanting (lowest maxEvents (awaitedOf m (setOf c milestone e))) m)
-      (λ k h. isAwaiting (k .0 .0) (k .0 .1) (λ f x. some-in _ f (unmet-wanting c m e f .1 x) (k .1)) (lowest-awaiting (k .0 .0 .stands) h))
-      (λ k. (k .0 .0 .0, opens .0 (k .0 .0 .1, k .0 .1, k .1)), λ k. let o = opens .1 (k .1) in (((k .0, o .0), o .1), o .2))
+      (unless (eqb (awaitedOf m (setOf c milestone e)) 0) (refusing milestoneWanting (lowest maxEvents (awaitedOf m (setOf c milestone e))) m)
+      (λ k h. isAwaiting (k .0 .0) (k .0 .1) (λ f x. some-in _ f (unmet-wanting c m e f .1 x) (k .1)) (lowest-awaiting (k .0 .0 .stands) h)) frees
       (otherwise (granting (after c m e)) (λ k. isDone (k .0) (k .1) (after-executed c m e))))))))
 
   pub executes : (r : ℕ) → Executes c m e r (executing c m e r)
