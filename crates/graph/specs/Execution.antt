@@ -10,7 +10,7 @@ use Rattle.paper.specs.Limits.{maxEvents, noSuchEvent, notPermitted, notInclude
 use Rattle.paper.specs.Answers.{answer, granted, refusal}
 use Rattle.general.specs.Cases.{contra, cases, both, all3, either, or-right, not-so, same-test, coincide}
 use Rattle.general.specs.Below.{tally, Lowest, lowest-one}
-use Rattle.general.specs.Refusals.{Rows, row, otherwise, unless, firstRow, Told, first-told, told-only, fails}
+use Rattle.general.specs.Refusals.{Refusals, when, unless, otherwise, firstRow, Told, first-told, told-only, not-held}
 use Rattle.sets.specs.Set.{has, inter, minus, only, lowest}
 use Rattle.sets.specs.Laws.{has-union, has-inter, has-minus, has-only, has-empty, none-zero, ext, lowest-has, lowest-lt, lowest-least, has-collect, size-collect, below, apart-not, not-apart, lowest-none}
 use Rattle.graph.specs.Chart.{condition, response, milestone, include, exclude, setOf, rolesOf, In, Fit, FitMarking}
@@ -191,11 +191,11 @@ module _ (c : FlatChart) (m : Marking) (e : ℕ) where
   )
 
   -- the rows in the order in which executing tests them
-  unfoldable executionRows : (r : ℕ) → Rows (Executes c m e r) (Unit {0})
+  unfoldable executionRows : (r : ℕ) → Refusals (Executes c m e r) (Unit {0})
   executionRows r =
       unless (fit c m) (refusing unfit 0 m) (λ _ h. isUnfit (λ f t. contra (both-fit c m f t) h))
       (λ k. fit-both c m (k .1), λ k. (tt, both-fit c m (k .0) (k .1)))
-      (row {N = Stands c m e} (leb (c .count) e) (refusing noSuchEvent 0 m) (λ k h. isGone (k .0) (k .1) (leb-true (c .count) e h))
+      (when {N = Stands c m e} (leb (c .count) e) (refusing noSuchEvent 0 m) (λ k h. isGone (k .0) (k .1) (leb-true (c .count) e h))
       (λ k. record { chart = k .0 .0; marking = k .0 .1; exists = leb-false (c .count) e (k .1) }, λ k. ((k .chart, k .marking), lt-leb (c .count) e (k .exists)))
       (unless {N = Admitted c m e r} (permits (rolesOf c e) r) (refusing notPermitted 0 m) (λ k h. isForbidden k (λ x. contra (permits-so (rolesOf c e) r .1 x) h))
       (λ k. record { stands = k .0; permitted = permits-so (rolesOf c e) r .0 (k .1) }, λ k. (k .stands, permits-so (rolesOf c e) r .1 (k .permitted)))
@@ -213,45 +213,45 @@ module _ (c : FlatChart) (m : Marking) (e : ℕ) where
   -- and nothing else: whatever the paper's cases allow is what executing gives
   pub executes-only : {r : ℕ} {s : Step} → Executes c m e r s → s ≡ executing c m e r
   unfolding executing steppingBy stepping executionRows firstRow Told
-  executes-only {r} (isUnfit n) = let h = fails (λ ok. let t = fit-both c m ok in n (t .0) (t .1)) in told-only (executionRows r) (search (inl, inr, tt) depth 12)
+  executes-only {r} (isUnfit n) = let h = not-held (λ ok. let t = fit-both c m ok in n (t .0) (t .1)) in told-only (executionRows r) (search (inl, inr, tt) depth 12)
   executes-only {r} (isGone f t g) = let h = le-leb (c .count) e g in told-only (executionRows r) (search (inl, inr) depth 12)
-  executes-only {r} (isForbidden s x) = let h = fails (λ o. x (permits-so (rolesOf c e) r .0 o)) in told-only (executionRows r) (search (inl, inr) depth 12)
-  executes-only {r} (isExcluded s x) = let h = fails x in told-only (executionRows r) (search (inl, inr) depth 12)
+  executes-only {r} (isForbidden s x) = let h = not-held (λ o. x (permits-so (rolesOf c e) r .0 o)) in told-only (executionRows r) (search (inl, inr) depth 12)
+  executes-only {r} (isExcluded s x) = let h = not-held x in told-only (executionRows r) (search (inl, inr) depth 12)
   executes-only {r} (isWanting {f} s i l) =
       let h = some-in _ f (unmet-wanting c m e f .1 (l .holds)) in
-      let k = fails h in
+      let k = not-held h in
       let q = ap (λ (x : ℕ). refusing conditionWanting x m) (lowest-one (c .count) (Wanting c m e) f _ l (lowest-wanting (s .stands) (not-so h))) in
       told-only (executionRows r) (search (inl, inr) depth 12)
   executes-only {r} (isAwaiting {f} s i n l) =
       let z = eq-eqb _ 0 (none-zero (unmetOf m (setOf c condition e)) (λ g. not-so (λ h. n g (unmet-wanting c m e g .0 h)))) in
       let h = some-in _ f (awaited-awaiting c m e f .1 (l .holds)) in
-      let k = fails h in
+      let k = not-held h in
       let q = ap (λ (x : ℕ). refusing milestoneWanting x m) (lowest-one (c .count) (Awaiting c m e) f _ l (lowest-awaiting (s .stands) (not-so h))) in
       told-only (executionRows r) (search (inl, inr) depth 12)
   executes-only {r} (isDone {n} s t x) = let q = ap granting (executed-one c m e n _ x (after-executed c m e)) in told-only (executionRows r) (search (inl, inr) depth 12)
 
   -- a refused step returns its marking; a granted one is that of an admitted, enabled event, and is Definition 3's
-  outcome : {r : ℕ} {s : Step} → Executes c m e r s → ((s .answer .code ≡ 0 → ⊥) × (s .marking ≡ m)) ⊎ (Admitted c m e r × Enabled c m e × Executed c m e (s .marking))
-  outcome (isUnfit _) = inl (λ h. omega arith, refl)
-  outcome (isGone _ _ _) = inl (λ h. omega arith, refl)
-  outcome (isForbidden _ _) = inl (λ h. omega arith, refl)
-  outcome (isExcluded _ _) = inl (λ h. omega arith, refl)
-  outcome (isWanting _ _ _) = inl (λ h. omega arith, refl)
-  outcome (isAwaiting _ _ _ _) = inl (λ h. omega arith, refl)
-  outcome (isDone s t x) = inr (s, t, x)
+  kept-or-done : {r : ℕ} {s : Step} → Executes c m e r s → ((s .answer .code ≡ 0 → ⊥) × (s .marking ≡ m)) ⊎ (Admitted c m e r × Enabled c m e × Executed c m e (s .marking))
+  kept-or-done (isUnfit _) = inl (λ h. omega arith, refl)
+  kept-or-done (isGone _ _ _) = inl (λ h. omega arith, refl)
+  kept-or-done (isForbidden _ _) = inl (λ h. omega arith, refl)
+  kept-or-done (isExcluded _ _) = inl (λ h. omega arith, refl)
+  kept-or-done (isWanting _ _ _) = inl (λ h. omega arith, refl)
+  kept-or-done (isAwaiting _ _ _ _) = inl (λ h. omega arith, refl)
+  kept-or-done (isDone s t x) = inr (s, t, x)
 
   -- granted exactly if enabled, by a role that may
   pub granted-enabled : (r : ℕ) → (executing c m e r .answer .code ≡ 0) ↔ (Admitted c m e r × Enabled c m e)
   granted-enabled r = (
-    λ h. ⊎-elim (λ k. absurd (k .0 h)) (λ k. (k .0, k .1)) (outcome (executes r)),
+    λ h. ⊎-elim (λ k. absurd (k .0 h)) (λ k. (k .0, k .1)) (kept-or-done (executes r)),
     λ t. ap (λ (s : Step). s .answer .code) (sym (executes-only (isDone (t .0) (t .1) (after-executed c m e)))),
   )
 
   pub granted-executed : (r : ℕ) → executing c m e r .answer .code ≡ 0 → Executed c m e (executing c m e r .marking)
-  granted-executed r h = ⊎-elim (λ k. absurd (k .0 h)) (λ k. k .2) (outcome (executes r))
+  granted-executed r h = ⊎-elim (λ k. absurd (k .0 h)) (λ k. k .2) (kept-or-done (executes r))
 
   pub refused-kept : (r : ℕ) → (executing c m e r .answer .code ≡ 0 → ⊥) → executing c m e r .marking ≡ m
-  refused-kept r h = ⊎-elim (λ k. k .1) (λ k. absurd (h (granted-enabled r .1 (k .0, k .1)))) (outcome (executes r))
+  refused-kept r h = ⊎-elim (λ k. k .1) (λ k. absurd (h (granted-enabled r .1 (k .0, k .1)))) (kept-or-done (executes r))
 
   -- a granted step keeps the marking fit
   pub after-fit : Fit c → FitMarking (c .count) m → e < c .count → FitMarking (c .count) (after c m e)
