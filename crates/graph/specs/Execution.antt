@@ -201,9 +201,9 @@ module _ (c : FlatChart) (m : Marking) (e : ℕ) where
       (λ k. record { stands = k .0; permitted = permits-so (rolesOf c e) r .0 (k .1) }, λ k. (k .stands, permits-so (rolesOf c e) r .1 (k .permitted)))
       (unless (has (m .included) e) (refusing notIncluded 0 m) (λ k h. isExcluded k (λ x. contra x h)) (λ k. k, λ k. k)
       (unless (eqb (unmetOf m (setOf c condition e)) 0) (refusing conditionWanting (lowest maxEvents (unmetOf m (setOf c condition e))) m)
-      (λ k h. isWanting (k .0) (k .1) (lowest-wanting (k .0 .stands) h)) (λ k. k, λ k. k)
+      (λ k h. isWanting (k .0) (k .1) (lowest-wanting (search) h)) (λ k. k, λ k. k)
       (unless (eqb (awaitedOf m (setOf c milestone e)) 0) (refusing milestoneWanting (lowest maxEvents (awaitedOf m (setOf c milestone e))) m)
-      (λ k h. isAwaiting (k .0 .0) (k .0 .1) (λ f x. some-in _ f (unmet-wanting c m e f .1 x) (k .1)) (lowest-awaiting (k .0 .0 .stands) h)) frees
+      (λ k h. isAwaiting (k .0 .0) (k .0 .1) (λ f x. some-in _ f (unmet-wanting c m e f .1 x) (k .1)) (lowest-awaiting (search) h)) frees
       (otherwise (granting (after c m e)) (λ k. isDone (k .0) (k .1) (after-executed c m e))))))))
 
   pub executes : (r : ℕ) → Executes c m e r (executing c m e r)
@@ -220,13 +220,13 @@ module _ (c : FlatChart) (m : Marking) (e : ℕ) where
   executes-only {r} (isWanting {f} s i l) =
       let h = some-in _ f (unmet-wanting c m e f .1 (l .holds)) in
       let k = not-held h in
-      let q = ap (λ (x : ℕ). refusing conditionWanting x m) (lowest-one (c .count) (Wanting c m e) f _ l (lowest-wanting (s .stands) (not-so h))) in
+      let q = ap (λ (x : ℕ). refusing conditionWanting x m) (lowest-one (c .count) (Wanting c m e) f _ l (lowest-wanting (search) (not-so h))) in
       told-only (executionRows r) (search (inl, inr) depth 12)
   executes-only {r} (isAwaiting {f} s i n l) =
       let z = eq-eqb _ 0 (none-zero (unmetOf m (setOf c condition e)) (λ g. not-so (λ h. n g (unmet-wanting c m e g .0 h)))) in
       let h = some-in _ f (awaited-awaiting c m e f .1 (l .holds)) in
       let k = not-held h in
-      let q = ap (λ (x : ℕ). refusing milestoneWanting x m) (lowest-one (c .count) (Awaiting c m e) f _ l (lowest-awaiting (s .stands) (not-so h))) in
+      let q = ap (λ (x : ℕ). refusing milestoneWanting x m) (lowest-one (c .count) (Awaiting c m e) f _ l (lowest-awaiting (search) (not-so h))) in
       told-only (executionRows r) (search (inl, inr) depth 12)
   executes-only {r} (isDone {n} s t x) = let q = ap granting (executed-one c m e n _ x (after-executed c m e)) in told-only (executionRows r) (search (inl, inr) depth 12)
 
