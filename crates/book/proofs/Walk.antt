@@ -16,8 +16,10 @@ pub use ghost.Atoms.{Atoms, sem}
 pub use contract.Monad.{Fun, fact}
 pub use contract.Running.{givenOf, tables}
 unfoldable pub use contract.Running.{tablesOf}
-pub use types.Kit.{Given, ‵, raw, _⊛_, some, later, _$_, _∵_, !, qed, by, move, keep, drop, use1, split, join, pick, fsplit, fsplit3, fjoin, fjoin3, feqI, suffices, frame, await, done, use2, rewrite, fpick, fpack, feqL, use3, ⋆, given, learn}
-pub use types.Run.{look, init, forget, stop, hop, fld, from, load, unit-lit, of-opd, and-then, no-more, assigns, land, returns, enter, alloc1, alloc0, params1, pass1, pass0, free1, free0, store, un, bin, addr}
+pub use types.Kit.{Given, ‵, raw, _⊛_, some, later, _$_, _∵_, !, qed, by, move, keep, drop, use1, split, join, pick, fsplit, fsplit3, fjoin, fjoin3, feqI, suffices, frame, await, done, use2}
+pub use types.Kit.{rewrite, fpick, fpack, feqL, use3, ⋆, given, learn}
+pub use types.Run.{look, init, forget, stop, hop, fld, from, load, unit-lit, of-opd, and-then, no-more, assigns, land, returns, enter, alloc1, alloc0, params1, pass1, pass0, free1, free0, store}
+pub use types.Run.{un, bin, addr}
 pub use types.Part.{whole, sub, look-in, agg}
 pub use types.SemTy.{Body}
 pub use sound.WpLaws.{FmC, fmOf, WpFn-mono}

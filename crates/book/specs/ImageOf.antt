@@ -198,7 +198,10 @@ module _ (b : Book) where
 
   -- the header's number i
   pub header-at : (i : ℕ) → i < 8 → u32At (imageOf b) (4 * i)
-      ≡ getD (b .stages ∷ (b .marks ∷ (length (b .rules) ∷ (length (b .conditions) ∷ (length (b .words) ∷ (rulePlace 0 ∷ (conditionPlace (length (b .rules)) 0 ∷ (wordPlace (length (b .rules)) (length (b .conditions)) 0 ∷ [])))))))) i 0
+      ≡ getD (b .stages ∷
+      (b .marks ∷
+      (length (b .rules) ∷
+      (length (b .conditions) ∷ (length (b .words) ∷ (rulePlace 0 ∷ (conditionPlace (length (b .rules)) 0 ∷ (wordPlace (length (b .rules)) (length (b .conditions)) 0 ∷ [])))))))) i 0
   unfolding imageOf headerBytes
   header-at i h = read-run bytes32 u32At 4 length-bytes32 number-local 0 _ (ruleRun ++ (conditionRun ++ wordRun)) i h ∙ u32-bytes _
 
@@ -228,13 +231,15 @@ module _ (b : Book) where
   unfolding imageOf
   conditions-back =
       rw (← append-assoc heads ruleRun (conditionRun ++ wordRun))
-      (read-list conditionBytes conditionFrom conditionSize length-condition condition-local noCondition condition-back (heads ++ ruleRun) (b .conditions) wordRun (rulePlace (length (b .rules))) length-rules)
+      (read-list conditionBytes conditionFrom conditionSize length-condition condition-local noCondition condition-back (heads ++ ruleRun) (b .conditions) wordRun
+      (rulePlace (length (b .rules))) length-rules)
 
   words-back : tabulate (length (b .words)) (λ w. u16At (imageOf b) (wordPlace (length (b .rules)) (length (b .conditions)) w)) ≡ b .words
   unfolding imageOf
   words-back =
       rw (← append-assoc heads ruleRun (conditionRun ++ wordRun), ← append-assoc (heads ++ ruleRun) conditionRun wordRun, ← append-nil wordRun)
-      (read-list bytes16 u16At wordSize length-bytes16 word-local 0 u16-bytes ((heads ++ ruleRun) ++ conditionRun) (b .words) [] (conditionPlace (length (b .rules)) (length (b .conditions))) length-conditions)
+      (read-list bytes16 u16At wordSize length-bytes16 word-local 0 u16-bytes ((heads ++ ruleRun) ++ conditionRun) (b .words) []
+      (conditionPlace (length (b .rules)) (length (b .conditions))) length-conditions)
 
   -- what is written is what is read
   pub book-of-image : bookOf (imageOf b) ≡ b

@@ -47,7 +47,12 @@ has-with row w m l h =
     (λ t. let i : w < maxMarks = ltb-true w maxMarks t in
     rw t (cases (eqb (m / wordBits) (w / wordBits))
     (λ e. let p : m / wordBits ≡ w / wordBits = eqb-true (m / wordBits) (w / wordBits) e in
-    rw (p, getD-set-same row (w / wordBits) (union (getD row (w / wordBits) 0) (only (w % wordBits))) 0 (omega arith), has-union (getD row (w / wordBits) 0) (only (w % wordBits)) (m % wordBits), has-only (w % wordBits) (m % wordBits))
+    rw (
+      p,
+      getD-set-same row (w / wordBits) (union (getD row (w / wordBits) 0) (only (w % wordBits))) 0 (omega arith),
+      has-union (getD row (w / wordBits) 0) (only (w % wordBits)) (m % wordBits),
+      has-only (w % wordBits) (m % wordBits),
+    )
     (ap (λ (b : Bool). has (getD row (w / wordBits) 0) (m % wordBits) || b) (same p)))
     (λ e. let n : (m / wordBits ≡ w / wordBits → ⊥) = eqb-false (m / wordBits) (w / wordBits) e in
     rw (getD-set-other row (w / wordBits) (m / wordBits) (union (getD row (w / wordBits) 0) (only (w % wordBits))) 0 n, ne-eqb m w (λ q. n (ap (λ (x : ℕ). x / wordBits) q)))
@@ -69,4 +74,5 @@ has-gather (w ∷ ws) row m l h =
 pub has-marks : (ws : List ℕ) (m : ℕ) → m < maxMarks → hasMark (marksOf ws) m ≡ elem m ws
 unfolding marksOf
 has-marks ws m h =
-    has-gather ws (replicate markWords 0) m refl h ∙ ap (λ (b : Bool). b || elem m ws) (ap (λ (x : ℕ). has x (m % wordBits)) (getD-replicate markWords (m / wordBits) 0 0 (omega arith)) ∙ has-empty (m % wordBits))
+    has-gather ws (replicate markWords 0) m refl h
+    ∙ ap (λ (b : Bool). b || elem m ws) (ap (λ (x : ℕ). has x (m % wordBits)) (getD-replicate markWords (m / wordBits) 0 0 (omega arith)) ∙ has-empty (m % wordBits))

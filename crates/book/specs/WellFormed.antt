@@ -275,7 +275,13 @@ module _ (s : List ℕ) where
   judged-is a (condition g rs c h n l) =
       sym (headed-answer g ∙ rw (rules-pass rs, le-ltb (rulesIn s) (rulesIn s) (omega arith), fails (conditionsIn s) goodAt condition-yes yes-condition c h n l, lt-ltb c (conditionsIn s) h))
   judged-is a (accepted w) =
-      sym (headed-answer (w .headed) ∙ rw (rules-pass (w .rules), le-ltb (rulesIn s) (rulesIn s) (omega arith), passes (conditionsIn s) goodAt yes-condition (w .conditions), le-ltb (conditionsIn s) (conditionsIn s) (omega arith)))
+      sym (headed-answer (w .headed)
+      ∙ rw (
+        rules-pass (w .rules),
+        le-ltb (rulesIn s) (rulesIn s) (omega arith),
+        passes (conditionsIn s) goodAt yes-condition (w .conditions),
+        le-ltb (conditionsIn s) (conditionsIn s) (omega arith),
+      ))
 
   -- some row holds
   headed-row : Headed s → (a : Answer) × Judged s a

@@ -89,7 +89,8 @@ counts-are {image} {n} {k} p q o h =
 pub whole-is : {image : List ℕ} {n k : ℕ} {wrong : Bool} → Counts image n k → wrong ≡ misplaced image → wrong ≡ false → Whole image n k
 unfolding misplaced
 whole-is {image} {n} {k} c m h =
-    let t = all3 (eqb (nodesOffset image) chartHeader) (eqb (relationsOffset image) (nodeAt (nodes image))) (eqb (length image) (relationAt (nodes image) (relations image))) (not-false _ (sym m ∙ h)) in
+    let t = all3 (eqb (nodesOffset image) chartHeader) (eqb (relationsOffset image) (nodeAt (nodes image))) (eqb (length image) (relationAt (nodes image) (relations image)))
+    (not-false _ (sym m ∙ h)) in
     let p = c .nodes in
     let q = c .relations in
     let e : length image ≡ relationAt (nodes image) (relations image) = eqb-true (length image) (relationAt (nodes image) (relations image)) (t .2) in

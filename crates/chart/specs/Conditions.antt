@@ -102,7 +102,11 @@ module _ (image : List ℕ) where
           relationsHere = eqb-true (relationsOffset image) (nodeAt (nodes image)) (t .1);
           exact = eqb-true (length image) (relationAt (nodes image) (relations image)) (t .2);
         },
-    λ r. rw (eq-eqb (nodesOffset image) chartHeader (r .nodesHere), eq-eqb (relationsOffset image) (nodeAt (nodes image)) (r .relationsHere), eq-eqb (length image) (relationAt (nodes image) (relations image)) (r .exact)),
+    λ r. rw (
+      eq-eqb (nodesOffset image) chartHeader (r .nodesHere),
+      eq-eqb (relationsOffset image) (nodeAt (nodes image)) (r .relationsHere),
+      eq-eqb (length image) (relationAt (nodes image) (relations image)) (r .exact),
+    ),
   )
 
   pub node-bad : (i : ℕ) → (badNodeAt image i ≡ true) ↔ BadNode image i
@@ -160,7 +164,11 @@ module _ (image : List ℕ) where
           target = above-so (eventNode image f) (toOf image (t .0)) .0 (v .1);
         },
     λ r. some-of (relations image) (leads image (kindNumber κ) e f) (r .relation) (r .exists)
-        (rw (eq-eqb (kindOf image (r .relation)) (kindNumber κ) (r .kind), above-so (eventNode image e) (fromOf image (r .relation)) .1 (r .source), above-so (eventNode image f) (toOf image (r .relation)) .1 (r .target))),
+        (rw (
+          eq-eqb (kindOf image (r .relation)) (kindNumber κ) (r .kind),
+          above-so (eventNode image e) (fromOf image (r .relation)) .1 (r .source),
+          above-so (eventNode image f) (toOf image (r .relation)) .1 (r .target),
+        )),
   )
 
   -- ---- roles

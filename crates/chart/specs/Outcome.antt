@@ -18,7 +18,8 @@ use Rattle.records.specs.Image.{nodes, relations, outOfRange, misplaced, badNod
 use Rattle.nesting.specs.Nesting.{OnLoop, onLoopAt, flaggedGroupAt, eventCount}
 use Rattle.flattening.specs.Flattening.{conflictAt}
 use Rattle.chart.specs.Reading.{refused, grantedReading, conflictFrom, conflictTo, readingRelations, readingNodes, reading}
-use Rattle.chart.specs.Conditions.{Never, InRange, Laid, BadNode, FlaggedGroup, BadRelation, Conflict, Conflicting, range-right, laid-right, node-bad, relation-bad, loop-so, flagged-so, conflict-so, conflicting-so, lowest-of, never-of, lowest-some, lowest-first, never-none}
+use Rattle.chart.specs.Conditions.{Never, InRange, Laid, BadNode, FlaggedGroup, BadRelation, Conflict, Conflicting, range-right, laid-right, node-bad, relation-bad, loop-so}
+use Rattle.chart.specs.Conditions.{flagged-so, conflict-so, conflicting-so, lowest-of, never-of, lowest-some, lowest-first, never-none}
 
 -- none of 1 to 3
 pub record HeaderRight (image : List ℕ) : Type 0 where

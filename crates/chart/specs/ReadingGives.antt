@@ -178,7 +178,10 @@ module _ (image : List ℕ) where
       let s : nodes image ≡ suc k = omega arith in
       let l = least-one (nested image) nested-step k (λ a i. not-so (λ e. straight a (omega arith) (nested-so image a a .0 e))) in
       let i = l .1 in
-      let event : isEvent image (l .0) ≡ true = rw (not-so (λ g. let t = group-so image (l .0) .0 g in contra (nested-so image (t .member) (l .0) .1 (hop (t .inside))) (l .2 (t .member) (let o = member-in image (t .member) (l .0) (t .inside) in omega arith)))) in
+      let event : isEvent image (l .0) ≡ true
+      = rw (not-so
+      (λ g. let t = group-so image (l .0) .0 g in
+      contra (nested-so image (t .member) (l .0) .1 (hop (t .inside))) (l .2 (t .member) (let o = member-in image (t .member) (l .0) (t .inside) in omega arith)))) in
       let g = tally-lt (isEvent image) (l .0) (nodes image) (omega arith) event in
       omega arith
 
@@ -239,7 +242,8 @@ module _ (image : List ℕ) where
   unfolding eventNode
   event-node e h =
       let t = tally-find (isEvent image) (nodes image) e h in
-      let z : eventNode image e ≡ t .0 = subst (λ (x : ℕ). first (nodes image) (λ j. isEvent image j && eqb (number image j) x) ≡ t .0) (t .3) (first-numbered (isEvent image) (nodes image) (t .0) (t .1) (t .2)) in
+      let z : eventNode image e ≡ t .0 = subst (λ (x : ℕ). first (nodes image) (λ j. isEvent image j && eqb (number image j) x) ≡ t .0) (t .3)
+      (first-numbered (isEvent image) (nodes image) (t .0) (t .1) (t .2)) in
       rw z (record { fits = t .1; atom = is-event (t .0) (t .2); numbered = t .3 })
 
   -- an event's number is below the count, and its node is it

@@ -185,7 +185,16 @@ module _ {a b : List ℕ} (s : SameNodes a b) (m : Among a b) (o : Among b a) wh
     same-relations : readingRelations a ≡ readingRelations b
     unfolding readingRelations
     same-relations =
-        rw (never-none (relation-bad a) p, never-none (relation-bad b) none-bad, some-same (eventCount a) (conflictAt a) (conflictAt b) (λ e l. same-conflictAt e), same-count s, same-from, same-to, same-chart s m o, same-marking s)
+        rw (
+          never-none (relation-bad a) p,
+          never-none (relation-bad b) none-bad,
+          some-same (eventCount a) (conflictAt a) (conflictAt b) (λ e l. same-conflictAt e),
+          same-count s,
+          same-from,
+          same-to,
+          same-chart s m o,
+          same-marking s,
+        )
 
     same-nodes : readingNodes a ≡ readingNodes b
     unfolding readingNodes

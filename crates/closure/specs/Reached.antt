@@ -247,7 +247,8 @@ unfolding bit putBit
 put-bit rows width a b x y l h i =
     let at = a * width + b / 64 in
     let word = union (getD rows at 0) (only (b % 64)) in
-    let stays : (at ≡ x * width + y / 64 → ⊥) → (eqb a x && eqb b y) ≡ false → has (getD (set rows at word) (x * width + y / 64) 0) (y % 64) ≡ (has (getD rows (x * width + y / 64) 0) (y % 64) || (eqb a x && eqb b y)) =
+    let stays : (at ≡ x * width + y / 64 → ⊥) → (eqb a x && eqb b y) ≡ false
+    → has (getD (set rows at word) (x * width + y / 64) 0) (y % 64) ≡ (has (getD rows (x * width + y / 64) 0) (y % 64) || (eqb a x && eqb b y)) =
     λ n z. rw (z, getD-set-other rows at (x * width + y / 64) word 0 (λ e. n (sym e))) (sym (or-false (has (getD rows (x * width + y / 64) 0) (y % 64)))) in
     cases (eqb a x && eqb (b / 64) (y / 64))
     (λ t.

@@ -17,7 +17,8 @@ use Rattle.graph.specs.declared.FlatChart.{FlatChart}
 use Rattle.general.specs.Lists.{total, total-same, total-le, flat, flat-same, length-flat, length-each}
 use Rattle.book.specs.ImageOf.{imageOf, image-length}
 use Rattle.book.specs.declared.Rule.{Rule}
-use Rattle.derived.specs.Derived.{listed, executedMark, answeredMark, on, inclusion, responding, answering, completion, clause, textFor, stageRules, eventRules, derivedRules, derivedText, derivedCondition, derivedBook}
+use Rattle.derived.specs.Derived.{listed, executedMark, answeredMark, on, inclusion, responding, answering, completion, clause, textFor, stageRules, eventRules, derivedRules}
+use Rattle.derived.specs.Derived.{derivedText, derivedCondition, derivedBook}
 use Rattle.derived.specs.Members.{size-within, tally-more, length-listed}
 
 -- ---- one event

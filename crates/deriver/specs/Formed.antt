@@ -27,7 +27,8 @@ use Rattle.book.specs.Judging.{imageAnswer}
 use Rattle.book.specs.WellFormed.{WellFormed, well-granted}
 use Rattle.book.specs.WellRead.{triggerExists, senseExists, RuleFormed}
 use Rattle.book.specs.Formed.{FormedBook, formed-image}
-use Rattle.derived.specs.Derived.{includedMark, executedMark, answeredMark, listed, clause, on, inclusion, responding, answering, textFor, derivedRules, derivedText, derivedCondition, derivedBook, derived-text, join}
+use Rattle.derived.specs.Derived.{includedMark, executedMark, answeredMark, listed, clause, on, inclusion, responding, answering, textFor, derivedRules, derivedText, derivedCondition}
+use Rattle.derived.specs.Derived.{derivedBook, derived-text, join}
 use Rattle.derived.specs.Sizes.{conditions-length, rules-most, words-most}
 use Rattle.deriver.specs.Deriving.{derivedImage}
 
@@ -211,7 +212,8 @@ module _ (c : FlatChart) (fit : Fit c) where
       }
     where
       small-rule : (r : Rule) → RuleFormed n (4 * n) n r → SmallRule r
-      small-rule r h = let m : n ≤ maxEvents = few in record { number = small-trigger (r .trigger) (h .trigger); condition = small-sense (r .sense) (h .sense); target = let t = h .target in omega arith }
+      small-rule r h = let m : n ≤ maxEvents = few in
+          record { number = small-trigger (r .trigger) (h .trigger); condition = small-sense (r .sense) (h .sense); target = let t = h .target in omega arith }
         where
           small-trigger : (t : Trigger) → triggerExists n (4 * n) t ≡ true → triggerNumber t < 65536
           small-trigger None h = omega arith

@@ -62,7 +62,8 @@ module _ (c : FlatChart) (m : Marking) where
       rw t (ap (λ (x : ℕ). getD (each n g ++ l) x false) p ∙ getD-append-add (each n g) l (k - n) false))
 
   none : (k w : ℕ) → getD (replicate w false) k false ≡ false
-  none k w = cases (ltb k w) (λ t. getD-replicate w k false false (ltb-true k w t)) (λ t. let h : w ≤ k = ltb-false k w t in List·getD-eq-default (replicate w false) false (rw (length-replicate w false) h))
+  none k w = cases (ltb k w) (λ t. getD-replicate w k false false (ltb-true k w t))
+      (λ t. let h : w ≤ k = ltb-false k w t in List·getD-eq-default (replicate w false) false (rw (length-replicate w false) h))
 
   pub marks-at : (k : ℕ) → snapOf matchingMarks k ≡ markOf k
   unfolding matchingMarks markOf

@@ -55,8 +55,16 @@ module _ {image : List ℕ} {n k : ℕ} (w : Whole image n k) where
   unfolding eventNode
   node-of e h =
       let t = tally-find (isEvent image) (nodes-of image) e h in
-      let l : t .0 < n = rw (w .nodes) (t .1) in
-      (t .0, record { fits = l; event = t .2; numbered = t .3; node = subst (λ (x : ℕ). first (nodes-of image) (λ j. isEvent image j && eqb (number image j) x) ≡ t .0) (t .3) (first-numbered (isEvent image) (nodes-of image) (t .0) (t .1) (t .2)) })
+      let l : t .0 < n = rw (w .nodes) (t .1) in (
+        t .0,
+        record {
+          fits = l;
+          event = t .2;
+          numbered = t .3;
+          node = subst (λ (x : ℕ). first (nodes-of image) (λ j. isEvent image j && eqb (number image j) x) ≡ t .0) (t .3)
+              (first-numbered (isEvent image) (nodes-of image) (t .0) (t .1) (t .2));
+        },
+      )
 
   pub nodes-are : {groups : List Bool} {events : List ℕ} → Groups image n groups → EventNodes groups n events → (e : ℕ) → e < eventCount image
       → (getD events e 0 ≡ eventNode image e) × (getD events e 0 < n)
@@ -175,7 +183,8 @@ module _ {image : List ℕ} {n k : ℕ} {groups : List Bool} {events : ℕ} (g :
       leads-is κ e f r h =
           rw (up-is e (nearOf image r) h, m .each (farOf image r) f) (cases (eqb (kindOf image r) κ)
           (λ t. rw (t, eqb-true (kindOf image r) κ t) (cases (ltb f events)
-          (λ i. rw (i, up-is f _ (ltb-true f events i)) (cases (holdsBack κ) (λ b. rw b (and-comm (atOrAbove image (eventNode image e) (toOf image r)) (atOrAbove image (eventNode image f) (fromOf image r)))) (λ b. rw b)))
+          (λ i. rw (i, up-is f _ (ltb-true f events i))
+          (cases (holdsBack κ) (λ b. rw b (and-comm (atOrAbove image (eventNode image e) (toOf image r)) (atOrAbove image (eventNode image f) (fromOf image r)))) (λ b. rw b)))
           (λ i. rw i (and-false (atOrAbove image (eventNode image e) (near κ (fromOf image r) (toOf image r)))))))
           (λ t. rw t (sym (nothing (holdsBack κ) (ltb f events)))))
         where
@@ -248,7 +257,8 @@ module _ {image : List ℕ} {n k : ℕ} {groups : List Bool} {events : ℕ} (g :
               let n = g .count in
               same-test (conflictIn tables e) (some (eventCount image) (conflict image e))
               (λ t.
-              let p = member-of events (bothAt tables e) (λ f i. ltb-true f events (both (ltb f events) (conflict image e f) (sym (both-has e f h) ∙ i) .0)) (eqb-false (bothAt tables e) 0 (not-true (eqb (bothAt tables e) 0) t)) in
+              let p = member-of events (bothAt tables e) (λ f i. ltb-true f events (both (ltb f events) (conflict image e f) (sym (both-has e f h) ∙ i) .0))
+              (eqb-false (bothAt tables e) 0 (not-true (eqb (bothAt tables e) 0) t)) in
               some-of (eventCount image) (conflict image e) (p .0) (let l = p .1 in omega arith) (both (ltb (p .0) events) (conflict image e (p .0)) (sym (both-has e (p .0) h) ∙ p .2) .1))
               (λ t. let p = some-at (eventCount image) (conflict image e) t in
               rw (ne-eqb (bothAt tables e) 0 (λ z. contra (both-has e (p .0) h ∙ rw (lt-ltb (p .0) events (let l = p .1 in omega arith), p .2)) (ap (λ (x : ℕ). has x (p .0)) z ∙ has-empty (p .0)))))
@@ -264,7 +274,8 @@ module _ {image : List ℕ} {n k : ℕ} {groups : List Bool} {events : ℕ} (g :
               let inside : (f : ℕ) → has (bothAt tables e) f ≡ true → f < events = λ f i. ltb-true f events (both (ltb f events) (conflict image e f) (sym (both-has e f h) ∙ i) .0) in
               let wide : bothAt tables e < 2 ^ maxEvents = below maxEvents (bothAt tables e) (λ f l. not-so (λ i. let o = inside f i in absurd (omega arith))) in
               let least : has (bothAt tables e) (lowest maxEvents (bothAt tables e)) ≡ true = lowest-has maxEvents (bothAt tables e) (lowest-lt maxEvents (bothAt tables e) (omega arith) wide) in
-              let found = both (ltb (lowest maxEvents (bothAt tables e)) events) (conflict image e (lowest maxEvents (bothAt tables e))) (sym (both-has e (lowest maxEvents (bothAt tables e)) h) ∙ least) in
+              let found = both (ltb (lowest maxEvents (bothAt tables e)) events) (conflict image e (lowest maxEvents (bothAt tables e)))
+              (sym (both-has e (lowest maxEvents (bothAt tables e)) h) ∙ least) in
               let l : lowest maxEvents (bothAt tables e) < events = ltb-true (lowest maxEvents (bothAt tables e)) events (found .0) in
               q ∙ ap (lowest maxEvents) p
               ∙ first-found events (conflict image e) (lowest maxEvents (bothAt tables e)) l

@@ -54,7 +54,8 @@ unfolding tally
 tally-none f = refl
 
 pub tally-more : (f : ℕ → Bool) (k c : ℕ) → c ≡ tally k f → c + boolByte (f k) ≡ tally (k + 1) f
-tally-more f k c e = let s = tally-step k f in cases (f k) (λ t. rw t (let z : tally (k + 1) f ≡ 1 + tally k f = rw t at s in omega arith)) (λ t. rw t (let z : tally (k + 1) f ≡ 0 + tally k f = rw t at s in omega arith))
+tally-more f k c e = let s = tally-step k f in
+    cases (f k) (λ t. rw t (let z : tally (k + 1) f ≡ 1 + tally k f = rw t at s in omega arith)) (λ t. rw t (let z : tally (k + 1) f ≡ 0 + tally k f = rw t at s in omega arith))
 
 pub tally-end : (f : ℕ → Bool) (n k c : ℕ) → k ≤ n → n ≤ k → c ≡ tally k f → c ≡ tally n f
 tally-end f n k c h l e = let z : k ≡ n = omega arith in e ∙ ap (λ (m : ℕ). tally m f) z

@@ -12,7 +12,8 @@ use Rattle.general.specs.Cases.{contra, cases, both, all3, either, or-right, no
 use Rattle.general.specs.Below.{tally, Lowest, lowest-one}
 use Rattle.general.specs.Refusals.{Refusals, when, unless, otherwise, firstRow, Told, first-told, told-only, not-held}
 use Rattle.sets.specs.Set.{has, inter, minus, only, lowest}
-use Rattle.sets.specs.Laws.{has-union, has-inter, has-minus, has-only, has-empty, none-zero, ext, lowest-has, lowest-lt, lowest-least, has-collect, size-collect, below, apart-not, not-apart, lowest-none}
+use Rattle.sets.specs.Laws.{has-union, has-inter, has-minus, has-only, has-empty, none-zero, ext, lowest-has, lowest-lt, lowest-least, has-collect, size-collect, below, apart-not, not-apart}
+use Rattle.sets.specs.Laws.{lowest-none}
 use Rattle.graph.specs.Chart.{condition, response, milestone, include, exclude, setOf, rolesOf, In, Fit, FitMarking}
 use Rattle.graph.specs.Roles.{Permits, permits, permits-so}
 use Rattle.graph.specs.Tests.{fit}

@@ -4,7 +4,8 @@ use Prim.Native.Nat.{ℕ, zero, suc, _+_, _-_, _*_, _/_, _%_, _^_, _≤_, _<_, m
 use mathlib.Core.Path.{_≡_, refl, sym, ap, ap₂, _∙_}
 use mathlib.Core.Bool.{Bool, true, false, not, _&&_, _||_, cond, and-true, and-false, or-false, or-self}
 use mathlib.Core.Logic.{_⊎_, inl, inr}
-use native.Mathlib.Nat.{zero-min, min-zero, suc-min-suc, zero-max, max-zero, suc-max-suc, mod-lt, zero-lt-suc, pow-suc, div-one, zero-div, zero-mod, div-div-eq-div-mul, mul-comm, sub-zero, zero-sub, not-suc-le-zero, mul-mod-left, mul-div-cancel, div-eq-of-lt, div-lt-iff-lt-mul, lt-of-lt-of-le, one-mul, zero-add, lt-of-not-le, not-le-of-lt}
+use native.Mathlib.Nat.{zero-min, min-zero, suc-min-suc, zero-max, max-zero, suc-max-suc, mod-lt, zero-lt-suc, pow-suc, div-one, zero-div, zero-mod, div-div-eq-div-mul, mul-comm, sub-zero}
+use native.Mathlib.Nat.{zero-sub, not-suc-le-zero, mul-mod-left, mul-div-cancel, div-eq-of-lt, div-lt-iff-lt-mul, lt-of-lt-of-le, one-mul, zero-add, lt-of-not-le, not-le-of-lt}
 use native.Mathlib.Numerals.{add-one}
 use native.Mathlib.Omega.{arith}
 use lib.Arith.{digits-div, digits-mod, bin-ind, lt-one, lt-of-le-ne}
@@ -318,7 +319,8 @@ has-all (suc n) (suc e) =
     has-suc (allBelow (suc n)) e ∙ ap (λ (x : ℕ). has x e) h ∙ has-all n e ∙ ltb-both e n
   where
     ltb-both : (e n : ℕ) → ltb e n ≡ ltb (suc e) (suc n)
-    ltb-both e n = same-test (ltb e n) (ltb (suc e) (suc n)) (λ t. let h : e < n = ltb-true e n t in lt-ltb (suc e) (suc n) (omega arith)) (λ t. let h : suc e < suc n = ltb-true (suc e) (suc n) t in lt-ltb e n (omega arith))
+    ltb-both e n = same-test (ltb e n) (ltb (suc e) (suc n)) (λ t. let h : e < n = ltb-true e n t in lt-ltb (suc e) (suc n) (omega arith))
+        (λ t. let h : suc e < suc n = ltb-true (suc e) (suc n) t in lt-ltb e n (omega arith))
 
 pub union-zero : (a b : ℕ) → eqb (union a b) 0 ≡ (eqb a 0 && eqb b 0)
 union-zero a b =

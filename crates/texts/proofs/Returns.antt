@@ -31,7 +31,8 @@ module _ (M W from : ℕ) (s : List ℕ) (at start count : ℕ) (p : start ≡ s
 
 pub condition-at : (M W R Q : ℕ) (s : List ℕ) (c from begin : ℕ) (t : Bool) → begin ≡ rulePlace R → from ≡ conditionPlace R Q
     → t ≡ conditionFits M W from s (begin + conditionSize * c) → t ≡ conditionFits M W (conditionPlace R Q) s (conditionPlace R c)
-condition-at M W R Q s c from begin t p q e = e ∙ ap (λ (x : ℕ). conditionFits M W x s (begin + conditionSize * c)) q ∙ ap (λ (x : ℕ). conditionFits M W (conditionPlace R Q) s (x + conditionSize * c)) p
+condition-at M W R Q s c from begin t p q e = e ∙ ap (λ (x : ℕ). conditionFits M W x s (begin + conditionSize * c)) q
+    ∙ ap (λ (x : ℕ). conditionFits M W (conditionPlace R Q) s (x + conditionSize * c)) p
 
 -- ---- the whole image
 

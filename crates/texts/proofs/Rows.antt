@@ -28,7 +28,8 @@ pub without-mark : (row : List ℕ) (w : ℕ) → maxMarks ≤ w → row ≡ wit
 unfolding withMark
 without-mark row w h = rw (le-ltb w maxMarks h)
 
-pub gather-more : (s : List ℕ) (at n : ℕ) (row : List ℕ) (i w : ℕ) (row′ : List ℕ) → Gathered s at n row i → i < n → w ≡ u16At s (at + wordSize * i) → row′ ≡ withMark row w → Gathered s at n row′ (i + 1)
+pub gather-more : (s : List ℕ) (at n : ℕ) (row : List ℕ) (i w : ℕ) (row′ : List ℕ) → Gathered s at n row i → i < n → w ≡ u16At s (at + wordSize * i) → row′ ≡ withMark row w
+    → Gathered s at n row′ (i + 1)
 unfolding gather
 gather-more s at n row i w row′ g h p q =
     let z : row′ ≡ withMark row (u16At s (at + wordSize * i)) = q ∙ ap (withMark row) p in

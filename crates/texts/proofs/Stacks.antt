@@ -108,7 +108,8 @@ starts s at n snap v =
     }
 
 module _ (s : List ℕ) (at n : ℕ) (snap : Snap) (vals : List Bool) (depth i : ℕ) (g : Going s at n snap vals depth i) where
-  goes : i < n → (follows maxMarks (u16At s (at + wordSize * i)) depth ≡ true) × (goodFrom maxMarks (wordsFrom s (at + wordSize * (i + 1)) (n - (i + 1))) (depthAfter (u16At s (at + wordSize * i)) depth) ≡ true)
+  goes : i < n → (follows maxMarks (u16At s (at + wordSize * i)) depth ≡ true)
+      × (goodFrom maxMarks (wordsFrom s (at + wordSize * (i + 1)) (n - (i + 1))) (depthAfter (u16At s (at + wordSize * i)) depth) ≡ true)
   unfolding goodFrom
   goes h = both (follows maxMarks (u16At s (at + wordSize * i)) depth) _ (rw (words-more s at n i h) at (g .good))
 
@@ -120,7 +121,8 @@ module _ (s : List ℕ) (at n : ℕ) (snap : Snap) (vals : List Bool) (depth i :
   unfolding eval
   goes-on h w e vals′ depth′ b =
       let d : depth′ ≡ depthAfter (u16At s (at + wordSize * i)) depth = b .deep ∙ ap (λ (x : ℕ). depthAfter x depth) e in
-      let z : stackOf vals′ depth′ ≡ push (snap (u16At s (at + wordSize * i))) (u16At s (at + wordSize * i)) (stackOf vals depth) = b .values ∙ ap (λ (x : ℕ). push (snap x) x (stackOf vals depth)) e in
+      let z : stackOf vals′ depth′ ≡ push (snap (u16At s (at + wordSize * i))) (u16At s (at + wordSize * i)) (stackOf vals depth) = b .values
+      ∙ ap (λ (x : ℕ). push (snap x) x (stackOf vals depth)) e in
       record {
         within = omega arith;
         full = b .full;

@@ -8,12 +8,7 @@ pub main-spec : {M : Type 1} → statement M
 main-spec =
     tie.close
     (tie.spec
-    (λ c. search needs)
-    (λ c κs. search needs)
-    (λ c. search needs)
-    (λ c. search needs)
-    (λ c. search needs)
-    (λ c κs. search needs)
+    (λ c. search needs) (λ c κs. search needs) (λ c. search needs) (λ c. search needs) (λ c. search needs) (λ c κs. search needs)
     (λ c. listed-fits _ _ _ ready _ (c .before .list .ensures .0) (c .before .list .ensures .1))
     (λ c. listed-size _ _ _ ready _ (c .before .before .list .ensures .0) (c .before .before .list .ensures .1))
     (λ c κs. search needs)

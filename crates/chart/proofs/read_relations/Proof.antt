@@ -10,17 +10,10 @@ read-relations-spec =
     tie.close
     (tie.spec
     (λ c κs. (c .before .pre .whole .few, room-for (c .before .pre)))
-    (λ c κs. search needs)
-    (λ c κs. search needs)
-    (λ c. search needs)
-    (λ c κs. search needs)
+    (λ c κs. search needs) (λ c κs. search needs) (λ c. search needs) (λ c κs. search needs)
     (λ c. relations-bad (c .before .before .before .before .before .before .before .before .before .pre) (c .before .before .gather .ensures .0) (c .refuse .ensures) (c .before .if1 .taken))
     (λ c κs. (search needs, search needs, search needs, c .before .before .before .before .gather .ensures .1 (c .before .before .before .if1 .left) .size, search needs))
-    (λ c κs. search needs)
-    (λ c κs. search needs)
-    (λ c κs. search needs)
-    (λ c. search needs)
-    (λ c κs. search needs)
+    (λ c κs. search needs) (λ c κs. search needs) (λ c κs. search needs) (λ c. search needs) (λ c κs. search needs)
     (λ c. let f = c .before .before .before .before .before .before .before in
     let b = f .before .before .before .before in
     let a = b .before .before .before .before .before .before in

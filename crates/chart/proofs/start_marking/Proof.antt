@@ -8,7 +8,5 @@ pub start-marking-spec : {M : Type 1} → statement M
 start-marking-spec =
     tie.close
     (tie.spec
-    (λ c κs. search needs)
-    (λ c κs. search needs)
-    (λ c κs. search needs)
+    (λ c κs. search needs) (λ c κs. search needs) (λ c κs. search needs)
     (λ c. unfold markingBy in cc))

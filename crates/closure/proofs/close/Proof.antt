@@ -22,9 +22,7 @@ close-spec =
     Inv-loop
     μ-loop
     (λ c. unfold rounds in search needs)
-    (λ c κs. search needs)
-    (λ c. search needs)
-    (λ c. search needs)
+    (λ c κs. search needs) (λ c. search needs) (λ c. search needs)
     (λ c. (omega arith, search needs, search rounds-step))
     (λ c. search needs)
     (λ c. search rounds-end))

@@ -24,7 +24,6 @@ lowest-on-diagonal-spec =
     (λ c. (search needs, λ p h. absurd (omega arith)))
     (λ c κs. search bit-in)
     (λ c. diagonal-found _ _ _ _ (c .before .before .before .loop .inv .1) _ (c .before .has-bit .ensures) (c .if1 .taken) (c .before .before .loop-test .taken))
-    (λ c. search needs)
-    (λ c. search needs)
+    (λ c. search needs) (λ c. search needs)
     (λ c. (omega arith, search (diagonal-on, c .before .before .before .loop .inv .1)))
     (λ c. diagonal-end _ _ _ _ (c .before .loop .inv .1) (c .before .loop .inv .0) (c .loop-test .left)))

@@ -20,16 +20,11 @@ condition-lines-spec =
     μ-loop
     (λ c κs. search needs)
     (λ c. lines-start _ _ _ _)
-    (λ c. search needs)
-    (λ c κs. search needs)
-    (λ c. search needs)
-    (λ c. search needs)
-    (λ c. search needs)
+    (λ c. search needs) (λ c κs. search needs) (λ c. search needs) (λ c. search needs) (λ c. search needs)
     (λ c κs. condition-fits _ _ _ (c .before .before .before .before .before .before .before .before .before .pre .0) _ (c .before .before .before .if1 .taken) _
     (c .before .before .before .before .before .before .words-from .ensures) _ (c .before .before .condition-in .ensures) _ _ _ _
     (c .before .before .before .before .before .loop .inv) (c .before .before .before .before .before .before .before .before .before .pre .1))
-    (λ c. search needs)
-    (λ c. search needs)
+    (λ c. search needs) (λ c. search needs)
     (λ c. condition-more _ _ _ (c .before .before .before .before .before .before .before .before .before .before .before .before .pre .0) _
     (c .before .before .before .before .before .before .if1 .taken) _ (c .before .before .before .before .before .before .before .before .before .words-from .ensures) _
     (c .before .before .before .before .before .condition-in .ensures) _ _ _ _ (c .before .before .before .before .before .before .before .before .loop .inv) _ _

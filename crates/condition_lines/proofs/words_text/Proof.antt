@@ -20,13 +20,9 @@ words-text-spec =
     Inv-loop
     μ-loop
     (λ c. search upto-start)
-    (λ c. search needs)
-    (λ c. search needs)
-    (λ c. search needs)
-    (λ c κs. search needs)
+    (λ c. search needs) (λ c. search needs) (λ c. search needs) (λ c κs. search needs)
     (λ c κs. search word-fits)
-    (λ c. search needs)
-    (λ c. search needs)
+    (λ c. search needs) (λ c. search needs)
     (λ c. search word-more)
     (λ c. search upto-length)
     (λ c. search words-done))

@@ -9,9 +9,8 @@ pub derive-spec : {M : Type 1} → statement M
 derive-spec =
     tie.close
     (tie.spec
-    (λ c κs. search needs)
-    (λ c. search needs)
+    (λ c κs. search needs) (λ c. search needs)
     (λ c. (search needs, (λ z. absurd (c .if1 .taken z), omega arith)))
-    (λ c κs. search needs)
-    (λ c. search needs)
-    (λ c. book-whole _ _ _ _ (c .before .before .before .before .before .before .derive .ensures .0) (c .before .before .if1 .left) (c .before .before .before .before .before .before .derive .ensures .1) _ (c .book-length .ensures)))
+    (λ c κs. search needs) (λ c. search needs)
+    (λ c. book-whole _ _ _ _ (c .before .before .before .before .before .before .derive .ensures .0) (c .before .before .if1 .left)
+    (c .before .before .before .before .before .before .derive .ensures .1) _ (c .book-length .ensures)))

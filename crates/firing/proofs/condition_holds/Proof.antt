@@ -9,11 +9,7 @@ condition-holds-spec =
     tie.close
     (tie.spec
     (λ c κs. span-inside _ _ (c .before .pre .0) _ (c .before .pre .1))
-    (λ c κs. search needs)
-    (λ c. search needs)
-    (λ c. search needs)
-    (λ c. search needs)
-    (λ c. search needs)
+    (λ c κs. search needs) (λ c. search needs) (λ c. search needs) (λ c. search needs) (λ c. search needs)
     (λ c κs. let k = c .before .before .before in
     span-asks _ _ (k .before .before .pre .0) _ (k .before .before .pre .1) _ _ (k .condition-in .ensures) (c .before .before .words-from .ensures))
     (λ c. let k = c .before .before .before .before in

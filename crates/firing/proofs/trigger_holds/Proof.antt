@@ -8,16 +8,11 @@ pub trigger-holds-spec : {M : Type 1} → statement M
 trigger-holds-spec =
     tie.close
     (tie.spec
-    (λ c. search needs)
-    (λ c. search needs)
-    (λ c. search needs)
-    (λ c. search needs)
-    (λ c. search needs)
+    (λ c. search needs) (λ c. search needs) (λ c. search needs) (λ c. search needs) (λ c. search needs)
     (λ c. yes-in _ _ _ _ (c .before .before .before .pre) (c .before .trigger2 .given .1))
     (λ c. search needs)
     (λ c. yes-in _ _ _ _ (c .before .before .before .before .pre) (c .before .before .trigger2 .given .1))
-    (λ c. search needs)
-    (λ c. search needs)
+    (λ c. search needs) (λ c. search needs)
     (λ c. no-in _ _ _ _ (c .before .before .before .pre) (c .before .trigger3 .given .1))
     (λ c. search needs)
     (λ c. no-in _ _ _ _ (c .before .before .before .before .pre) (c .before .before .trigger3 .given .1))

@@ -8,11 +8,6 @@ pub add-spec : {M : Type 1} → statement M
 add-spec =
     tie.close
     (tie.spec
-    (λ c. search needs)
-    (λ c. search needs)
-    (λ c κs. search needs)
-    (λ c. search needs)
-    (λ c. search needs)
-    (λ c κs. search needs)
+    (λ c. search needs) (λ c. search needs) (λ c κs. search needs) (λ c. search needs) (λ c. search needs) (λ c κs. search needs)
     (λ c. added-back _ _ _ _ _ (c .put-in .ensures) (c .before .before .before .if1 .taken))
     (λ c. added-on _ _ _ _ _ (c .put-in2 .ensures) (c .before .before .before .if1 .left)))

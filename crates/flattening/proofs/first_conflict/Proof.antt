@@ -21,7 +21,6 @@ first-conflict-spec =
     (λ c. passed-none)
     (λ c κs. search needs)
     (λ c. search conflict-found)
-    (λ c. search needs)
-    (λ c. search needs)
+    (λ c. search needs) (λ c. search needs)
     (λ c. search conflict-none)
     (λ c. search passed-end))

@@ -20,13 +20,13 @@ flagged-spec =
     Inv-loop
     μ-loop
     (λ c. (search needs, collect-none _))
-    (λ c. search needs)
-    (λ c. search needs)
+    (λ c. search needs) (λ c. search needs)
     (λ c κs. c .before .before .before .before .pre .1 _ (search needs))
-    (λ c. search needs)
-    (λ c κs. search needs)
-    (λ c κs. search needs)
-    (λ c. search needs)
-    (λ c. search needs)
-    (λ c. (search needs, flag-more (c .before .before .before .before .before .before .before .args .image .now) (c .before .before .before .before .before .before .before .args .nodes .now) (c .before .before .before .before .before .before .before .args .digit) _ _ _ _ _ (c .before .before .before .before .before .loop .inv .1) (c .before .before .flags-of .ensures) (c .before .member .ensures) (c .put-if .ensures)))
+    (λ c. search needs) (λ c κs. search needs) (λ c κs. search needs) (λ c. search needs) (λ c. search needs)
+    (λ c. (
+      search needs,
+      flag-more (c .before .before .before .before .before .before .before .args .image .now) (c .before .before .before .before .before .before .before .args .nodes .now)
+          (c .before .before .before .before .before .before .before .args .digit) _ _ _ _ _ (c .before .before .before .before .before .loop .inv .1)
+          (c .before .before .flags-of .ensures) (c .before .member .ensures) (c .put-if .ensures),
+    ))
     (λ c. collect-end _ _ _ _ (c .before .loop .inv .0) (search needs) (c .before .loop .inv .1)))

@@ -18,11 +18,6 @@ flatten-spec =
     Inv-loop
     μ-loop
     (λ c. (search needs, search flat-none, search roles-none))
-    (λ c. search needs)
-    (λ c. search needs)
-    (λ c κs. search needs)
-    (λ c. search needs)
-    (λ c. search needs)
-    (λ c. search needs)
+    (λ c. search needs) (λ c. search needs) (λ c κs. search needs) (λ c. search needs) (λ c. search needs) (λ c. search needs)
     (λ c. (search needs, search flat-more, roles-more (c .before .before .before .before .loop .inv .2) (search needs) (c .take-above .ensures .1)))
     (λ c. (search flat-end, search roles-end)))

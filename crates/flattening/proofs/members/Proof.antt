@@ -18,10 +18,6 @@ members-spec =
     Inv-loop
     μ-loop
     (λ c. (search needs, search members-none))
-    (λ c. search needs)
-    (λ c. search needs)
-    (λ c κs. search needs)
-    (λ c. search needs)
-    (λ c. search needs)
+    (λ c. search needs) (λ c. search needs) (λ c κs. search needs) (λ c. search needs) (λ c. search needs)
     (λ c. (search needs, search members-more))
     (λ c. search members-end))

@@ -18,13 +18,7 @@ table-spec =
     Inv-loop
     μ-loop
     (λ c. (search needs, search copied-none))
-    (λ c. search needs)
-    (λ c. search needs)
-    (λ c. search needs)
-    (λ c. search needs)
-    (λ c. search needs)
-    (λ c. search needs)
-    (λ c. search needs)
+    (λ c. search needs) (λ c. search needs) (λ c. search needs) (λ c. search needs) (λ c. search needs) (λ c. search needs) (λ c. search needs)
     (λ c. search needs)
     (λ c. (search needs, search copied-more))
     (λ c. search copied-end))

@@ -20,8 +20,6 @@ roles-past-spec =
     Inv-loop
     μ-loop
     (λ c. (omega arith, search needs, roles-none _ _ _ refl))
-    (λ c. search needs)
-    (λ c. search needs)
-    (λ c. search needs)
+    (λ c. search needs) (λ c. search needs) (λ c. search needs)
     (λ c. (search needs, search needs, search roles-more))
     (λ c. search roles-end))

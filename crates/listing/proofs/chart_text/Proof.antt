@@ -8,8 +8,7 @@ pub chart-text-spec : {M : Type 1} → statement M
 chart-text-spec =
     tie.close
     (tie.spec
-    (λ c. search needs)
-    (λ c κs. search needs)
+    (λ c. search needs) (λ c κs. search needs)
     (λ c κs. derive-fits _ (c .before .before .before .before .before .before .before .args .room .now) _ _
     (c .before .before .before .before .before .before .before .pre) blank _ (c .before .before .before .before .derive .ensures .0)
     (c .before .before .before .before .derive .ensures .1) (c .before .if1 .taken))
@@ -22,10 +21,7 @@ chart-text-spec =
     (λ c κs. counts-long _ (c .before .before .before .before .before .before .before .args .room .now) _ _
     (c .before .before .before .before .before .before .before .pre) blank _ (c .before .before .before .before .derive .ensures .0)
     (c .before .before .before .before .derive .ensures .1) (c .before .if1 .left))
-    (λ c κs. search needs)
-    (λ c. search needs)
-    (λ c. search needs)
-    (λ c. search needs)
+    (λ c κs. search needs) (λ c. search needs) (λ c. search needs) (λ c. search needs)
     (λ c. end-fits _ (c .before .before .before .before .before .before .before .before .before .before .before .args .room .now) _ _
     (c .before .before .before .before .before .before .before .before .before .before .before .pre) blank _
     (c .before .before .before .before .before .before .before .before .derive .ensures .0)

@@ -16,8 +16,7 @@ image-text-spec =
     (c .before .before .before .before .before .before .before .before .before .before .pre) _
     (c .before .before .before .before .before .before .before .read .ensures) (c .before .before .before .before .if1 .taken) _ _
     (c .before .before .refusal-line .ensures))
-    (λ c κs. search needs)
-    (λ c. search needs)
+    (λ c κs. search needs) (λ c. search needs)
     (λ c. image-wrote _ (c .before .before .before .before .before .before .before .before .before .before .before .args .room .now)
     (c .before .before .before .before .before .before .before .before .before .before .before .pre) _
     (c .before .before .before .before .before .before .before .before .read .ensures) (c .before .before .before .before .before .if1 .left) _ _

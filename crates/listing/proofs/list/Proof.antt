@@ -12,14 +12,12 @@ list-spec =
     tie.close
     (tie.spec
     (λ c. list-short (c .before .before .before .args .input .now) (c .before .before .before .args .room .now) (c .if1 .taken))
-    (λ c κs. search needs)
-    (λ c. search needs)
+    (λ c κs. search needs) (λ c. search needs)
     (λ c. list-whole (c .before .before .before .before .before .before .before .before .args .input .now)
     (c .before .before .before .before .before .before .before .before .args .room .now) (c .before .before .before .before .before .if1 .left) (omega arith) _ _
     (c .before .before .image-text .ensures))
     (λ c. sym (length-take-le _ (c .before .before .before .before .before .before .args .input .now) (omega arith)))
-    (λ c κs. search needs)
-    (λ c. search needs)
+    (λ c κs. search needs) (λ c. search needs)
     (λ c. list-cut (c .before .before .before .before .before .before .before .before .before .args .input .now)
     (c .before .before .before .before .before .before .before .before .before .args .room .now) (c .before .before .before .before .before .before .if1 .left) _ _
     (c .before .before .image-text2 .ensures)))

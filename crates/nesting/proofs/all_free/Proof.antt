@@ -20,7 +20,6 @@ all-free-spec =
     (λ c. search stamps-none)
     (λ c κs. search needs)
     (λ c. search walk-stopped)
-    (λ c. search needs)
-    (λ c. search needs)
+    (λ c. search needs) (λ c. search needs)
     (λ c. search walk-more)
     (λ c. search walk-end))

@@ -23,10 +23,14 @@ count-events-spec =
     Inv-loop
     μ-loop
     (λ c. (search needs, tally-none _))
-    (λ c. search needs)
-    (λ c. search needs)
-    (λ c. record { fits = omega (arith, tally-le (c .before .before .loop .i) (isEventIn (now (c .before .before .before .args .groups))), byte-le (isEventIn (now (c .before .before .before .args .groups)) (c .before .before .loop .i))) })
-    (λ c. search needs)
-    (λ c. search needs)
+    (λ c. search needs) (λ c. search needs)
+    (λ c. record {
+      fits = omega (
+        arith,
+        tally-le (c .before .before .loop .i) (isEventIn (now (c .before .before .before .args .groups))),
+        byte-le (isEventIn (now (c .before .before .before .args .groups)) (c .before .before .loop .i)),
+      );
+    })
+    (λ c. search needs) (λ c. search needs)
     (λ c. (search needs, tally-more _ _ _ (c .before .before .loop .inv .1)))
     (λ c. tally-end _ _ _ _ (c .before .loop .inv .0) (search needs) (c .before .loop .inv .1)))

@@ -25,10 +25,19 @@ event-nodes-spec =
     (λ c. (search needs, tally-none _, search numbered-none))
     (λ c. search needs)
     (λ c κs. λ h. let q = c .before .before .before .loop .inv .1 in rw q (number-fits _ _ _ (c .before .before .loop-test .taken) h (c .before .before .before .before .pre .1)))
-    (λ c. search needs)
-    (λ c. search needs)
-    (λ c. record { fits = omega (arith, tally-le (c .before .before .before .before .before .loop .i) (isEventIn (now (c .before .before .before .before .before .before .args .groups))), byte-le (isEventIn (now (c .before .before .before .before .before .before .args .groups)) (c .before .before .before .before .before .loop .i))) })
-    (λ c. search needs)
-    (λ c. search needs)
-    (λ c. (search needs, tally-more _ _ _ (c .before .before .before .before .before .loop .inv .1), numbered-more (c .before .before .before .before .before .loop .inv .2) (c .before .before .before .before .before .loop .inv .1) (search needs) (c .before .before .before .before .before .before .pre .1) (c .before .put-node .ensures)))
+    (λ c. search needs) (λ c. search needs)
+    (λ c. record {
+      fits = omega (
+        arith,
+        tally-le (c .before .before .before .before .before .loop .i) (isEventIn (now (c .before .before .before .before .before .before .args .groups))),
+        byte-le (isEventIn (now (c .before .before .before .before .before .before .args .groups)) (c .before .before .before .before .before .loop .i)),
+      );
+    })
+    (λ c. search needs) (λ c. search needs)
+    (λ c. (
+      search needs,
+      tally-more _ _ _ (c .before .before .before .before .before .loop .inv .1),
+      numbered-more (c .before .before .before .before .before .loop .inv .2) (c .before .before .before .before .before .loop .inv .1) (search needs)
+          (c .before .before .before .before .before .before .pre .1) (c .before .put-node .ensures),
+    ))
     (λ c. search numbered-end))

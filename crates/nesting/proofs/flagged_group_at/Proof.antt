@@ -7,6 +7,5 @@ pub flagged-group-at-spec : {M : Type 1} → statement M
 flagged-group-at-spec =
     tie.close
     (tie.spec
-    (λ c. search needs)
-    (λ c κs. search needs)
+    (λ c. search needs) (λ c κs. search needs)
     (λ c. cc))

@@ -18,10 +18,6 @@ groups-of-spec =
     Inv-loop
     μ-loop
     (λ c. (search needs, search marks-none))
-    (λ c κs. search needs)
-    (λ c. search needs)
-    (λ c κs. search needs)
-    (λ c. search needs)
-    (λ c. search needs)
+    (λ c κs. search needs) (λ c. search needs) (λ c κs. search needs) (λ c. search needs) (λ c. search needs)
     (λ c. (search needs, search marks-more))
     (λ c. search marks-end))

@@ -10,7 +10,5 @@ lowest-on-loop-spec =
     (tie.spec
     (λ c κs. search needs)
     (λ c. search lowest-none)
-    (λ c κs. search needs)
-    (λ c. search needs)
-    (λ c κs. search needs)
+    (λ c κs. search needs) (λ c. search needs) (λ c κs. search needs)
     (λ c. search lowest-is))

@@ -8,7 +8,5 @@ pub nesting-of-spec : {M : Type 1} → statement M
 nesting-of-spec =
     tie.close
     (tie.spec
-    (λ c κs. search needs)
-    (λ c. search needs)
-    (λ c κs. search needs)
+    (λ c κs. search needs) (λ c. search needs) (λ c κs. search needs)
     (λ c. nestings-closed (c .before .before .before .before .before .pre) (c .before .before .before .parents-of .ensures) (c .before .close .ensures)))

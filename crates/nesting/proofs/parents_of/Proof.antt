@@ -18,10 +18,6 @@ parents-of-spec =
     Inv-loop
     μ-loop
     (λ c. (search needs, search parents-none))
-    (λ c κs. search needs)
-    (λ c. search needs)
-    (λ c κs. search needs)
-    (λ c. search needs)
-    (λ c. search needs)
+    (λ c κs. search needs) (λ c. search needs) (λ c κs. search needs) (λ c. search needs) (λ c. search needs)
     (λ c. (search needs, search parents-more))
     (λ c. search parents-end))

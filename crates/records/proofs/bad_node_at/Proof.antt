@@ -8,7 +8,5 @@ pub bad-node-at-spec : {M : Type 1} → statement M
 bad-node-at-spec =
     tie.close
     (tie.spec
-    (λ c κs. search needs)
-    (λ c. search needs)
-    (λ c κs. search needs)
+    (λ c κs. search needs) (λ c. search needs) (λ c κs. search needs)
     (λ c. unfold badNodeAt in cc))

@@ -8,9 +8,5 @@ pub bad-relation-at-spec : {M : Type 1} → statement M
 bad-relation-at-spec =
     tie.close
     (tie.spec
-    (λ c κs. search needs)
-    (λ c. search needs)
-    (λ c κs. search needs)
-    (λ c. search needs)
-    (λ c κs. search needs)
+    (λ c κs. search needs) (λ c. search needs) (λ c κs. search needs) (λ c. search needs) (λ c κs. search needs)
     (λ c. unfold badRelationAt in cc))

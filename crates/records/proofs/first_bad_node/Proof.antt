@@ -21,7 +21,6 @@ first-bad-node-spec =
     (λ c. passed-none)
     (λ c κs. search needs)
     (λ c. search passed-found)
-    (λ c. search needs)
-    (λ c. search needs)
+    (λ c. search needs) (λ c. search needs)
     (λ c. search passed-more)
     (λ c. search passed-end))

@@ -7,6 +7,5 @@ pub from-of-spec : {M : Type 1} → statement M
 from-of-spec =
     tie.close
     (tie.spec
-    (λ c κs. search needs)
-    (λ c κs. search needs)
+    (λ c κs. search needs) (λ c κs. search needs)
     (λ c. cc))

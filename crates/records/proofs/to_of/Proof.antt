@@ -7,7 +7,5 @@ pub to-of-spec : {M : Type 1} → statement M
 to-of-spec =
     tie.close
     (tie.spec
-    (λ c κs. search needs)
-    (λ c. search needs)
-    (λ c κs. search needs)
+    (λ c κs. search needs) (λ c. search needs) (λ c κs. search needs)
     (λ c. cc))

@@ -19,11 +19,9 @@ rule-lines-spec =
     Inv-loop
     μ-loop
     (λ c. search lines-start)
-    (λ c. search needs)
-    (λ c κs. search needs)
+    (λ c. search needs) (λ c κs. search needs)
     (λ c κs. search rule-fits)
-    (λ c. search needs)
-    (λ c. search needs)
+    (λ c. search needs) (λ c. search needs)
     (λ c. search rule-more)
     (λ c. search lines-length)
     (λ c. search lines-done))

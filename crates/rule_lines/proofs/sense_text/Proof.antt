@@ -8,14 +8,9 @@ pub sense-text-spec : {M : Type 1} → statement M
 sense-text-spec =
     tie.close
     (tie.spec
-    (λ c. search needs)
-    (λ c. search needs)
-    (λ c. search needs)
-    (λ c. search needs)
+    (λ c. search needs) (λ c. search needs) (λ c. search needs) (λ c. search needs)
     (λ c κs. search if-fits)
-    (λ c. search needs)
-    (λ c. search needs)
-    (λ c. search needs)
+    (λ c. search needs) (λ c. search needs) (λ c. search needs)
     (λ c κs. search unless-fits)
     (λ c. search sense-none)
     (λ c. search needs)

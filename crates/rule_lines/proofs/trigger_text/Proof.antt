@@ -8,13 +8,9 @@ pub trigger-text-spec : {M : Type 1} → statement M
 trigger-text-spec =
     tie.close
     (tie.spec
-    (λ c. search needs)
-    (λ c. search needs)
-    (λ c. search needs)
-    (λ c. search needs)
+    (λ c. search needs) (λ c. search needs) (λ c. search needs) (λ c. search needs)
     (λ c κs. search on-fits)
-    (λ c. search needs)
-    (λ c. search needs)
+    (λ c. search needs) (λ c. search needs)
     (λ c. search trigger-none)
     (λ c. search needs)
     (λ c. search on-wrote)

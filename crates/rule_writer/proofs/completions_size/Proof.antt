@@ -23,15 +23,18 @@ completions-size-spec =
     Inv-loop
     μ-loop
     (λ c. unfold completionsSize total in search needs)
-    (λ c. search needs)
-    (λ c. search needs)
-    (λ c. search needs)
-    (λ c. search needs)
-    (λ c. search needs)
-    (λ c. search needs)
-    (λ c κs. search needs)
-    (λ c. omega (arith, completion-small _ _ _ _ (c .before .before .before .before .before .before .pre .0) (c .before .before .before .before .before .before .pre .1) _ _ (c .before .before .before .before .loop-test .taken) (c .completion-size .ensures)))
-    (λ c. search needs)
-    (λ c. search needs)
-    (λ c. let l = completion-small _ _ _ _ (c .before .before .before .before .before .before .pre .0) (c .before .before .before .before .before .before .pre .1) _ _ (c .before .before .before .before .loop-test .taken) (c .completion-size .ensures) in (omega arith, completions-more _ _ _ _ (c .before .before .before .before .before .before .pre .0) (c .before .before .before .before .before .before .pre .1) _ _ (c .before .before .before .before .loop-test .taken) (c .completion-size .ensures) _ (c .before .before .before .before .before .loop .inv .1), omega arith))
+    (λ c. search needs) (λ c. search needs) (λ c. search needs) (λ c. search needs) (λ c. search needs) (λ c. search needs) (λ c κs. search needs)
+    (λ c. omega (
+      arith,
+      completion-small _ _ _ _ (c .before .before .before .before .before .before .pre .0) (c .before .before .before .before .before .before .pre .1) _ _
+          (c .before .before .before .before .loop-test .taken) (c .completion-size .ensures),
+    ))
+    (λ c. search needs) (λ c. search needs)
+    (λ c. let l = completion-small _ _ _ _ (c .before .before .before .before .before .before .pre .0) (c .before .before .before .before .before .before .pre .1) _ _
+    (c .before .before .before .before .loop-test .taken) (c .completion-size .ensures) in (
+      omega arith,
+      completions-more _ _ _ _ (c .before .before .before .before .before .before .pre .0) (c .before .before .before .before .before .before .pre .1) _ _
+          (c .before .before .before .before .loop-test .taken) (c .completion-size .ensures) _ (c .before .before .before .before .before .loop .inv .1),
+      omega arith,
+    ))
     (λ c. (completions-all _ _ _ _ _ _ (c .before .loop .inv .0) (c .loop-test .left) (c .before .loop .inv .1), omega arith)))

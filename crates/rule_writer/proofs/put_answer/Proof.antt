@@ -11,8 +11,11 @@ put-answer-spec =
     (tie.spec
     (λ c κs. search needs)
     (λ c. search answer-none)
-    (λ c. search needs)
-    (λ c. search needs)
-    (λ c κs. (omega arith, omega arith, answer-fits (c .before .before .before .before .args .room .now) _ _ _ _ _ (c .before .before .member .ensures) (c .before .if1 .left) (c .before .before .before .before .pre .2)))
+    (λ c. search needs) (λ c. search needs)
+    (λ c κs. (
+      omega arith,
+      omega arith,
+      answer-fits (c .before .before .before .before .args .room .now) _ _ _ _ _ (c .before .before .member .ensures) (c .before .if1 .left) (c .before .before .before .before .pre .2),
+    ))
     (λ c. search needs)
     (λ c. search answer-wrote))

@@ -12,8 +12,7 @@ pub put-rule-spec : {M : Type 1} → statement M
 put-rule-spec =
     tie.close
     (tie.spec
-    (λ c. search needs)
-    (λ c. search needs)
+    (λ c. search needs) (λ c. search needs)
     (λ c. simp length-set (omega arith))
     (λ c. search needs)
     (λ c. simp length-set (omega arith))
@@ -24,7 +23,16 @@ put-rule-spec =
     (λ c. search needs)
     (λ c κs. omega (arith, simp (put16-length, length-set) at (ap length (c .before .before .before .put16 .ensures))))
     (λ c. search needs)
-    (λ c κs. omega (arith, simp (put16-length, length-set) at (ap length (c .before .before .before .before .before .before .before .put16 .ensures)), simp put16-length at (ap length (c .before .before .before .put162 .ensures))))
+    (λ c κs. omega (
+      arith,
+      simp (put16-length, length-set) at (ap length (c .before .before .before .before .before .before .before .put16 .ensures)),
+      simp put16-length at (ap length (c .before .before .before .put162 .ensures)),
+    ))
     (λ c. search needs)
-    (λ c. omega (arith, simp (put16-length, length-set) at (ap length (c .before .before .before .before .before .before .before .before .before .before .put16 .ensures)), simp put16-length at (ap length (c .before .before .before .before .before .before .put162 .ensures)), simp put16-length at (ap length (c .before .before .put163 .ensures))))
+    (λ c. omega (
+      arith,
+      simp (put16-length, length-set) at (ap length (c .before .before .before .before .before .before .before .before .before .before .put16 .ensures)),
+      simp put16-length at (ap length (c .before .before .before .before .before .before .put162 .ensures)),
+      simp put16-length at (ap length (c .before .before .put163 .ensures)),
+    ))
     (λ c. search rule-wrote))

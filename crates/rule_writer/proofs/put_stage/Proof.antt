@@ -8,8 +8,7 @@ pub put-stage-spec : {M : Type 1} → statement M
 put-stage-spec =
     tie.close
     (tie.spec
-    (λ c. search needs)
-    (λ c κs. search needs)
+    (λ c. search needs) (λ c κs. search needs)
     (λ c κs. search stage-second)
     (λ c. search needs)
     (λ c. search stage-wrote))

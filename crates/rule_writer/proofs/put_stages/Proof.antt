@@ -22,9 +22,11 @@ put-stages-spec =
     Inv-loop
     μ-loop
     (λ c. search upto-start)
-    (λ c κs. (omega arith, stage-fits (c .before .before .loop .room) _ _ (upto-fits _ _ _ _ _ _ _ _ (c .before .before .loop .inv) (c .before .loop-test .taken) (c .before .before .before .before .pre .1))))
-    (λ c. search needs)
-    (λ c. search needs)
+    (λ c κs. (
+      omega arith,
+      stage-fits (c .before .before .loop .room) _ _ (upto-fits _ _ _ _ _ _ _ _ (c .before .before .loop .inv) (c .before .loop-test .taken) (c .before .before .before .before .pre .1)),
+    ))
+    (λ c. search needs) (λ c. search needs)
     (λ c. upto-more _ _ _ _ _ _ _ _ (c .before .before .before .before .before .loop .inv) _ _ (c .before .before .before .before .loop-test .taken) (c .before .before .put-stage .ensures))
     (λ c. upto-length _ _ _ _ _ _ _ _ (c .before .loop .inv))
     (λ c. search upto-done))

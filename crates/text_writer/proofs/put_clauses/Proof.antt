@@ -21,17 +21,42 @@ put-clauses-spec =
     Inv-loop
     μ-loop
     (λ c. search (needs, turn-start))
+    (λ c κs. search needs) (λ c. search needs) (λ c. search needs)
+    (λ c. omega (
+      arith,
+      turn-lt _ _ _ _ _ _ _ _ _ (c .before .before .before .before .before .pre .0) (c .before .before .before .loop .inv) _ (c .before .before .loop-test .taken)
+          (c .before .least .ensures),
+    ))
+    (λ c. omega (
+      arith,
+      turn-lt _ _ _ _ _ _ _ _ _ (c .before .before .before .before .before .pre .0) (c .before .before .before .loop .inv) _ (c .before .before .loop-test .taken)
+          (c .before .least .ensures),
+    ))
+    (λ c. omega (
+      arith,
+      turn-lt _ _ _ _ _ _ _ _ _ (c .before .before .before .before .before .pre .0) (c .before .before .before .loop .inv) _ (c .before .before .loop-test .taken)
+          (c .before .least .ensures),
+    ))
+    (λ c. omega (
+      arith,
+      turn-lt _ _ _ _ _ _ _ _ _ (c .before .before .before .before .before .pre .0) (c .before .before .before .loop .inv) _ (c .before .before .loop-test .taken)
+          (c .before .least .ensures),
+    ))
+    (λ c κs. clause-fits (c .before .before .before .loop .room) _ _ _ _
+    (turn-fits _ _ _ _ _ _ _ _ _ (c .before .before .before .before .before .pre .0) (c .before .before .before .loop .inv) _ (c .before .before .loop-test .taken)
+    (c .before .least .ensures) (c .before .before .before .before .before .pre .3)))
+    (λ c κs. omega (
+      arith,
+      turn-lt _ _ _ _ _ _ _ _ _ (c .before .before .before .before .before .before .before .before .pre .0) (c .before .before .before .before .before .before .loop .inv) _
+          (c .before .before .before .before .before .loop-test .taken) (c .before .before .before .before .least .ensures),
+    ))
     (λ c κs. search needs)
-    (λ c. search needs)
-    (λ c. search needs)
-    (λ c. omega (arith, turn-lt _ _ _ _ _ _ _ _ _ (c .before .before .before .before .before .pre .0) (c .before .before .before .loop .inv) _ (c .before .before .loop-test .taken) (c .before .least .ensures)))
-    (λ c. omega (arith, turn-lt _ _ _ _ _ _ _ _ _ (c .before .before .before .before .before .pre .0) (c .before .before .before .loop .inv) _ (c .before .before .loop-test .taken) (c .before .least .ensures)))
-    (λ c. omega (arith, turn-lt _ _ _ _ _ _ _ _ _ (c .before .before .before .before .before .pre .0) (c .before .before .before .loop .inv) _ (c .before .before .loop-test .taken) (c .before .least .ensures)))
-    (λ c. omega (arith, turn-lt _ _ _ _ _ _ _ _ _ (c .before .before .before .before .before .pre .0) (c .before .before .before .loop .inv) _ (c .before .before .loop-test .taken) (c .before .least .ensures)))
-    (λ c κs. clause-fits (c .before .before .before .loop .room) _ _ _ _ (turn-fits _ _ _ _ _ _ _ _ _ (c .before .before .before .before .before .pre .0) (c .before .before .before .loop .inv) _ (c .before .before .loop-test .taken) (c .before .least .ensures) (c .before .before .before .before .before .pre .3)))
-    (λ c κs. omega (arith, turn-lt _ _ _ _ _ _ _ _ _ (c .before .before .before .before .before .before .before .before .pre .0) (c .before .before .before .before .before .before .loop .inv) _ (c .before .before .before .before .before .loop-test .taken) (c .before .before .before .before .least .ensures)))
-    (λ c κs. search needs)
-    (λ c. turn-falls _ _ _ _ _ _ _ _ _ (c .before .before .before .before .before .before .before .before .before .before .pre .0) (c .before .before .before .before .before .before .before .before .loop .inv) _ (c .before .before .before .before .before .before .before .loop-test .taken) (c .before .before .before .before .before .before .least .ensures) _ _ (c .before .one .ensures) (c .less .ensures))
-    (λ c. turn-more _ _ _ _ _ _ _ _ _ (c .before .before .before .before .before .before .before .before .before .before .pre .0) (c .before .before .before .before .before .before .before .before .loop .inv) _ (c .before .before .before .before .before .before .before .loop-test .taken) (c .before .before .before .before .before .before .least .ensures) _ _ _ _ (c .before .one .ensures) (c .less .ensures) (clause-from _ _ _ _ _ (c .before .before .before .before .put-clause .ensures)))
+    (λ c. turn-falls _ _ _ _ _ _ _ _ _ (c .before .before .before .before .before .before .before .before .before .before .pre .0)
+    (c .before .before .before .before .before .before .before .before .loop .inv) _ (c .before .before .before .before .before .before .before .loop-test .taken)
+    (c .before .before .before .before .before .before .least .ensures) _ _ (c .before .one .ensures) (c .less .ensures))
+    (λ c. turn-more _ _ _ _ _ _ _ _ _ (c .before .before .before .before .before .before .before .before .before .before .pre .0)
+    (c .before .before .before .before .before .before .before .before .loop .inv) _ (c .before .before .before .before .before .before .before .loop-test .taken)
+    (c .before .before .before .before .before .before .least .ensures) _ _ _ _ (c .before .one .ensures) (c .less .ensures)
+    (clause-from _ _ _ _ _ (c .before .before .before .before .put-clause .ensures)))
     (λ c. turn-length _ _ _ _ _ _ _ _ _ (c .before .before .before .pre .0) (c .before .loop .inv))
     (λ c. search turn-done))

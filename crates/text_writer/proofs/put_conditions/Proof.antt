@@ -14,7 +14,8 @@ use Rattle.text_writer.proofs.put_conditions.Statement.{statement}
 use Rattle.text_writer.proofs.put_conditions.Tie as tie
 
 abbrev Inv-loop : tie.InvT-loop
-Inv-loop room₀ at n conditions milestones next₀ start₀ e₀ room next start e = Upto conditionBytes (conditionPart n conditions milestones) n room₀ at e next room × (start ≡ textsSize e conditions milestones) × (start ≤ (10 * maxEvents + 1) * e)
+Inv-loop room₀ at n conditions milestones next₀ start₀ e₀ room next start e = Upto conditionBytes (conditionPart n conditions milestones) n room₀ at e next room
+    × (start ≡ textsSize e conditions milestones) × (start ≤ (10 * maxEvents + 1) * e)
 
 abbrev μ-loop : tie.MeasureT-loop
 μ-loop room₀ at n conditions milestones next₀ start₀ e₀ room next start e = n - e
@@ -26,15 +27,35 @@ put-conditions-spec =
     Inv-loop
     μ-loop
     (λ c. unfold textsSize total in (search upto-start, search needs, search needs))
-    (λ c. search needs)
-    (λ c. search needs)
-    (λ c. search needs)
-    (λ c. search needs)
-    (λ c κs. search needs)
-    (λ c κs. let l = text-small _ _ _ (c .before .before .before .before .before .before .before .pre .0) (c .before .before .before .before .before .before .before .pre .1) _ _ (c .before .before .before .before .loop-test .taken) (c .before .text-size .ensures) in (omega arith, omega arith, part-fits _ _ _ (c .before .before .before .before .before .before .before .pre .1) _ _ _ (c .before .before .before .before .loop-test .taken) (c .before .before .before .before .before .loop .inv .1) (c .before .text-size .ensures) (c .before .before .before .before .before .loop .room) _ (upto-fits _ _ _ _ _ _ _ _ (c .before .before .before .before .before .loop .inv .0) (c .before .before .before .before .loop-test .taken) (c .before .before .before .before .before .before .before .pre .2))))
-    (λ c. omega (arith, text-small _ _ _ (c .before .before .before .before .before .before .before .before .before .before .pre .0) (c .before .before .before .before .before .before .before .before .before .before .pre .1) _ _ (c .before .before .before .before .before .before .before .loop-test .taken) (c .before .before .before .before .text-size .ensures)))
-    (λ c. search needs)
-    (λ c. search needs)
-    (λ c. let l = text-small _ _ _ (c .before .before .before .before .before .before .before .before .before .before .pre .0) (c .before .before .before .before .before .before .before .before .before .before .pre .1) _ _ (c .before .before .before .before .before .before .before .loop-test .taken) (c .before .before .before .before .text-size .ensures) in (upto-more _ _ _ _ _ _ _ _ (c .before .before .before .before .before .before .before .before .loop .inv .0) _ _ (c .before .before .before .before .before .before .before .loop-test .taken) (part-wrote _ _ _ (c .before .before .before .before .before .before .before .before .before .before .pre .1) _ _ _ (c .before .before .before .before .before .before .before .loop-test .taken) (c .before .before .before .before .before .before .before .before .loop .inv .1) (c .before .before .before .before .text-size .ensures) _ _ (c .before .before .put-condition .ensures)), texts-more _ _ _ (c .before .before .before .before .before .before .before .before .before .before .pre .0) (c .before .before .before .before .before .before .before .before .before .before .pre .1) _ _ (c .before .before .before .before .before .before .before .loop-test .taken) (c .before .before .before .before .text-size .ensures) _ (c .before .before .before .before .before .before .before .before .loop .inv .1), omega arith))
+    (λ c. search needs) (λ c. search needs) (λ c. search needs) (λ c. search needs) (λ c κs. search needs)
+    (λ c κs. let l = text-small _ _ _ (c .before .before .before .before .before .before .before .pre .0) (c .before .before .before .before .before .before .before .pre .1) _ _
+    (c .before .before .before .before .loop-test .taken) (c .before .text-size .ensures) in (
+      omega arith,
+      omega arith,
+      part-fits _ _ _ (c .before .before .before .before .before .before .before .pre .1) _ _ _ (c .before .before .before .before .loop-test .taken)
+          (c .before .before .before .before .before .loop .inv .1) (c .before .text-size .ensures) (c .before .before .before .before .before .loop .room) _
+          (upto-fits _ _ _ _ _ _ _ _ (c .before .before .before .before .before .loop .inv .0) (c .before .before .before .before .loop-test .taken)
+          (c .before .before .before .before .before .before .before .pre .2)),
+    ))
+    (λ c. omega (
+      arith,
+      text-small _ _ _ (c .before .before .before .before .before .before .before .before .before .before .pre .0)
+          (c .before .before .before .before .before .before .before .before .before .before .pre .1) _ _ (c .before .before .before .before .before .before .before .loop-test .taken)
+          (c .before .before .before .before .text-size .ensures),
+    ))
+    (λ c. search needs) (λ c. search needs)
+    (λ c. let l = text-small _ _ _ (c .before .before .before .before .before .before .before .before .before .before .pre .0)
+    (c .before .before .before .before .before .before .before .before .before .before .pre .1) _ _ (c .before .before .before .before .before .before .before .loop-test .taken)
+    (c .before .before .before .before .text-size .ensures) in (
+      upto-more _ _ _ _ _ _ _ _ (c .before .before .before .before .before .before .before .before .loop .inv .0) _ _
+          (c .before .before .before .before .before .before .before .loop-test .taken)
+          (part-wrote _ _ _ (c .before .before .before .before .before .before .before .before .before .before .pre .1) _ _ _
+          (c .before .before .before .before .before .before .before .loop-test .taken) (c .before .before .before .before .before .before .before .before .loop .inv .1)
+          (c .before .before .before .before .text-size .ensures) _ _ (c .before .before .put-condition .ensures)),
+      texts-more _ _ _ (c .before .before .before .before .before .before .before .before .before .before .pre .0)
+          (c .before .before .before .before .before .before .before .before .before .before .pre .1) _ _ (c .before .before .before .before .before .before .before .loop-test .taken)
+          (c .before .before .before .before .text-size .ensures) _ (c .before .before .before .before .before .before .before .before .loop .inv .1),
+      omega arith,
+    ))
     (λ c. upto-length _ _ _ _ _ _ _ _ (c .before .loop .inv .0))
     (λ c. upto-done _ _ _ _ _ _ _ _ (c .before .loop .inv .0) (c .loop-test .left)))

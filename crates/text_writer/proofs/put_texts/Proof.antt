@@ -20,13 +20,17 @@ put-texts-spec =
     Inv-loop
     μ-loop
     (λ c. search upto-start)
-    (λ c. search needs)
-    (λ c. search needs)
-    (λ c. search needs)
-    (λ c. search needs)
-    (λ c κs. unfold textAt in (c .before .before .before .before .before .before .pre .0, c .before .before .before .loop-test .taken, c .before .before .before .before .before .before .pre .1 .conditions _ (c .before .before .before .loop-test .taken), c .before .before .before .before .before .before .pre .1 .milestones _ (c .before .before .before .loop-test .taken), upto-fits _ _ _ _ _ _ _ _ (c .before .before .before .before .loop .inv) (c .before .before .before .loop-test .taken) (c .before .before .before .before .before .before .pre .2)))
-    (λ c. search needs)
-    (λ c. search needs)
-    (λ c. unfold textAt in upto-more _ _ _ _ _ _ _ _ (c .before .before .before .before .before .before .before .loop .inv) _ _ (c .before .before .before .before .before .before .loop-test .taken) (c .before .before .put-text .ensures))
+    (λ c. search needs) (λ c. search needs) (λ c. search needs) (λ c. search needs)
+    (λ c κs. unfold textAt in (
+      c .before .before .before .before .before .before .pre .0,
+      c .before .before .before .loop-test .taken,
+      c .before .before .before .before .before .before .pre .1 .conditions _ (c .before .before .before .loop-test .taken),
+      c .before .before .before .before .before .before .pre .1 .milestones _ (c .before .before .before .loop-test .taken),
+      upto-fits _ _ _ _ _ _ _ _ (c .before .before .before .before .loop .inv) (c .before .before .before .loop-test .taken) (c .before .before .before .before .before .before .pre .2),
+    ))
+    (λ c. search needs) (λ c. search needs)
+    (λ c. unfold textAt in
+    upto-more _ _ _ _ _ _ _ _ (c .before .before .before .before .before .before .before .loop .inv) _ _ (c .before .before .before .before .before .before .loop-test .taken)
+    (c .before .before .put-text .ensures))
     (λ c. upto-length _ _ _ _ _ _ _ _ (c .before .loop .inv))
     (λ c. search upto-done))

@@ -23,13 +23,18 @@ texts-size-spec =
     Inv-loop
     μ-loop
     (λ c. unfold textsSize total in search needs)
-    (λ c. search needs)
-    (λ c. search needs)
-    (λ c. search needs)
-    (λ c. search needs)
-    (λ c κs. search needs)
-    (λ c. omega (arith, text-small _ _ _ (c .before .before .before .before .before .pre .0) (c .before .before .before .before .before .pre .1) _ _ (c .before .before .before .loop-test .taken) (c .text-size .ensures)))
-    (λ c. search needs)
-    (λ c. search needs)
-    (λ c. let l = text-small _ _ _ (c .before .before .before .before .before .pre .0) (c .before .before .before .before .before .pre .1) _ _ (c .before .before .before .loop-test .taken) (c .text-size .ensures) in (omega arith, texts-more _ _ _ (c .before .before .before .before .before .pre .0) (c .before .before .before .before .before .pre .1) _ _ (c .before .before .before .loop-test .taken) (c .text-size .ensures) _ (c .before .before .before .before .loop .inv .1), omega arith))
+    (λ c. search needs) (λ c. search needs) (λ c. search needs) (λ c. search needs) (λ c κs. search needs)
+    (λ c. omega (
+      arith,
+      text-small _ _ _ (c .before .before .before .before .before .pre .0) (c .before .before .before .before .before .pre .1) _ _
+          (c .before .before .before .loop-test .taken) (c .text-size .ensures),
+    ))
+    (λ c. search needs) (λ c. search needs)
+    (λ c. let l = text-small _ _ _ (c .before .before .before .before .before .pre .0) (c .before .before .before .before .before .pre .1) _ _
+    (c .before .before .before .loop-test .taken) (c .text-size .ensures) in (
+      omega arith,
+      texts-more _ _ _ (c .before .before .before .before .before .pre .0) (c .before .before .before .before .before .pre .1) _ _ (c .before .before .before .loop-test .taken)
+          (c .text-size .ensures) _ (c .before .before .before .before .loop .inv .1),
+      omega arith,
+    ))
     (λ c. (texts-all _ _ _ _ _ (c .before .loop .inv .0) (c .loop-test .left) (c .before .loop .inv .1), omega arith)))

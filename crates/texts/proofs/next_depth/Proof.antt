@@ -9,13 +9,7 @@ pub next-depth-spec : {M : Type 1} → statement M
 next-depth-spec =
     tie.close
     (tie.spec
-    (λ c. search needs)
-    (λ c. search needs)
-    (λ c. search needs)
-    (λ c. search needs)
-    (λ c. search needs)
-    (λ c. search needs)
-    (λ c. search needs)
+    (λ c. search needs) (λ c. search needs) (λ c. search needs) (λ c. search needs) (λ c. search needs) (λ c. search needs) (λ c. search needs)
     (λ c. unfold nextDepth follows depthAfter in rw (c .before .match .keys1, le-leb _ _ (c .if1 .taken)))
     (λ c. unfold nextDepth follows depthAfter in rw (c .before .match .keys1, lt-leb _ _ (c .if1 .left)))
     (λ c. unfold nextDepth follows depthAfter in rw (c .before .match .keys2, le-leb _ _ (c .if2 .taken)))

@@ -18,12 +18,10 @@ text-fits-spec =
     Inv-loop
     μ-loop
     (λ c. deep-starts _ _ _ _)
-    (λ c. search needs)
-    (λ c. search needs)
-    (λ c κs. search needs)
-    (λ c κs. search needs)
-    (λ c. deep-refused _ _ _ _ _ _ _ _ (c .before .before .before .before .loop .inv) (c .before .before .before .loop-test .taken) (c .before .before .u16-at .ensures) (c .before .next-depth .ensures) (c .if1 .taken))
-    (λ c. search needs)
-    (λ c. search needs)
-    (λ c. deep-more _ _ _ _ _ _ _ _ (c .before .before .before .before .loop .inv) (c .before .before .before .loop-test .taken) (c .before .before .u16-at .ensures) (c .before .next-depth .ensures) (c .if1 .left))
+    (λ c. search needs) (λ c. search needs) (λ c κs. search needs) (λ c κs. search needs)
+    (λ c. deep-refused _ _ _ _ _ _ _ _ (c .before .before .before .before .loop .inv) (c .before .before .before .loop-test .taken) (c .before .before .u16-at .ensures)
+    (c .before .next-depth .ensures) (c .if1 .taken))
+    (λ c. search needs) (λ c. search needs)
+    (λ c. deep-more _ _ _ _ _ _ _ _ (c .before .before .before .before .loop .inv) (c .before .before .before .loop-test .taken) (c .before .before .u16-at .ensures)
+    (c .before .next-depth .ensures) (c .if1 .left))
     (λ c. deep-ends _ _ _ _ _ _ (c .before .loop .inv) (c .loop-test .left)))

@@ -19,11 +19,9 @@ text-spec =
     Inv-loop
     μ-loop
     (λ c. search copied-start)
-    (λ c. search needs)
-    (λ c. search needs)
+    (λ c. search needs) (λ c. search needs)
     (λ c. search copied-place)
-    (λ c. search needs)
-    (λ c. search needs)
+    (λ c. search needs) (λ c. search needs)
     (λ c. search copied-more)
     (λ c. search needs)
     (λ c. search copied-length)

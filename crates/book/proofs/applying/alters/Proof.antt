@@ -9,6 +9,5 @@ pub alters-spec : {M : Type 1} → statement M
 alters-spec =
     tie.close
     (tie.spec
-    (λ c. search needs)
-    (λ c. search needs)
+    (λ c. search needs) (λ c. search needs)
     (λ c. effect-alters (c .before .before .before .args .marks .now) (c .before .before .before .args .r) (let h = c .before .before .before .pre in omega (arith, h .0, h .1))))

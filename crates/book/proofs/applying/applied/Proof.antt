@@ -1,7 +1,14 @@
--- `book::applying::applied` meets its contract: a walk of its MIR, by hand. The snapshot passed is copied to a local, which is lent to `apply` for a lifetime that is made for the call; it comes back at the last value that `apply`'s contract says, and is copied to the result.
+-- `book::applying::applied` meets its contract: a walk of its MIR, by hand. The snapshot passed is copied to a local, which is lent to `apply` for a lifetime
+-- that is made for the call; it comes back at the last value that `apply`'s contract says, and is copied to the result.
 -- All that the proof knows of `apply` is that it meets its contract.
 -- Assumes nothing.
-use Rattle.book.proofs.Walk.{_≡_, refl, ℕ, _<_, [], _∷_, List, Holds, URA, fullShare, named, Val, WT, hasTy, vptr, SProp, ent, sep, id⊢, GName, ftrue, fsep, fat, flft, flent, Memory, Routine, Heap, Calls, Loops, WpFn, Tables, Atoms, sem, Fun, fact, givenOf, tables, tablesOf, Given, ‵, raw, _⊛_, some, later, _$_, _∵_, !, qed, by, move, keep, drop, use1, use2, use3, split, join, pick, fsplit, fjoin, fpick, fpack, suffices, frame, await, done, look, init, forget, stop, from, load, addr, of-opd, and-then, no-more, assigns, land, returns, enter, alloc1, alloc0, params1, pass1, pass0, free1, free0, Body, lft-new, lft-end, FmC, fmOf, WpFn-mono, RattleType, owns, Is, shows, mem, cellAt, partOf, nothing-lawful, unit, RefT, MutRef, lends-ref, ref-back, owned, peeks, heard, nothing, spelt, Contract, Triple, calls-at, ensured, lasts, onEntry, Meets, tripleOf, entered, cited, says, needs, Stays, stay-none, walkOf, AllGo, goes-none, Walks, ends-at, walked, walk-meets, yes}
+use Rattle.book.proofs.Walk.{_≡_, refl, ℕ, _<_, [], _∷_, List, Holds, URA, fullShare, named, Val, WT, hasTy, vptr, SProp, ent, sep, id⊢, GName, ftrue, fsep, fat, flft, flent, Memory}
+use Rattle.book.proofs.Walk.{Routine, Heap, Calls, Loops, WpFn, Tables, Atoms, sem, Fun, fact, givenOf, tables, tablesOf, Given, ‵, raw, _⊛_, some, later, _$_, _∵_, !, qed, by, move}
+use Rattle.book.proofs.Walk.{keep, drop, use1, use2, use3, split, join, pick, fsplit, fjoin, fpick, fpack, suffices, frame, await, done, look, init, forget, stop, from, load, addr}
+use Rattle.book.proofs.Walk.{of-opd, and-then, no-more, assigns, land, returns, enter, alloc1, alloc0, params1, pass1, pass0, free1, free0, Body, lft-new, lft-end, FmC, fmOf}
+use Rattle.book.proofs.Walk.{WpFn-mono, RattleType, owns, Is, shows, mem, cellAt, partOf, nothing-lawful, unit, RefT, MutRef, lends-ref, ref-back, owned, peeks, heard, nothing, spelt}
+use Rattle.book.proofs.Walk.{Contract, Triple, calls-at, ensured, lasts, onEntry, Meets, tripleOf, entered, cited, says, needs, Stays, stay-none, walkOf, AllGo, goes-none, Walks}
+use Rattle.book.proofs.Walk.{ends-at, walked, walk-meets, yes}
 use denote.Struct.Laws as LL
 use Rattle.book.specs.Effects.{effectOn}
 use Rattle.book.specs.declared.Rule.{Rule}
@@ -32,7 +39,8 @@ stayed = (stay-none (λ _. T.the-row) yes, (stay-none (λ _. S.the-row) yes, tt)
 abbrev Apply : {M : Type 1} (𝓤 : URA M) (H : Heap 𝓤) (A : Atoms 𝓤) (mem : Memory → SProp 𝓤) (run : Routine → Fun 𝓤) → Contract 𝓤
 Apply 𝓤 H A mem run = tripleOf 𝓤 H A apply.signature (apply.spec 𝓤 H A mem run)
 
-module _ {M : Type 1} (𝓤 : URA M) (H : Heap 𝓤) (A : Atoms 𝓤) (W : Given 𝓤 H A) (at-mem : Memory → SProp 𝓤) (run : Routine → Fun 𝓤) (h : Snapshot) (d : Rule) (d-is : Is S.the-row d (S′.lowered d ∷ [])) where
+module _ {M : Type 1} (𝓤 : URA M) (H : Heap 𝓤) (A : Atoms 𝓤) (W : Given 𝓤 H A) (at-mem : Memory → SProp 𝓤) (run : Routine → Fun 𝓤) (h : Snapshot) (d : Rule)
+    (d-is : Is S.the-row d (S′.lowered d ∷ [])) where
   abbrev mach : Val
   mach = T′.lowered h
 
@@ -52,7 +60,8 @@ module _ {M : Type 1} (𝓤 : URA M) (H : Heap 𝓤) (A : Atoms 𝓤) (W : Given
   abbrev to : ℕ → ℕ → GName → Apply 𝓤 H A at-mem run .Ghost
   to l α δ = (((α ∷ [], tt), (fullShare, tt), tt, (x l δ, (d, tt)), (vptr l 0 ∷ [], (S′.lowered d ∷ [], tt))), tt)
 
-  goes : d .target < 256 → (l α : ℕ) (δ : GName) → ent 𝓤 (sep 𝓤 (A .lft (α ∷ []) fullShare) (sem 𝓤 H A (MutRef (named 0) (α ∷ []) R .own (x l δ) (vptr l 0 ∷ [])))) (Apply 𝓤 H A at-mem run .pre (to l α δ))
+  goes : d .target < 256 → (l α : ℕ) (δ : GName)
+      → ent 𝓤 (sep 𝓤 (A .lft (α ∷ []) fullShare) (sem 𝓤 H A (MutRef (named 0) (α ∷ []) R .own (x l δ) (vptr l 0 ∷ [])))) (Apply 𝓤 H A at-mem run .pre (to l α δ))
   goes within l α δ =
       qed W (‵ (flft (α ∷ []) fullShare) ∷ ‵ (MutRef (named 0) (α ∷ []) R .own (x l δ) (vptr l 0 ∷ [])) ∷ []) ∵ says ! within $ nothing ! $ move ! (1 ∷ 0 ∷ []) $ join ! $ frame ! $
       nothing ! $ owned ! S.the-row (Is S.the-row) (LL.makes S.the-type S′.the-plain 𝓤 H A) d _ d-is $ fjoin ! $ move ! (1 ∷ 0 ∷ []) $ fjoin ! $ done !
@@ -76,15 +85,21 @@ module _ {M : Type 1} (𝓤 : URA M) (H : Heap 𝓤) (A : Atoms 𝓤) (W : Given
         assigns ! (addr ! (from ! (stop !))) (from ! (stop !)) (init ! 0 refl (tt, tt)) $
         -- the local is lent for a lifetime α of the call
         move ! (4 ∷ []) $ use1 W (‵ (cellAt fullShare (R .mir) (mach ∷ []) l₃ 0)) (W .laws .at-raw fullShare T′.mir l₃ 0 mach) $
-        owned ! R (Is R) (LL.makes T.the-type T′.the-plain 𝓤 H A) h _ is $ move ! (1 ∷ 0 ∷ []) $ fjoin ! $ fpack ! (List Val) (λ vs. fsep (cellAt fullShare (R .mir) vs l₃ 0) (R .own h vs)) (mach ∷ []) $
+        owned ! R (Is R) (LL.makes T.the-type T′.the-plain 𝓤 H A) h _ is $ move ! (1 ∷ 0 ∷ []) $ fjoin ! $ fpack ! (List Val)
+        (λ vs. fsep (cellAt fullShare (R .mir) vs l₃ 0) (R .own h vs)) (mach ∷ []) $
         lft-new ! tt (λ α. move ! (1 ∷ []) $
-        use1 W (later (some (λ (δ : GName). ‵ (MutRef (named 0) (α ∷ []) R .own (x l₃ δ) (vptr l₃ 0 ∷ [])) ⊛ ‵ (flent (α ∷ []) (Body (mem R) l₃ 0 δ))))) (lends-ref 𝓤 H A W R (named 0) (α ∷ []) h l₃ 0) $ await ! tt $ pick ! (λ δ. split ! $
+        use1 W (later (some (λ (δ : GName). ‵ (MutRef (named 0) (α ∷ []) R .own (x l₃ δ) (vptr l₃ 0 ∷ [])) ⊛ ‵ (flent (α ∷ []) (Body (mem R) l₃ 0 δ)))))
+        (lends-ref 𝓤 H A W R (named 0) (α ∷ []) h l₃ 0) $ await ! tt $ pick ! (λ δ. split ! $
         move ! (2 ∷ 0 ∷ []) $ use2 W (raw (Apply 𝓤 H A at-mem run .pre (to l₃ α δ))) (goes within l₃ α δ) $
         -- [what `apply` asks; the lender's part; _5; …; _4; …; (_3's right to be freed); _2; …; _1; …; room for _0; …; true; the parameters']
         calls-at ! fm (Apply 𝓤 H A at-mem run) known (to l₃ α δ) (and-then ! (load ! (from ! (stop !)) (look ! 2 refl)) (and-then ! (load ! (from ! (stop !)) (look ! 7 refl)) (no-more !))) (λ w.
-        use1 W (later (some (λ (r : Unit {0}). ((‵ (flft (α ∷ []) fullShare) ⊛ ‵ ftrue) ⊛ ‵ (unit .own r (w ∷ []))) ⊛ raw (ensured 𝓤 H A apply.ended (apply.clauses 𝓤 H A at-mem run) (α ∷ [], tt) (x l₃ δ, (d, tt)) tt r)))) (id⊢ 𝓤 _) $ await ! tt $ pick ! (λ r.
+        use1 W (later
+        (some (λ (r : Unit {0}). ((‵ (flft (α ∷ []) fullShare) ⊛ ‵ ftrue) ⊛ ‵ (unit .own r (w ∷ []))) ⊛ raw
+        (ensured 𝓤 H A apply.ended (apply.clauses 𝓤 H A at-mem run) (α ∷ [], tt) (x l₃ δ, (d, tt)) tt r)))) (id⊢ 𝓤 _) $ await ! tt $ pick ! (λ r.
         -- what `apply` ensures, at some last snapshot
-        split ! $ move ! (1 ∷ []) $ use1 W (some (λ (zs : Snapshot × (Unit {0} × Unit {0})). ‵ (lasts apply.ended (α ∷ [], tt) (x l₃ δ, (d, tt)) zs) ⊛ raw (fact 𝓤 (zs .0 .marks ≡ effectOn (h .marks) d)))) (id⊢ 𝓤 _) $ pick ! (λ zs.
+        split ! $ move ! (1 ∷ []) $ use1 W
+        (some (λ (zs : Snapshot × (Unit {0} × Unit {0})). ‵ (lasts apply.ended (α ∷ [], tt) (x l₃ δ, (d, tt)) zs) ⊛ raw (fact 𝓤 (zs .0 .marks ≡ effectOn (h .marks) d)))) (id⊢ 𝓤 _) $
+        pick ! (λ zs.
         split ! $ move ! (1 ∷ []) $ heard ! (zs .0 .marks ≡ effectOn (h .marks) d) (λ e. fsplit ! $ move ! (2 ∷ []) $ split ! $ move ! (1 ∷ []) $
         peeks ! unit (Is unit) (shows 𝓤 H A unit) r (w ∷ []) (λ u. land ! (from ! (stop !)) (init ! 7 refl (nothing-lawful 𝓤 H A W .typed r _ u .0)) $ drop ! $
         -- the lifetime is ended, and the local comes back at that snapshot
@@ -95,20 +110,26 @@ module _ {M : Type 1} (𝓤 : URA M) (H : Heap 𝓤) (A : Atoms 𝓤) (W : Given
         -- [_3; what it owns; true; the others'; _5; …; _4; …; (_3's right to be freed); _2; …; _1; …; room for _0; …; true; the parameters']
         assigns ! (of-opd ! (load ! (from ! (stop !)) (look ! 0 refl))) (from ! (stop !)) (init ! 13 refl (LL.lawful T.the-type T′.the-laws 𝓤 H A W .typed (zs .0) _ g .0)) $
         returns ! (look ! 13 refl) $ forget ! 0 refl $ forget ! 4 refl $ forget ! 6 refl $ forget ! 9 refl $ forget ! 11 refl $ forget ! 13 refl $
-        move ! (13 ∷ 14 ∷ []) $ free1 ! $ move ! (11 ∷ 12 ∷ []) $ free1 ! $ move ! (9 ∷ 10 ∷ []) $ free1 ! $ move ! (0 ∷ 8 ∷ []) $ free1 ! $ move ! (5 ∷ 6 ∷ []) $ free1 ! $ move ! (3 ∷ 4 ∷ []) $ free1 ! $ free0 ! $
+        move ! (13 ∷ 14 ∷ []) $ free1 ! $ move ! (11 ∷ 12 ∷ []) $ free1 ! $ move ! (9 ∷ 10 ∷ []) $ free1 ! $ move ! (0 ∷ 8 ∷ []) $ free1 ! $ move ! (5 ∷ 6 ∷ []) $ free1 ! $ move !
+        (3 ∷ 4 ∷ []) $ free1 ! $ free0 ! $
         keep ! (0 ∷ []) $ by ! (exits is (zs .0) e))))))))))))))))
 
 module _ {M : Type 1} (𝓤 : URA M) (H : Heap 𝓤) (A : Atoms 𝓤) (W : Given 𝓤 H A) (at-mem : Memory → SProp 𝓤) (run : Routine → Fun 𝓤) where
-  applied-walks : (C : Calls 𝓤 H) (Λ : Loops 𝓤 H) → FmC 𝓤 H (W .laws) C → Triple 𝓤 (C #book·apply) (Apply 𝓤 H A at-mem run) → Walks 𝓤 H A applied.ended stayed (WpFn 𝓤 H C Λ code.function) (applied.clauses 𝓤 H A at-mem run)
-  applied-walks C Λ fm known = walked 𝓤 H A applied.ended stayed (applied.clauses 𝓤 H A at-mem run) (WpFn 𝓤 H C Λ code.function) (λ κs. ((λ d. T′.lowered d ∷ []), ((λ r. S′.lowered r ∷ []), tt))) (λ κs. (T′.lowers .val-is, (S′.lowers .val-is, tt)))
-      (λ κs qs bounds a _ are. needs 𝓤 (a .1 .0 .target < 256) _ (walk 𝓤 H A W at-mem run (a .0) (a .1 .0) (are .1 .0) C Λ fm known (are .0) (LL.lawful T.the-type T′.the-laws 𝓤 H A W .typed (a .0) _ (are .0) .0)))
+  applied-walks : (C : Calls 𝓤 H) (Λ : Loops 𝓤 H) → FmC 𝓤 H (W .laws) C → Triple 𝓤 (C #book·apply) (Apply 𝓤 H A at-mem run)
+      → Walks 𝓤 H A applied.ended stayed (WpFn 𝓤 H C Λ code.function) (applied.clauses 𝓤 H A at-mem run)
+  applied-walks C Λ fm known = walked 𝓤 H A applied.ended stayed (applied.clauses 𝓤 H A at-mem run) (WpFn 𝓤 H C Λ code.function)
+      (λ κs. ((λ d. T′.lowered d ∷ []), ((λ r. S′.lowered r ∷ []), tt))) (λ κs. (T′.lowers .val-is, (S′.lowers .val-is, tt)))
+      (λ κs qs bounds a _ are. needs 𝓤 (a .1 .0 .target < 256) _
+      (walk 𝓤 H A W at-mem run (a .0) (a .1 .0) (are .1 .0) C Λ fm known (are .0) (LL.lawful T.the-type T′.the-laws 𝓤 H A W .typed (a .0) _ (are .0) .0)))
 
   allgo : AllGo 𝓤 H A W 0 (applied.signature .params) (applied.ended .kept) stayed
   allgo = (goes-none 𝓤 H A W 0 (λ _. T.the-row) yes (λ κs x f. refl), (goes-none 𝓤 H A W 0 (λ _. S.the-row) yes (λ κs x f. refl), tt))
 
-applied-meets : {M : Type 1} (𝓤 : URA M) (H : Heap 𝓤) (A : Atoms 𝓤) → Given 𝓤 H A → (at-mem : Memory → SProp 𝓤) (run : Routine → Fun 𝓤) (𝓣 : Tables 𝓤 H) → Triple 𝓤 (𝓣 .C #book·apply) (Apply 𝓤 H A at-mem run)
+applied-meets : {M : Type 1} (𝓤 : URA M) (H : Heap 𝓤) (A : Atoms 𝓤) → Given 𝓤 H A → (at-mem : Memory → SProp 𝓤) (run : Routine → Fun 𝓤) (𝓣 : Tables 𝓤 H)
+    → Triple 𝓤 (𝓣 .C #book·apply) (Apply 𝓤 H A at-mem run)
     → Meets 𝓤 H A applied.signature (WpFn 𝓤 H (𝓣 .C) (𝓣 .Λ) code.function) (applied.spec 𝓤 H A at-mem run)
-applied-meets 𝓤 H A W at-mem run 𝓣 known = walk-meets 𝓤 H A applied.ended stayed W (allgo 𝓤 H A W at-mem run) (applied.clauses 𝓤 H A at-mem run) (WpFn 𝓤 H (𝓣 .C) (𝓣 .Λ) code.function) (WpFn-mono 𝓤 H (W .laws) 𝓣 code.function)
+applied-meets 𝓤 H A W at-mem run 𝓣 known = walk-meets 𝓤 H A applied.ended stayed W (allgo 𝓤 H A W at-mem run) (applied.clauses 𝓤 H A at-mem run) (WpFn 𝓤 H (𝓣 .C) (𝓣 .Λ) code.function)
+    (WpFn-mono 𝓤 H (W .laws) 𝓣 code.function)
     (applied-walks 𝓤 H A W at-mem run (𝓣 .C) (𝓣 .Λ) (fmOf 𝓤 H (W .laws) 𝓣) known)
 
 pub applied-spec : {M : Type 1} → stated.statement M

@@ -1,7 +1,12 @@
 -- `book::reader::open` meets its contract: a walk of its MIR, by hand. A `BookReader` is made of the slice passed and the counts, in the result's local.
 -- A `&[u8]` is Copy, so what it owns is had twice: once for image at exit, and once inside the result, beside what the counts own.
 -- Assumes nothing.
-use Rattle.book.proofs.Walk.{refl, ℕ, [], List, _∷_, length, URA, named, Val, SProp, ent, emp, via, fst∗, Lft, Share, Fml, ftrue, flft, Memory, Routine, Heap, Calls, Loops, WpFn, Tables, Atoms, Fun, givenOf, tables, tablesOf, Given, ‵, raw, _⊛_, _$_, _∵_, !, qed, by, move, use1, split, fsplit, fjoin, suffices, frame, agg, look, init, forget, stop, from, load, and-then, no-more, assigns, returns, enter, alloc1, alloc0, params1, pass1, pass0, free1, free0, WpFn-mono, owns, Is, u8, RefT, NamedLft, plain, namedLft, sliceVal, ShrSlice, slice-vals, shr-slice-tells, shr-slice-lawful, shr-slice-copy, nothing, owned, own-shut, onEntry, Vals, Args, Meets, tripleOf, entered, says, Stays, stay-none, stay-none-slice, walkOf, AllGo, goes-none, goes-none-slice, Walks, ends-at, walked, walk-meets, yes}
+use Rattle.book.proofs.Walk.{refl, ℕ, [], List, _∷_, length, URA, named, Val, SProp, ent, emp, via, fst∗, Lft, Share, Fml, ftrue, flft, Memory, Routine, Heap, Calls, Loops, WpFn}
+use Rattle.book.proofs.Walk.{Tables, Atoms, Fun, givenOf, tables, tablesOf, Given, ‵, raw, _⊛_, _$_, _∵_, !, qed, by, move, use1, split, fsplit, fjoin, suffices, frame, agg, look}
+use Rattle.book.proofs.Walk.{init, forget, stop, from, load, and-then, no-more, assigns, returns, enter, alloc1, alloc0, params1, pass1, pass0, free1, free0, WpFn-mono, owns, Is, u8}
+use Rattle.book.proofs.Walk.{RefT, NamedLft, plain, namedLft, sliceVal, ShrSlice, slice-vals, shr-slice-tells, shr-slice-lawful, shr-slice-copy, nothing, owned, own-shut, onEntry}
+use Rattle.book.proofs.Walk.{Vals, Args, Meets, tripleOf, entered, says, Stays, stay-none, stay-none-slice, walkOf, AllGo, goes-none, goes-none-slice, Walks, ends-at, walked}
+use Rattle.book.proofs.Walk.{walk-meets, yes}
 use denote.Struct.Laws as LL
 use Rattle.book.specs.Reading.{readerOf}
 use Rattle.book.specs.declared.Counts.{Counts}
@@ -18,7 +23,8 @@ use Rattle.book.proofs.reader.open.Code as code
 abbrev stayed : Stays (open′.ended .signature .params) (open′.ended .kept)
 stayed = (stay-none-slice (0 ∷ []) tt (plain (λ _. u8)) yes, (stay-none (λ _. N.the-row) yes, tt))
 
-module _ {M : Type 1} (𝓤 : URA M) (H : Heap 𝓤) (A : Atoms 𝓤) (W : Given 𝓤 H A) (mem : Memory → SProp 𝓤) (run : Routine → Fun 𝓤) (κ : Lft) (q : Share) (s : RefT (List ℕ)) (n : Counts) (n-is : Is N.the-row n (N′.lowered n ∷ [])) where
+module _ {M : Type 1} (𝓤 : URA M) (H : Heap 𝓤) (A : Atoms 𝓤) (W : Given 𝓤 H A) (mem : Memory → SProp 𝓤) (run : Routine → Fun 𝓤) (κ : Lft) (q : Share) (s : RefT (List ℕ)) (n : Counts)
+    (n-is : Is N.the-row n (N′.lowered n ∷ [])) where
   abbrev α : NamedLft
   α = namedLft 1 0 tt (κ, tt)
 
@@ -47,7 +53,8 @@ module _ {M : Type 1} (𝓤 : URA M) (H : Heap 𝓤) (A : Atoms 𝓤) (W : Given
       suffices ! _ (ends-at 𝓤 H A open′.ended stayed (open′.clauses 𝓤 H A mem run) W (((κ, tt), (q, tt), tt, a, at), tt) (T′.lowered made) made (tt, (tt, tt)) (tt, (tt, tt))) $ says ! refl $
       frame ! $ fsplit ! $ use1 W (‵ Own ⊛ ‵ Own) (shr-slice-copy 𝓤 H A W (named 0) κ u8 .twice s (v ∷ [])) $ split ! $ move ! (0 ∷ 2 ∷ []) $ fjoin ! $ frame ! $
       -- [what image owns]: what the fields own together, of it and of the counts, is what the struct owns
-      nothing ! $ owned ! N.the-row (Is N.the-row) (LL.makes N.the-type N′.the-plain 𝓤 H A) n _ n-is $ fjoin ! $ move ! (1 ∷ 0 ∷ []) $ fjoin ! $ by ! (own-shut 𝓤 H A W (T.the-type α) (T′.the-laws α) a)
+      nothing ! $ owned ! N.the-row (Is N.the-row) (LL.makes N.the-type N′.the-plain 𝓤 H A) n _ n-is $ fjoin ! $ move ! (1 ∷ 0 ∷ []) $ fjoin ! $ by !
+      (own-shut 𝓤 H A W (T.the-type α) (T′.the-laws α) a)
 
   module _ (C : Calls 𝓤 H) (Λ : Loops 𝓤 H) where
     walk : Is (ShrSlice (named 0) κ u8) s (v ∷ []) → ent 𝓤 (onEntry 𝓤 H A open′.signature (κ, tt) (q, tt) a at) (WpFn 𝓤 H C Λ code.function (v ∷ N′.lowered n ∷ []) Post)
@@ -71,7 +78,8 @@ module _ {M : Type 1} (𝓤 : URA M) (H : Heap 𝓤) (A : Atoms 𝓤) (W : Given
 
 open-meets : {M : Type 1} (𝓤 : URA M) (H : Heap 𝓤) (A : Atoms 𝓤) → Given 𝓤 H A → (mem : Memory → SProp 𝓤) (run : Routine → Fun 𝓤) (𝓣 : Tables 𝓤 H)
     → Meets 𝓤 H A open′.signature (WpFn 𝓤 H (𝓣 .C) (𝓣 .Λ) code.function) (open′.spec 𝓤 H A mem run)
-open-meets 𝓤 H A W mem run 𝓣 = walk-meets 𝓤 H A open′.ended stayed W (allgo 𝓤 H A W mem run) (open′.clauses 𝓤 H A mem run) (WpFn 𝓤 H (𝓣 .C) (𝓣 .Λ) code.function) (WpFn-mono 𝓤 H (W .laws) 𝓣 code.function) (open-walks 𝓤 H A W mem run (𝓣 .C) (𝓣 .Λ))
+open-meets 𝓤 H A W mem run 𝓣 = walk-meets 𝓤 H A open′.ended stayed W (allgo 𝓤 H A W mem run) (open′.clauses 𝓤 H A mem run) (WpFn 𝓤 H (𝓣 .C) (𝓣 .Λ) code.function)
+    (WpFn-mono 𝓤 H (W .laws) 𝓣 code.function) (open-walks 𝓤 H A W mem run (𝓣 .C) (𝓣 .Λ))
 
 pub open-spec : {M : Type 1} → stated.statement M
 unfolding code.routine tablesOf

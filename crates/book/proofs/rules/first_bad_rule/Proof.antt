@@ -20,12 +20,8 @@ first-bad-rule-spec =
     Inv-loop
     μ-loop
     (λ c. scan-starts _ _)
-    (λ c. search needs)
-    (λ c. search needs)
-    (λ c. search needs)
-    (λ c κs. search needs)
+    (λ c. search needs) (λ c. search needs) (λ c. search needs) (λ c κs. search needs)
     (λ c. scan-found _ _ _ (c .before .before .before .loop .inv) _ (c .before .before .loop-test .taken) (c .before .rule-fits .ensures) (c .if1 .taken))
-    (λ c. search needs)
-    (λ c. search needs)
+    (λ c. search needs) (λ c. search needs)
     (λ c. scan-more _ _ _ (c .before .before .before .loop .inv) _ (c .before .before .loop-test .taken) (c .before .rule-fits .ensures) (c .if1 .left))
     (λ c. scan-none _ _ _ (c .before .loop .inv) (c .loop-test .left)))

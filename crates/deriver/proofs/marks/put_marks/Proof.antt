@@ -23,10 +23,8 @@ put-marks-spec =
     Inv-loop
     μ-loop
     (λ c. unfold flat in (omega arith, refl))
-    (λ c κs. search needs)
-    (λ c. search needs)
+    (λ c κs. search needs) (λ c. search needs)
     (λ c. omega arith)
-    (λ c. search needs)
-    (λ c. search needs)
+    (λ c. search needs) (λ c. search needs)
     (λ c. (omega arith, marks-more _ _ _ _ _ _ (c .member .ensures) (c .before .before .loop .inv .1)))
     (λ c. marks-all _ _ _ _ _ _ (c .before .loop .inv .0) (c .loop-test .left) (c .before .loop .inv .1)))

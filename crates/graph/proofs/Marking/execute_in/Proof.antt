@@ -8,8 +8,7 @@ pub execute-in-spec : {M : Type 1} → statement M
 execute-in-spec =
     tie.close
     (tie.spec
-    (λ c κs. search needs)
-    (λ c κs. search needs)
+    (λ c κs. search needs) (λ c κs. search needs)
     (λ c. search step-unfit)
     (λ c κs. search needs)
     (λ c. search step-gone)

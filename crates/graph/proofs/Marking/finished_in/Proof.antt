@@ -8,8 +8,7 @@ pub finished-in-spec : {M : Type 1} → statement M
 finished-in-spec =
     tie.close
     (tie.spec
-    (λ c κs. search needs)
-    (λ c κs. search needs)
+    (λ c κs. search needs) (λ c κs. search needs)
     (λ c. search finish-unfit)
     (λ c κs. search needs)
     (λ c. search finish-told))

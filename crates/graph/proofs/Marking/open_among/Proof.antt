@@ -22,18 +22,12 @@ open-among-spec =
     Inv-loop
     μ-loop
     (λ c. (omega arith, unfold freeAmong collect in refl, λ h. refl))
-    (λ c. search needs)
-    (λ c. search needs)
-    (λ c. search needs)
-    (λ c. search needs)
-    (λ c κs. search needs)
-    (λ c κs. search needs)
-    (λ c κs. search needs)
-    (λ c. search needs)
-    (λ c. search needs)
+    (λ c. search needs) (λ c. search needs) (λ c. search needs) (λ c. search needs) (λ c κs. search needs) (λ c κs. search needs)
+    (λ c κs. search needs) (λ c. search needs) (λ c. search needs)
     (λ c. (
       omega arith,
-      free-more _ _ _ _ (c .before .before .is-free .result) (c .before .before .before .before .before .before .loop .inv .2 (omega arith)) (c .before .before .before .before .before .before .loop .inv .1) (c .before .before .is-free .ensures) (c .before .put-bit-if .ensures),
+      free-more _ _ _ _ (c .before .before .is-free .result) (c .before .before .before .before .before .before .loop .inv .2 (omega arith))
+          (c .before .before .before .before .before .before .loop .inv .1) (c .before .before .is-free .ensures) (c .before .put-bit-if .ensures),
       λ h. bit-more maxEvents _ _ _ h (c .before .before .before .before .before .before .loop .inv .2 (omega arith)) (c .next-bit .ensures),
     ))
     (λ c. search among-end))

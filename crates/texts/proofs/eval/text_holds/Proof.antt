@@ -28,7 +28,8 @@ last c = not-of (here (c .before .before)) (c .before .if1 .left) (c .match .res
 
 -- what a turn makes of the stack, by the arm that it took
 turn : (c : tie.Joined1 Inv-loop μ-loop)
-    → Became (push (snapOf (c .before .before .before .before .before .args .marks .now) (c .before .u16-at .result)) (c .before .u16-at .result) (stackOf (c .before .before .before .loop .values) (c .before .before .before .loop .depth)))
+    → Became (push (snapOf (c .before .before .before .before .before .args .marks .now) (c .before .u16-at .result)) (c .before .u16-at .result)
+    (stackOf (c .before .before .before .loop .values) (c .before .before .before .loop .depth)))
     (depthAfter (c .before .u16-at .result) (c .before .before .before .loop .depth)) (c .if1 .values) (c .if1 .depth)
 unfolding push depthAfter
 turn c =

@@ -11,11 +11,7 @@ condition-marks-spec =
     tie.close
     (tie.spec
     (λ c κs. span-inside _ _ (c .before .pre .0) _ (c .before .pre .1))
-    (λ c κs. search needs)
-    (λ c. search needs)
-    (λ c. search needs)
-    (λ c. search needs)
-    (λ c. search needs)
+    (λ c κs. search needs) (λ c. search needs) (λ c. search needs) (λ c. search needs) (λ c. search needs)
     (λ c κs. let k = c .before .before .before in
     span-asks _ _ (k .before .before .pre .0) _ (k .before .before .pre .1) _ _ (k .condition-in .ensures) (c .before .before .words-from .ensures) .0)
     (λ c. let k = c .before .before .before .before in

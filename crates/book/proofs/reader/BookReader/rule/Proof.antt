@@ -1,7 +1,14 @@
--- `book::reader::BookReader::rule` meets its contract: a walk of its MIR, by hand. The struct is taken apart, and `rule_at` is called on the slice and the number. All that the proof knows of `rule_at` is that it meets its contract.
+-- `book::reader::BookReader::rule` meets its contract: a walk of its MIR, by hand. The struct is taken apart, and `rule_at` is called on the slice and the
+-- number. All that the proof knows of `rule_at` is that it meets its contract.
 -- The struct is Copy: what it owns is had twice, one copy is kept whole for the exit, and of the other what image owns goes to the callee, beside the lifetime's token, which comes back.
 -- Assumes nothing.
-use Rattle.book.proofs.Walk.{_≡_, refl, ℕ, _<_, _≤_, _+_, _^_, [], _∷_, Holds, length, URA, named, w64, Val, WT, hasTy, vint, SProp, ent, sep, snd∗, exE, id⊢, Lft, Share, Fml, ftrue, flft, Memory, Routine, Heap, Calls, Loops, WpFn, Tables, Atoms, sem, Lfts, Fun, fact, givenOf, tables, tablesOf, Given, ‵, raw, _⊛_, given, ⋆, some, later, _$_, _∵_, !, qed, by, move, drop, use1, use2, split, learn, pick, fsplit, fjoin, suffices, frame, await, done, whole, sub, look-in, look, init, forget, stop, fld, from, load, of-opd, and-then, no-more, assigns, land, returns, enter, alloc1, alloc0, params1, pass1, pass0, free1, free0, FmC, fmOf, WpFn-mono, RattleType, owns, Is, shows, uint-vals, uint-tells, uint-makes, u8, usize, now, namedLft, sliceVal, ShrSlice, owned, peeks, heard, nothing, Declared, all-own, ownAt, rest, own-open, own-out, Values, Contract, Triple, calls-at, Vals, Args, onEntry, Meets, tripleOf, entered, cited, says, needs, Stays, stay-none, walkOf, goes-none, Walks, ends-at, walked, walk-meets, yes, ensured, lasts}
+use Rattle.book.proofs.Walk.{_≡_, refl, ℕ, _<_, _≤_, _+_, _^_, [], _∷_, Holds, length, URA, named, w64, Val, WT, hasTy, vint, SProp, ent, sep, snd∗, exE, id⊢, Lft, Share, Fml, ftrue}
+use Rattle.book.proofs.Walk.{flft, Memory, Routine, Heap, Calls, Loops, WpFn, Tables, Atoms, sem, Lfts, Fun, fact, givenOf, tables, tablesOf, Given, ‵, raw, _⊛_, given, ⋆, some}
+use Rattle.book.proofs.Walk.{later, _$_, _∵_, !, qed, by, move, drop, use1, use2, split, learn, pick, fsplit, fjoin, suffices, frame, await, done, whole, sub, look-in, look, init}
+use Rattle.book.proofs.Walk.{forget, stop, fld, from, load, of-opd, and-then, no-more, assigns, land, returns, enter, alloc1, alloc0, params1, pass1, pass0, free1, free0, FmC, fmOf}
+use Rattle.book.proofs.Walk.{WpFn-mono, RattleType, owns, Is, shows, uint-vals, uint-tells, uint-makes, u8, usize, now, namedLft, sliceVal, ShrSlice, owned, peeks, heard, nothing}
+use Rattle.book.proofs.Walk.{Declared, all-own, ownAt, rest, own-open, own-out, Values, Contract, Triple, calls-at, Vals, Args, onEntry, Meets, tripleOf, entered, cited, says, needs}
+use Rattle.book.proofs.Walk.{Stays, stay-none, walkOf, goes-none, Walks, ends-at, walked, walk-meets, yes, ensured, lasts}
 use denote.Struct.Laws as LL
 use Rattle.book.specs.Image.{rulePlace, ruleFrom}
 use Rattle.book.specs.declared.reader.BookReader.{BookReader}
@@ -30,7 +37,8 @@ stayed = (stay-none B yes, (stay-none (λ _. usize) yes, tt))
 abbrev RuleAt : {M : Type 1} (𝓤 : URA M) (H : Heap 𝓤) (A : Atoms 𝓤) (mem : Memory → SProp 𝓤) (run : Routine → Fun 𝓤) → Contract 𝓤
 RuleAt 𝓤 H A mem run = tripleOf 𝓤 H A rule-at.signature (rule-at.spec 𝓤 H A mem run)
 
-module _ {M : Type 1} (𝓤 : URA M) (H : Heap 𝓤) (A : Atoms 𝓤) (W : Given 𝓤 H A) (mem : Memory → SProp 𝓤) (run : Routine → Fun 𝓤) (κ : Lft) (q : Share) (d : BookReader) (i : ℕ) (i-fits : i < 2 ^ 64) (ok : rulePlace i + 10 ≤ length (now (d .image))) where
+module _ {M : Type 1} (𝓤 : URA M) (H : Heap 𝓤) (A : Atoms 𝓤) (W : Given 𝓤 H A) (mem : Memory → SProp 𝓤) (run : Routine → Fun 𝓤) (κ : Lft) (q : Share) (d : BookReader) (i : ℕ)
+    (i-fits : i < 2 ^ 64) (ok : rulePlace i + 10 ≤ length (now (d .image))) where
   abbrev mach : Val
   mach = T′.lowered d
 
@@ -81,7 +89,8 @@ module _ {M : Type 1} (𝓤 : URA M) (H : Heap 𝓤) (A : Atoms 𝓤) (W : Given
   apart =
       qed W ((‵ (flft κ q) ⊛ ‵ ftrue) ∷ ‵ (owns (B (κ, tt) ∷ usize ∷ []) a at) ∷ []) ∵
       move ! (1 ∷ []) $ fsplit ! $ move ! (1 ∷ []) $ drop ! $ use1 W (‵ Own ⊛ ‵ Own) (LL.copy D (T′.the-copy (namedLft 1 0 tt (κ, tt))) 𝓤 H A W .twice d (mach ∷ [])) $ split ! $
-      use1 W (given (mach ∷ [] ≡ mach ∷ []) (‵ (all-own (D .parts) L vd))) (own-open 𝓤 H A W D L vd mach) $ learn ! (λ _. use1 W (‵ (ownAt (D .parts) L 0 (d .image)) ⊛ ‵ (rest (D .parts) L 0 vd)) (own-out 𝓤 H A W (D .parts) L 0 vd) $ split ! $
+      use1 W (given (mach ∷ [] ≡ mach ∷ []) (‵ (all-own (D .parts) L vd))) (own-open 𝓤 H A W D L vd mach) $ learn !
+      (λ _. use1 W (‵ (ownAt (D .parts) L 0 (d .image)) ⊛ ‵ (rest (D .parts) L 0 vd)) (own-out 𝓤 H A W (D .parts) L 0 vd) $ split ! $
       -- [what image owns; what the counts own; what the struct owns; the token]
       move ! (1 ∷ []) $ drop ! $ nothing ! $ owned ! usize (Is usize) (uint-makes 𝓤 H A W w64) i _ (refl, i-fits) $ fjoin ! $ move ! (1 ∷ 0 ∷ []) $ fjoin ! $
       move ! (2 ∷ 0 ∷ []) $ use2 W (raw (RuleAt 𝓤 H A mem run .pre to)) asked $ frame ! $ done !)
@@ -105,7 +114,9 @@ module _ {M : Type 1} (𝓤 : URA M) (H : Heap 𝓤) (A : Atoms 𝓤) (W : Given
         move ! (8 ∷ []) $ use1 W (raw (RuleAt 𝓤 H A mem run .pre to) ⊛ ‵ Own) apart $ split ! $
         -- [what the callee asks; what the struct owns; _3; …; _2; …; _1; …; room for _0; …]
         calls-at ! fm (RuleAt 𝓤 H A mem run) known to (and-then ! (load ! (from ! (stop !)) (look ! 2 refl)) (and-then ! (load ! (from ! (stop !)) (look ! 4 refl)) (no-more !))) (λ u.
-        use1 W (later (some (λ (r : Rule). ((‵ (flft κ q) ⊛ ‵ ftrue) ⊛ ‵ (S.the-row .own r (u ∷ []))) ⊛ raw (ensured 𝓤 H A rule-at.ended (rule-at.clauses 𝓤 H A mem run) (κ, tt) args tt r)))) (id⊢ 𝓤 _) $ await ! tt $ pick ! (λ r.
+        use1 W (later
+        (some (λ (r : Rule). ((‵ (flft κ q) ⊛ ‵ ftrue) ⊛ ‵ (S.the-row .own r (u ∷ []))) ⊛ raw (ensured 𝓤 H A rule-at.ended (rule-at.clauses 𝓤 H A mem run) (κ, tt) args tt r))))
+        (id⊢ 𝓤 _) $ await ! tt $ pick ! (λ r.
         split ! $ move ! (1 ∷ []) $ use1 W (raw (fact 𝓤 (r ≡ found))) (said r) $ heard ! (r ≡ found) (λ e. split ! $ move ! (1 ∷ []) $
         -- [the result; the token; what the struct owns; _3; …; _2; …; _1; …; room for _0; …]
         peeks ! S.the-row (Is S.the-row) (shows 𝓤 H A S.the-row) r (u ∷ []) (λ is.
@@ -114,13 +125,20 @@ module _ {M : Type 1} (𝓤 : URA M) (H : Heap 𝓤) (A : Atoms 𝓤) (W : Given
         move ! (9 ∷ 10 ∷ []) $ free1 ! $ move ! (7 ∷ 8 ∷ []) $ free1 ! $ move ! (5 ∷ 6 ∷ []) $ free1 ! $ move ! (3 ∷ 4 ∷ []) $ free1 ! $ free0 ! $ by ! (exits r u e)))))))))
 
 module _ {M : Type 1} (𝓤 : URA M) (H : Heap 𝓤) (A : Atoms 𝓤) (W : Given 𝓤 H A) (mem : Memory → SProp 𝓤) (run : Routine → Fun 𝓤) where
-  rule-walks : (C : Calls 𝓤 H) (Λ : Loops 𝓤 H) → FmC 𝓤 H (W .laws) C → Triple 𝓤 (C #book·rule-at) (RuleAt 𝓤 H A mem run) → Walks 𝓤 H A rule.ended stayed (WpFn 𝓤 H C Λ code.function) (rule.clauses 𝓤 H A mem run)
-  rule-walks C Λ fm known = walked 𝓤 H A rule.ended stayed (rule.clauses 𝓤 H A mem run) (WpFn 𝓤 H C Λ code.function) (λ κs. (LL.vals (T.the-type (namedLft 1 0 tt κs)) (T′.the-laws (namedLft 1 0 tt κs)), (uint-vals w64, tt))) (λ κs. (LL.tells (T.the-type (namedLft 1 0 tt κs)) (T′.the-laws (namedLft 1 0 tt κs)), (uint-tells w64, tt)))
-      (λ κs qs bounds a g are. needs 𝓤 _ _ (λ ok. walk 𝓤 H A W mem run (κs .0) (qs .0) (a .0) (a .1 .0) (are .1 .0 .1) ok C Λ fm known (LL.lawful (T.the-type (namedLft 1 0 tt κs)) (T′.the-laws (namedLft 1 0 tt κs)) 𝓤 H A W .typed (a .0) _ (are .0) .0)))
+  rule-walks : (C : Calls 𝓤 H) (Λ : Loops 𝓤 H) → FmC 𝓤 H (W .laws) C → Triple 𝓤 (C #book·rule-at) (RuleAt 𝓤 H A mem run)
+      → Walks 𝓤 H A rule.ended stayed (WpFn 𝓤 H C Λ code.function) (rule.clauses 𝓤 H A mem run)
+  rule-walks C Λ fm known = walked 𝓤 H A rule.ended stayed (rule.clauses 𝓤 H A mem run) (WpFn 𝓤 H C Λ code.function)
+      (λ κs. (LL.vals (T.the-type (namedLft 1 0 tt κs)) (T′.the-laws (namedLft 1 0 tt κs)), (uint-vals w64, tt)))
+      (λ κs. (LL.tells (T.the-type (namedLft 1 0 tt κs)) (T′.the-laws (namedLft 1 0 tt κs)), (uint-tells w64, tt)))
+      (λ κs qs bounds a g are. needs 𝓤 _ _
+      (λ ok. walk 𝓤 H A W mem run (κs .0) (qs .0) (a .0) (a .1 .0) (are .1 .0 .1) ok C Λ fm known
+      (LL.lawful (T.the-type (namedLft 1 0 tt κs)) (T′.the-laws (namedLft 1 0 tt κs)) 𝓤 H A W .typed (a .0) _ (are .0) .0)))
 
-rule-meets : {M : Type 1} (𝓤 : URA M) (H : Heap 𝓤) (A : Atoms 𝓤) (W : Given 𝓤 H A) (mem : Memory → SProp 𝓤) (run : Routine → Fun 𝓤) (𝓣 : Tables 𝓤 H) → Triple 𝓤 (𝓣 .C #book·rule-at) (RuleAt 𝓤 H A mem run)
+rule-meets : {M : Type 1} (𝓤 : URA M) (H : Heap 𝓤) (A : Atoms 𝓤) (W : Given 𝓤 H A) (mem : Memory → SProp 𝓤) (run : Routine → Fun 𝓤) (𝓣 : Tables 𝓤 H)
+    → Triple 𝓤 (𝓣 .C #book·rule-at) (RuleAt 𝓤 H A mem run)
     → Meets 𝓤 H A rule.signature (WpFn 𝓤 H (𝓣 .C) (𝓣 .Λ) code.function) (rule.spec 𝓤 H A mem run)
-rule-meets 𝓤 H A W mem run 𝓣 known = walk-meets 𝓤 H A rule.ended stayed W (goes-none 𝓤 H A W 1 B yes (λ κs x f. refl), (goes-none 𝓤 H A W 1 (λ _. usize) yes (λ κs x f. refl), tt)) (rule.clauses 𝓤 H A mem run) (WpFn 𝓤 H (𝓣 .C) (𝓣 .Λ) code.function) (WpFn-mono 𝓤 H (W .laws) 𝓣 code.function)
+rule-meets 𝓤 H A W mem run 𝓣 known = walk-meets 𝓤 H A rule.ended stayed W (goes-none 𝓤 H A W 1 B yes (λ κs x f. refl), (goes-none 𝓤 H A W 1 (λ _. usize) yes (λ κs x f. refl), tt))
+    (rule.clauses 𝓤 H A mem run) (WpFn 𝓤 H (𝓣 .C) (𝓣 .Λ) code.function) (WpFn-mono 𝓤 H (W .laws) 𝓣 code.function)
     (rule-walks 𝓤 H A W mem run (𝓣 .C) (𝓣 .Λ) (fmOf 𝓤 H (W .laws) 𝓣) known)
 
 pub rule-spec : {M : Type 1} → stated.statement M
