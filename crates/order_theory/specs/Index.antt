@@ -6,7 +6,7 @@ use mathlib.Core.List.{List, [], _∷_}
 use Prim.Native.Nat.{ℕ, zero, suc, _≤_, _<_}
 use native.Mathlib.Omega.{arith}
 use lib.ListN.{length, getD}
-use Rattle.order_theory.specs.Order.{Net, Mem, Distinct, before, Respects, Fit}
+use Rattle.order_theory.specs.Order.{Net, Counted, countedRules, Mem, Distinct, before, Respects, Fit}
 use Rattle.order_theory.specs.Written.{each-listed, listed-length}
 
 pub mem-at : (l : List ℕ) (i : ℕ) → i < length l → Mem (getD l i 0) l
@@ -48,26 +48,26 @@ module _ (N : Net) where
 
   -- what code checks of a lent order
   pub record FitAt (l : List ℕ) : Type 0 where
-    pub size : length l ≡ N .count
-    pub below : (i : ℕ) → i < length l → getD l i 0 < N .count
+    pub size : length l ≡ countedRules N
+    pub below : (i : ℕ) → i < length l → Counted N (getD l i 0)
     pub distinct : DistinctAt l
     pub respects : RespectsAt l
 
   pub fit-at : (l : List ℕ) → Fit N l ↔ FitAt l
   fit-at l = (
     λ x. record {
-      size = listed-length (N .count) l (x .distinct) (x .below) (x .whole);
+      size = listed-length (N .count) (N .counts) l (x .distinct) (x .below) (x .whole);
       below = λ i h. x .below (getD l i 0) (mem-at l i h);
       distinct = distinct-at l (x .distinct);
       respects = respects-at l (x .respects);
     },
     λ x. record {
       below = low x;
-      whole = each-listed (N .count) l (x .size) (at-distinct l (x .distinct)) (low x);
+      whole = each-listed (N .count) (N .counts) l (x .size) (at-distinct l (x .distinct)) (low x);
       distinct = at-distinct l (x .distinct);
       respects = at-respects l (x .respects);
     },
   )
     where
-      low : FitAt l → (q : ℕ) → Mem q l → q < N .count
+      low : FitAt l → (q : ℕ) → Mem q l → Counted N q
       low x q m = let (j, h, e) = at-mem l q m in rw (← e) (x .below j h)

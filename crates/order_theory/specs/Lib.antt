@@ -8,3 +8,6 @@ pub mod Snapshots
 pub mod Index
 pub mod Pass
 pub mod Marks
+pub mod Fewer
+pub mod Skipped
+pub mod Pair

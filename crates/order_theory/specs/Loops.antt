@@ -13,23 +13,25 @@ use Rattle.general.specs.Below.{some, some-of, some-at, first, first-is, first-
 use Rattle.closure.specs.Closure.{Way, hop, via, within, sound, complete, within-same, within-turned}
 use Rattle.closure.specs.BitRows.{bit, closed}
 use Rattle.closure.specs.Reached.{closed-bit}
-use Rattle.order_theory.specs.Order.{Net, before, Chain, link, more, OnLoop, NoLoop}
+use Rattle.order_theory.specs.Order.{Net, Counted, before, Chain, link, more, OnLoop, NoLoop}
 
 module _ (N : Net) where
-  -- some rule refers to a and targets b
+  -- some counted rule refers to a and targets b
   unfoldable pub leads : ℕ → ℕ → Bool
-  leads a b = some (N .count) (λ r. N .refers r a && eqb (N .target r) b)
+  leads a b = some (N .count) (λ r. N .counts r && (N .refers r a && eqb (N .target r) b))
 
-  pub leads-of : (r a : ℕ) → r < N .count → N .refers r a ≡ true → leads a (N .target r) ≡ true
+  pub leads-of : (r a : ℕ) → Counted N r → N .refers r a ≡ true → leads a (N .target r) ≡ true
   unfolding leads
-  leads-of r a h e = some-of (N .count) (λ r′. N .refers r′ a && eqb (N .target r′) (N .target r)) r h (rw (e, eq-eqb (N .target r) (N .target r) refl))
+  leads-of r a h e =
+      some-of (N .count) (λ r′. N .counts r′ && (N .refers r′ a && eqb (N .target r′) (N .target r))) r (h .0) (rw (h .1, e, eq-eqb (N .target r) (N .target r) refl))
 
-  pub of-leads : (a b : ℕ) → leads a b ≡ true → (r : ℕ) × (r < N .count) × (N .refers r a ≡ true) × (N .target r ≡ b)
+  pub of-leads : (a b : ℕ) → leads a b ≡ true → (r : ℕ) × Counted N r × (N .refers r a ≡ true) × (N .target r ≡ b)
   unfolding leads
   of-leads a b e =
-      let (r, h, x) = some-at (N .count) (λ r. N .refers r a && eqb (N .target r) b) e in
-      let (y, z) = both (N .refers r a) (eqb (N .target r) b) x in
-      (r, h, y, eqb-true (N .target r) b z)
+      let (r, h, x) = some-at (N .count) (λ r. N .counts r && (N .refers r a && eqb (N .target r) b)) e in
+      let (c, w) = both (N .counts r) (N .refers r a && eqb (N .target r) b) x in
+      let (y, z) = both (N .refers r a) (eqb (N .target r) b) w in
+      (r, (h, c), y, eqb-true (N .target r) b z)
 
   -- a chain of rules is a way over their targets
   way-of : {p q : ℕ} → Chain N p q → Way leads (N .target p) (N .target q)
@@ -38,7 +40,7 @@ module _ (N : Net) where
 
   -- a way over marks is a chain of rules: the first refers to where it starts, and the last targets where it ends
   abbrev Rules : ℕ → ℕ → Type 0
-  Rules a b = (p : ℕ) × (q : ℕ) × (p < N .count) × (q < N .count) × (N .refers p a ≡ true) × (N .target q ≡ b) × ((p ≡ q) ⊎ Chain N p q)
+  Rules a b = (p : ℕ) × (q : ℕ) × Counted N p × Counted N q × (N .refers p a ≡ true) × (N .target q ≡ b) × ((p ≡ q) ⊎ Chain N p q)
 
   chain-of : {a b : ℕ} → Way leads a b → Rules a b
   chain-of (hop {a} {b} e) = let t = of-leads a b e in (t .0, t .0, t .1, t .1, t .2, t .3, inl refl)
@@ -61,7 +63,7 @@ module _ (N : Net) where
   abbrev pub loopMark : ℕ → ℕ
   loopMark marks = first marks (λ m. within leads marks m m)
 
-  module _ (marks : ℕ) (small : (r : ℕ) → r < N .count → N .target r < marks) where
+  module _ (marks : ℕ) (small : (r : ℕ) → Counted N r → N .target r < marks) where
     pub loop-found : (m : ℕ) → OnLoop N m ↔ (within leads marks m m ≡ true)
     loop-found m = (
       λ o. complete leads marks (λ a b e. let t = of-leads a b e in rw (t .3) at (small (t .0) (t .1))) (loop-way m .0 o),

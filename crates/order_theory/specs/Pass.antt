@@ -1,5 +1,5 @@
--- The fit test in one pass: an order is fit exactly if it has as many entries as there are rules and each entry is a rule that is ready
--- where the entries before it are written. Assumes nothing.
+-- The fit test in one pass: an order is fit exactly if it has as many entries as there are counted rules and each entry is a rule that is
+-- ready where the entries before it are written. Assumes nothing.
 use mathlib.Core.Path.{_≡_, refl}
 use mathlib.Core.Logic.{_⊎_, inl, inr, ⊎-elim, _↔_}
 use mathlib.Core.Bool.{Bool, true, false, _&&_}
@@ -11,12 +11,13 @@ use lib.ListN.{length, getD, drop, drop-of-length-le}
 use lib.Seq.{drop-cons}
 use borrow.Author.Tests.{eqb-true, eq-eqb, ne-eqb, ltb-true, lt-ltb}
 use Rattle.general.specs.Cases.{contra, cases, both, neither}
-use Rattle.order_theory.specs.Order.{Net, Mem, Distinct, Respects, Fit}
+use Rattle.order_theory.specs.Order.{Net, Counted, countedRules, Mem, Distinct, Respects, Fit}
 use Rattle.order_theory.specs.Written.{Written, none, write, each-listed, listed-length}
 use Rattle.order_theory.specs.Running.{ready, ready-is, is-ready}
 
 module _ (N : Net) where
-  -- r may stand next where d is written: it is a rule, it is unwritten, and nothing unwritten, itself included, comes before it
+  -- r may stand next where d is written: it is a rule, it counts, it is unwritten, and nothing counted and unwritten, itself included, comes
+  -- before it
   unfoldable pub fine : Written → ℕ → Bool
   fine d r = ltb r (N .count) && ready N d r
 
@@ -25,11 +26,11 @@ module _ (N : Net) where
   passes d (r ∷ l) = fine d r && passes (write d r) l
 
   unfoldable pub fitPass : List ℕ → Bool
-  fitPass l = eqb (length l) (N .count) && passes none l
+  fitPass l = eqb (length l) (countedRules N) && passes none l
 
-  fine-is : (d : Written) (r : ℕ) → fine d r ≡ true → (r < N .count) × (ready N d r ≡ true)
+  fine-is : (d : Written) (r : ℕ) → fine d r ≡ true → Counted N r × (ready N d r ≡ true)
   unfolding fine
-  fine-is d r e = let (x, y) = both (ltb r (N .count)) (ready N d r) e in (ltb-true r (N .count) x, y)
+  fine-is d r e = let (x, y) = both (ltb r (N .count)) (ready N d r) e in ((ltb-true r (N .count) x, ready-is N d r y .2), y)
 
   -- ---- the turns of a loop along the order
 
@@ -47,7 +48,7 @@ module _ (N : Net) where
 
   -- ---- it is the fit test
 
-  pass-fresh : (l : List ℕ) (d : Written) → passes d l ≡ true → (q : ℕ) → Mem q l → (q < N .count) × (d q ≡ false)
+  pass-fresh : (l : List ℕ) (d : Written) → passes d l ≡ true → (q : ℕ) → Mem q l → Counted N q × (d q ≡ false)
   unfolding passes
   pass-fresh [] d e q i = absurd i
   pass-fresh (r ∷ l) d e q i =
@@ -72,15 +73,15 @@ module _ (N : Net) where
         pass-respects l (write d r) y,
       )
 
-  pass-of : (l : List ℕ) (d : Written) → ((q : ℕ) → q < N .count → Mem q l ⊎ (d q ≡ true)) → ((q : ℕ) → Mem q l → (q < N .count) × (d q ≡ false))
+  pass-of : (l : List ℕ) (d : Written) → ((q : ℕ) → Counted N q → Mem q l ⊎ (d q ≡ true)) → ((q : ℕ) → Mem q l → Counted N q × (d q ≡ false))
       → Distinct l → Respects N l → passes d l ≡ true
   unfolding passes fine
   pass-of [] d w h x s = refl
   pass-of (r ∷ l) d w h x s =
       let (c, z) = h r (inl refl) in
       rw (
-        lt-ltb r (N .count) c,
-        is-ready N d r z (λ p i u. ⊎-elim (λ m. s .0 p m) (λ t. contra t u) (w p i)),
+        lt-ltb r (N .count) (c .0),
+        is-ready N d r (c .1) z (λ p i u. ⊎-elim (λ m. s .0 p m) (λ t. contra t u) (w p i)),
         pass-of l (write d r)
             (λ q i. ⊎-elim (⊎-elim (λ e. inr (rw (eq-eqb q r e))) inl) (λ e. inr (cases (eqb q r) (λ y. rw y) (λ y. rw y e))) (w q i))
             (λ q i. (h q (inr i) .0, rw (ne-eqb q r (λ e. x .0 (rw e at i))) (h q (inr i) .1))) (x .1) (s .1),
@@ -90,16 +91,16 @@ module _ (N : Net) where
   unfolding fitPass
   fit-pass l = (
     λ f. rw (
-      eq-eqb (length l) (N .count) (listed-length (N .count) l (f .distinct) (f .below) (f .whole)),
+      eq-eqb (length l) (countedRules N) (listed-length (N .count) (N .counts) l (f .distinct) (f .below) (f .whole)),
       pass-of l none (λ q i. inl (f .whole q i)) (λ q i. (f .below q i, refl)) (f .distinct) (f .respects),
     ),
     λ e.
-        let (x, y) = both (eqb (length l) (N .count)) (passes none l) e in
-        let below : (q : ℕ) → Mem q l → q < N .count = λ q i. pass-fresh l none y q i .0 in
+        let (x, y) = both (eqb (length l) (countedRules N)) (passes none l) e in
+        let below : (q : ℕ) → Mem q l → Counted N q = λ q i. pass-fresh l none y q i .0 in
         let distinct = pass-distinct l none y in
         record {
           below = below;
-          whole = each-listed (N .count) l (eqb-true (length l) (N .count) x) distinct below;
+          whole = each-listed (N .count) (N .counts) l (eqb-true (length l) (countedRules N) x) distinct below;
           distinct = distinct;
           respects = pass-respects l none y;
         },

@@ -1,16 +1,16 @@
--- Any two fit orders end alike, and no mark changes twice. Assumes nothing.
+-- Any two fit orders of the counted rules end alike, and no mark changes twice. Assumes nothing.
 use mathlib.Core.Path.{_≡_, refl, sym, ap, subst, _∙_}
 use mathlib.Core.Logic.{_⊎_, inl, inr, ⊎-elim}
 use mathlib.Core.Bool.{Bool, true, false, cond, _&&_}
 use mathlib.Core.List.{List, [], _∷_}
-use Prim.Native.Nat.{ℕ, _+_, _≤_, _<_}
+use Prim.Native.Nat.{ℕ, _+_, _≤_}
 use native.Mathlib.Omega.{arith}
 use lib.Dec.{eqb}
 use borrow.Author.Tests.{eqb-true, eq-eqb}
 pub use Rattle.paper.specs.Snapshots.{Snap}
-use Rattle.general.specs.Cases.{contra, cases, both}
+use Rattle.general.specs.Cases.{contra, cases, all3}
 use Rattle.general.specs.Below.{find}
-use Rattle.order_theory.specs.Order.{Net, Mem, Fit, Respects, before}
+use Rattle.order_theory.specs.Order.{Net, Counted, Mem, Fit, Respects, before}
 
 -- what the rules do, where the start and the completed stage are given: a rule's firing hangs on the marks that it refers to
 pub record Acts (N : Net) : Type 0 where
@@ -59,14 +59,14 @@ module _ (N : Net) (A : Acts N) where
   changes s [] m = 0
   changes s (r ∷ l) m = flips (s m) (step s r m) + changes (step s r) l m
 
-  -- no two rules fire together with opposite effects on one mark
+  -- no two counted rules fire together with opposite effects on one mark
   abbrev pub Calm : Type 0
-  Calm = (F : Snap) (p q : ℕ) → p < N .count → q < N .count → N .target p ≡ N .target q → A .fires F p ≡ true → A .fires F q ≡ true → A .effect p ≡ A .effect q
+  Calm = (F : Snap) (p q : ℕ) → Counted N p → Counted N q → N .target p ≡ N .target q → A .fires F p ≡ true → A .fires F q ≡ true → A .effect p ≡ A .effect q
 
-  -- F is what the rules make of s, whatever the order: the rules that fire in F itself have written F, and nothing else has
+  -- F is what the counted rules make of s, whatever the order: those that fire in F itself have written F, and nothing else has
   pub record Settled (s F : Snap) : Type 0 where
-    pub wrote : (r : ℕ) → r < N .count → A .fires F r ≡ true → F (N .target r) ≡ A .effect r
-    pub stayed : (m : ℕ) → ((r : ℕ) → r < N .count → N .target r ≡ m → A .fires F r ≡ false) → F m ≡ s m
+    pub wrote : (r : ℕ) → Counted N r → A .fires F r ≡ true → F (N .target r) ≡ A .effect r
+    pub stayed : (m : ℕ) → ((r : ℕ) → Counted N r → N .target r ≡ m → A .fires F r ≡ false) → F m ≡ s m
 
   stepped : {C : Type 0} (s : Snap) (r m : ℕ) → (step s r m ≡ s m → C) → (N .target r ≡ m → A .fires s r ≡ true → step s r m ≡ A .effect r → C) → C
   unfolding step
@@ -112,18 +112,19 @@ module _ (N : Net) (A : Acts N) where
 
   module _ (s F G : Snap) (a : Settled s F) (b : Settled s G) where
     -- where the rules that target m fire alike in both, F and G agree at m
-    same-at : (m : ℕ) → ((q : ℕ) → q < N .count → N .target q ≡ m → A .fires F q ≡ A .fires G q) → F m ≡ G m
+    same-at : (m : ℕ) → ((q : ℕ) → Counted N q → N .target q ≡ m → A .fires F q ≡ A .fires G q) → F m ≡ G m
     same-at m h =
-        find (N .count) (λ q. eqb (N .target q) m && A .fires F q)
-        (λ q c e.
-        let t = both (eqb (N .target q) m) (A .fires F q) e in
-        let u : N .target q ≡ m = eqb-true (N .target q) m (t .0) in
-        rw (← u) (a .wrote q c (t .1) ∙ sym (b .wrote q c (sym (h q c u) ∙ t .1))))
+        find (N .count) (λ q. N .counts q && eqb (N .target q) m && A .fires F q)
+        (λ q i e.
+        let (x, y, f) = all3 (N .counts q) (eqb (N .target q) m) (A .fires F q) e in
+        let c : Counted N q = (i, x) in
+        let u : N .target q ≡ m = eqb-true (N .target q) m y in
+        rw (← u) (a .wrote q c f ∙ sym (b .wrote q c (sym (h q c u) ∙ f))))
         (λ z.
-        let w : (q : ℕ) → q < N .count → N .target q ≡ m → A .fires F q ≡ false = λ q c u. rw (eq-eqb (N .target q) m u) at (z q c) in
+        let w : (q : ℕ) → Counted N q → N .target q ≡ m → A .fires F q ≡ false = λ q c u. rw (c .1, eq-eqb (N .target q) m u) at (z q (c .0)) in
         a .stayed m w ∙ sym (b .stayed m (λ q c u. sym (h q c u) ∙ w q c u)))
 
-    fire-alike : (l : List ℕ) → Respects N l → ((q : ℕ) → q < N .count → Mem q l ⊎ (A .fires F q ≡ A .fires G q)) → (q : ℕ) → q < N .count → A .fires F q ≡ A .fires G q
+    fire-alike : (l : List ℕ) → Respects N l → ((q : ℕ) → Counted N q → Mem q l ⊎ (A .fires F q ≡ A .fires G q)) → (q : ℕ) → Counted N q → A .fires F q ≡ A .fires G q
     fire-alike [] h w q c = ⊎-elim absurd (λ e. e) (w q c)
     fire-alike (r ∷ l) h w q c = fire-alike l (h .1) (λ p d. ⊎-elim (⊎-elim (λ e. inr (rw e new)) inl) inr (w p d)) q c
       where

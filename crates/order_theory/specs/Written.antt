@@ -1,7 +1,7 @@
--- Which numbers are written while an order is, how many are left, and lists that hold each number below n once. Assumes nothing.
+-- Which numbers are written while an order is, how many are left, and lists that hold each number below n that passes a test once. Assumes nothing.
 use mathlib.Core.Path.{_≡_, refl}
 use mathlib.Core.Logic.{_⊎_, inl, inr, ⊎-elim}
-use mathlib.Core.Bool.{Bool, true, false, not, _&&_, _||_}
+use mathlib.Core.Bool.{Bool, true, false, not, _&&_, _||_, and-true}
 use mathlib.Core.List.{List, [], _∷_}
 use Prim.Native.Nat.{ℕ, suc, _+_, _<_}
 use native.Mathlib.Omega.{arith}
@@ -9,7 +9,7 @@ use lib.Dec.{eqb}
 use lib.ListN.{length}
 use borrow.Author.Tests.{eqb-true, eq-eqb, ne-eqb, not-false}
 use Rattle.general.specs.Cases.{contra, cases, either}
-use Rattle.general.specs.Below.{tally, tally-same, tally-all, tally-less, tally-none, none-tally}
+use Rattle.general.specs.Below.{tally, tally-same, tally-less, tally-none, none-tally}
 use Rattle.order_theory.specs.Order.{Mem, Distinct}
 
 abbrev pub Written : Type 0
@@ -31,9 +31,6 @@ writeAll d (r ∷ l) = writeAll (write d r) l
 abbrev pub left : (ℕ → Bool) → Written → ℕ → ℕ
 left g d n = tally n (λ q. g q && not (d q))
 
-abbrev pub unwritten : Written → ℕ → ℕ
-unwritten d n = left (λ q. true) d n
-
 -- once r is written, there is one less, or none less where r does not pass
 module _ (g : ℕ → Bool) (d : Written) (n r : ℕ) where
   pub left-less : r < n → g r ≡ true → d r ≡ false → left g d n ≡ suc (left g (write d r) n)
@@ -46,8 +43,9 @@ module _ (g : ℕ → Bool) (d : Written) (n r : ℕ) where
       tally-same n (λ q. g q && not (write d r q)) (λ q. g q && not (d q))
       (λ q l. cases (eqb q r) (λ x. rw (eqb-true q r x, e)) (λ x. rw x))
 
-pub unwritten-first : (n : ℕ) → unwritten none n ≡ n
-unwritten-first n = tally-all n (λ q. true) (λ q h. refl)
+-- at first, all that pass are unwritten
+pub left-first : (g : ℕ → Bool) (n : ℕ) → left g none n ≡ tally n g
+left-first g n = tally-same n (λ q. g q && true) g (λ q h. and-true (g q))
 
 -- ---- lists as written sets
 
@@ -74,29 +72,31 @@ written-listed l q e = ⊎-elim (λ i. i) (λ z. contra z refl) (listed-or l non
 pub listed-written : (l : List ℕ) (q : ℕ) → Mem q l → writeAll none l q ≡ true
 listed-written l q i = listed l none q i
 
-unwritten-all : (n : ℕ) (l : List ℕ) (d : Written) → Distinct l → ((q : ℕ) → Mem q l → (q < n) × (d q ≡ false)) → unwritten (writeAll d l) n + length l ≡ unwritten d n
-unfolding writeAll
-unwritten-all n [] d x h = omega arith
-unwritten-all n (r ∷ l) d x h =
-    omega (
-      arith,
-      unwritten-all n l (write d r) (x .1) (λ q i. (h q (inr i) .0, rw (ne-eqb q r (λ e. x .0 (rw e at i))) (h q (inr i) .1))),
-      left-less (λ q. true) d n r (h r (inl refl) .0) refl (h r (inl refl) .1),
-    )
+module _ (n : ℕ) (g : ℕ → Bool) where
+  left-all : (l : List ℕ) (d : Written) → Distinct l → ((q : ℕ) → Mem q l → ((q < n) × (g q ≡ true)) × (d q ≡ false)) → left g (writeAll d l) n + length l ≡ left g d n
+  unfolding writeAll
+  left-all [] d x h = omega arith
+  left-all (r ∷ l) d x h =
+      let (c, u) = h r (inl refl) in
+      omega (
+        arith,
+        left-all l (write d r) (x .1) (λ q i. (h q (inr i) .0, rw (ne-eqb q r (λ e. x .0 (rw e at i))) (h q (inr i) .1))),
+        left-less g d n r (c .0) (c .1) u,
+      )
 
--- n different numbers below n are all of them
-pub each-listed : (n : ℕ) (l : List ℕ) → length l ≡ n → Distinct l → ((q : ℕ) → Mem q l → q < n) → (q : ℕ) → q < n → Mem q l
-each-listed n l e x h q c =
-    written-listed l q
-    (not-false (writeAll none l q)
-    (none-tally n (λ p. not (writeAll none l p)) (omega (arith, unwritten-all n l none x (λ p i. (h p i, refl)), unwritten-first n)) q c))
+  -- as many different numbers below n that pass as there are, are all of them
+  pub each-listed : (l : List ℕ) → length l ≡ tally n g → Distinct l → ((q : ℕ) → Mem q l → (q < n) × (g q ≡ true)) → (q : ℕ) → (q < n) × (g q ≡ true) → Mem q l
+  each-listed l e x h q c =
+      written-listed l q
+      (not-false (writeAll none l q)
+      (rw (c .1) at (none-tally n (λ p. g p && not (writeAll none l p)) (omega (arith, left-all l none x (λ p i. (h p i, refl)), left-first g n)) q (c .0))))
 
--- and a list that holds each number below n once, and no other, has n entries
-pub listed-length : (n : ℕ) (l : List ℕ) → Distinct l → ((q : ℕ) → Mem q l → q < n) → ((q : ℕ) → q < n → Mem q l) → length l ≡ n
-listed-length n l x h w =
-    omega (
-      arith,
-      unwritten-all n l none x (λ p i. (h p i, refl)),
-      unwritten-first n,
-      tally-none n (λ p. not (writeAll none l p)) (λ q c. rw (listed-written l q (w q c))),
-    )
+  -- and a list that holds each number below n that passes once, and no other, has as many entries as there are
+  pub listed-length : (l : List ℕ) → Distinct l → ((q : ℕ) → Mem q l → (q < n) × (g q ≡ true)) → ((q : ℕ) → (q < n) × (g q ≡ true) → Mem q l) → length l ≡ tally n g
+  listed-length l x h w =
+      omega (
+        arith,
+        left-all l none x (λ p i. (h p i, refl)),
+        left-first g n,
+        tally-none n (λ p. g p && not (writeAll none l p)) (λ q c. cases (g q) (λ e. rw (e, listed-written l q (w q (c, e)))) (λ e. rw e)),
+      )
