@@ -174,11 +174,11 @@ calm-pair b start stage s p q c t f g =
     same false true z = sym z
     same false false z = refl
 
-pub calm : (b : Book) (start : Snap) (stage : ℕ) → NoClash b → Calm (netOf b) (actsOf b start stage)
+pub calm : (b : Book) (start : Snap) (stage : ℕ) → NoClash b → Calm (netOf b stage) (actsOf b start stage)
 unfolding netOf actsOf
 calm b start stage nc F p q i j t f g = go (decLt p q) (decLt q p)
   where
     go : Dec (p < q) → Dec (q < p) → ruleOf b p .effect ≡ ruleOf b q .effect
-    go (yes h) d = calm-pair b start stage F p q (nc p q h j) t f g
-    go (no n) (yes h) = sym (calm-pair b start stage F q p (nc q p h i) (sym t) g f)
+    go (yes h) d = calm-pair b start stage F p q (nc p q h (j .0)) t f g
+    go (no n) (yes h) = sym (calm-pair b start stage F q p (nc q p h (i .0)) (sym t) g f)
     go (no n) (no m) = let e : p ≡ q = omega arith in ap (λ r. ruleOf b r .effect) e

@@ -1,30 +1,38 @@
--- How many unwritten rules target each mark, and the set of the marks that are not yet isSettled, as the code keeps them. Assumes nothing.
-use mathlib.Core.Path.{_≡_, refl, sym, ap, _∙_}
+-- How many counted and unwritten rules target each mark, and the set of the marks that are not yet settled, as the code keeps them. Assumes nothing.
+use mathlib.Core.Path.{_≡_, refl, sym, ap, _∙_, fun-ext}
 use mathlib.Core.Logic.{_≢_}
 use mathlib.Core.Bool.{Bool, true, false, not, cond, _&&_, _||_, and-true, and-false, or-true, or-false}
 use mathlib.Core.List.{List}
 use Prim.Native.Nat.{ℕ, suc, _+_, _-_, _/_, _%_, _≤_, _<_}
 use native.Mathlib.Omega.{arith}
-use lib.Dec.{eqb}
-use lib.ListN.{length, getD, set, length-set, replicate, getD-replicate}
+use lib.Dec.{eqb, ltb}
+use lib.ListN.{length, getD, set, length-set, replicate, length-replicate, getD-replicate}
 use lib.Seq.{getD-set-same, getD-set-other}
-use borrow.Author.Tests.{eqb-true, eqb-false, eq-eqb, ne-eqb, lt-ltb}
+use borrow.Author.Tests.{eqb-true, eqb-false, eq-eqb, ne-eqb, lt-ltb, le-ltb, ltb-true, ltb-false}
 use Rattle.paper.specs.Limits.{maxMarks, maxRules}
 use Rattle.general.specs.Cases.{cases}
 use Rattle.general.specs.Below.{tally, tally-step, tally-le}
 use Rattle.sets.specs.Set.{has, union, minus, only}
 use Rattle.sets.specs.Laws.{has-minus, has-only, has-empty}
 use Rattle.book.specs.Marks.{wordBits, markWords, hasMark, withMark, has-with}
-use Rattle.order_theory.specs.Order.{Net}
-use Rattle.order_theory.specs.Written.{Written, none, write}
+use Rattle.order_theory.specs.Order.{Net, Counted}
+use Rattle.order_theory.specs.Written.{Written, write}
 use Rattle.order_theory.specs.Marks.{waiting, isSettled, waiting-first, waiting-less, waiting-other}
+use Rattle.order_theory.specs.Skipped.{skipped, skipped-waiting}
+use Rattle.rule_order.specs.Ready.{flagged, flagged-none}
 
--- counts has for each mark how many unwritten rules target it, and waits the marks of which there is one
+-- counts has for each mark how many counted and unwritten rules target it, and waits the marks of which there is one
 pub record Counters (N : Net) (d : Written) (counts waits : List ℕ) : Type 0 where
   pub size : length counts ≡ maxMarks
   pub wide : length waits ≡ markWords
   pub each : (m : ℕ) → m < maxMarks → getD counts m 0 ≡ waiting N d m
   pub rest : (m : ℕ) → m < maxMarks → hasMark waits m ≡ not (isSettled N d m)
+
+-- the start: no counted rule is written, and the flags say those that do not count
+pub record Begun (N : Net) (counts waits : List ℕ) (written : List Bool) : Type 0 where
+  pub size : length written ≡ maxRules
+  pub flags : flagged written ≡ skipped N
+  pub counters : Counters N (flagged written) counts waits
 
 -- ---- sets of marks
 
@@ -58,71 +66,128 @@ has-unmarked row t m l h k =
         cases (eqb m t) (λ e. let q : m ≡ t = eqb-true m t e in rw e (eq-eqb (t % wordBits) (m % wordBits) (rw q)))
         (λ e. rw e (ne-eqb (t % wordBits) (m % wordBits) (λ q. eqb-false m t e (omega arith))))
 
--- ---- the first k rules counted
+-- ---- the first k rules asked
 
 module _ (N : Net) where
-  -- how many of the first k rules target m
+  -- how many of the first k rules count and target m
   abbrev pub targeting : ℕ → ℕ → ℕ
-  targeting k m = tally k (λ p. eqb (N .target p) m)
+  targeting k m = tally k (λ p. N .counts p && eqb (N .target p) m)
 
-  pub record Counting (k : ℕ) (counts waits : List ℕ) : Type 0 where
+  pub record Counting (k : ℕ) (counts waits : List ℕ) (written : List Bool) : Type 0 where
     pub within : k ≤ N .count
     pub size : length counts ≡ maxMarks
     pub wide : length waits ≡ markWords
+    pub flags : length written ≡ maxRules
     pub each : (m : ℕ) → m < maxMarks → getD counts m 0 ≡ targeting k m
     pub rest : (m : ℕ) → m < maxMarks → hasMark waits m ≡ not (eqb (targeting k m) 0)
+    pub skips : (q : ℕ) → flagged written q ≡ (ltb q k && not (N .counts q))
 
-  pub counting-first : Counting 0 (replicate maxMarks 0) (replicate markWords 0)
+  pub counting-first : Counting 0 (replicate maxMarks 0) (replicate markWords 0) (replicate maxRules false)
   unfolding tally
   counting-first =
       record {
         within = omega arith;
         size = refl;
         wide = refl;
+        flags = length-replicate maxRules false;
         each = λ m h. getD-replicate maxMarks m 0 0 h;
         rest = λ m h. ap (λ (x : ℕ). has x (m % wordBits)) (getD-replicate markWords (m / wordBits) 0 0 (omega arith)) ∙ has-empty (m % wordBits);
+        skips = λ q. ap (λ (d : Written). d q) (flagged-none maxRules) ∙ rw (le-ltb q 0 (omega arith));
       }
 
-  pub counting-fits : (k m : ℕ) (counts waits : List ℕ) → Counting k counts waits → m < maxMarks → N .count ≤ maxRules → getD counts m 0 ≤ maxRules
-  counting-fits k m counts waits c h l = let i = c .within in omega (arith, c .each m h, tally-le k (λ p. eqb (N .target p) m))
+  pub counting-fits : (k m : ℕ) (counts waits : List ℕ) (written : List Bool) → Counting k counts waits written → m < maxMarks → N .count ≤ maxRules → getD counts m 0 ≤ maxRules
+  counting-fits k m counts waits written c h l = let i = c .within in omega (arith, c .each m h, tally-le k (λ p. N .counts p && eqb (N .target p) m))
 
-  pub counting-more : (k t : ℕ) (counts waits : List ℕ) → Counting k counts waits → k < N .count → t ≡ N .target k → t < maxMarks
-      → Counting (k + 1) (set counts t (getD counts t 0 + 1)) (marked waits t)
-  counting-more k t counts waits c h e i =
+  -- the flags say the same of one rule more where that rule counts, and else it is marked
+  skips-more : (k : ℕ) (written : List Bool) (q : ℕ) → flagged written q ≡ (ltb q k && not (N .counts q)) → (q ≡ k → N .counts k ≡ true) → flagged written q ≡ (ltb q (k + 1) && not (N .counts q))
+  skips-more k written q e n =
+      e ∙ cases (eqb q k)
+      (λ x. let p : q ≡ k = eqb-true q k x in rw (p, n p, and-false (ltb k k), and-false (ltb k (k + 1))))
+      (λ x. let u = eqb-false q k x in cases (ltb q k) (λ y. rw (y, lt-ltb q (k + 1) (omega (arith, ltb-true q k y)))) (λ y. rw (y, le-ltb q (k + 1) (omega (arith, ltb-false q k y)))))
+
+  pub counting-more : (k t : ℕ) (counts waits : List ℕ) (written : List Bool) → Counting k counts waits written → k < N .count → N .counts k ≡ true → t ≡ N .target k → t < maxMarks
+      → Counting (k + 1) (set counts t (getD counts t 0 + 1)) (marked waits t) written
+  counting-more k t counts waits written c h y e i =
       let l = c .size in
       let w = c .wide in
       record {
         within = omega arith;
         size = length-set counts t _ ∙ c .size;
         wide = length-set waits (t / wordBits) _ ∙ c .wide;
+        flags = c .flags;
         each = λ m j. cases (eqb m t)
             (λ x. let p : m ≡ t = eqb-true m t x in
-            rw (p, getD-set-same counts t (getD counts t 0 + 1) 0 (omega arith), tally-step k (λ p. eqb (N .target p) t), eq-eqb (N .target k) t (sym e)) (omega (arith, c .each t i)))
-            (λ x. rw (getD-set-other counts t m (getD counts t 0 + 1) 0 (eqb-false m t x), tally-step k (λ p. eqb (N .target p) m), ne-eqb (N .target k) m (λ q. eqb-false m t x (sym (e ∙ q)))) (omega (arith, c .each m j)));
+            rw (p, getD-set-same counts t (getD counts t 0 + 1) 0 (omega arith), tally-step k (λ p. N .counts p && eqb (N .target p) t), y, eq-eqb (N .target k) t (sym e)) (omega
+            (arith, c .each t i)))
+            (λ x. rw (
+              getD-set-other counts t m (getD counts t 0 + 1) 0 (eqb-false m t x),
+              tally-step k (λ p. N .counts p && eqb (N .target p) m),
+              y,
+              ne-eqb (N .target k) m
+                  (λ q. eqb-false m t x (sym (e ∙ q))),
+            ) (omega (arith, c .each m j)));
         rest = λ m j. has-marked waits t m (c .wide) i j ∙ cases (eqb m t)
             (λ x. let p : m ≡ t = eqb-true m t x in
-            rw (x, tally-step k (λ p. eqb (N .target p) m), eq-eqb (N .target k) m (sym (p ∙ e))) (or-true (hasMark waits m) ∙ sym (ap not (ne-eqb (1 + targeting k m) 0 (λ q. omega arith)))))
-            (λ x. rw (x, tally-step k (λ p. eqb (N .target p) m), ne-eqb (N .target k) m (λ q. eqb-false m t x (sym (e ∙ q)))) (let z : targeting k m ≡ 0 + targeting k m = omega arith in or-false (hasMark waits m) ∙ c .rest m j ∙ ap (λ (n : ℕ). not (eqb n 0)) z));
+            rw (x, tally-step k (λ p. N .counts p && eqb (N .target p) m), y, eq-eqb (N .target k) m (sym (p ∙ e))) (or-true (hasMark waits m) ∙ sym (ap not (ne-eqb (1 + targeting k m) 0
+            (λ q. omega arith)))))
+            (λ x. rw (x, tally-step k (λ p. N .counts p && eqb (N .target p) m), y, ne-eqb (N .target k) m (λ q. eqb-false m t x (sym (e ∙ q))))
+            (let z : targeting k m ≡ 0 + targeting k m = omega arith in or-false (hasMark waits m) ∙ c .rest m j ∙ ap (λ (n : ℕ). not (eqb n 0)) z));
+        skips = λ q. skips-more k written q (c .skips q) (λ z. y);
       }
 
-  pub counting-on : (k t one word : ℕ) (counts waits : List ℕ) → Counting k counts waits → k < N .count → t ≡ N .target k → t < maxMarks → one ≡ only (t % wordBits) → word ≡ union (getD waits (t / wordBits) 0) one
-      → Counting (k + 1) (set counts t (getD counts t 0 + 1)) (set waits (t / wordBits) word)
-  counting-on k t one word counts waits c h e i o w = rw (w, o) (counting-more k t counts waits c h e i)
+  -- a rule that counts
+  pub counting-on : (k t one word : ℕ) (b : Bool) (counts waits counts′ waits′ : List ℕ) (written written′ : List Bool)
+      → Counting k counts waits written → k < N .count → b ≡ N .counts k → b ≡ true → t ≡ N .target k → t < maxMarks → one ≡ only (t % wordBits) → word ≡ union (getD waits (t / wordBits) 0) one
+      → counts′ ≡ set counts t (getD counts t 0 + 1) → waits′ ≡ set waits (t / wordBits) word → written′ ≡ written → Counting (k + 1) counts′ waits′ written′
+  counting-on k t one word b counts waits counts′ waits′ written written′ c h x y e i o w p q r =
+      rw (p, q, r, w, o) (counting-more k t counts waits written c h (sym x ∙ y) e i)
 
-  pub counting-last : (k : ℕ) (counts waits : List ℕ) → Counting k counts waits → N .count ≤ k → Counters N none counts waits
-  unfolding isSettled
-  counting-last k counts waits c h =
-      let e : k ≡ N .count = (let i = c .within in omega arith) in
+  same-targeting : (k m : ℕ) → N .counts k ≡ false → targeting (k + 1) m ≡ targeting k m
+  same-targeting k m n = rw (tally-step k (λ p. N .counts p && eqb (N .target p) m), n) (omega arith)
+
+  -- one that does not
+  counting-pass : (k : ℕ) (counts waits : List ℕ) (written : List Bool) → Counting k counts waits written → k < N .count → N .count ≤ maxRules → N .counts k ≡ false
+      → Counting (k + 1) counts waits (set written k true)
+  counting-pass k counts waits written c h f n =
+      let l = c .flags in
       record {
+        within = omega arith;
         size = c .size;
         wide = c .wide;
-        each = λ m i. c .each m i ∙ rw (e, waiting-first N m);
-        rest = λ m i. c .rest m i ∙ rw (e, waiting-first N m);
+        flags = length-set written k true ∙ c .flags;
+        each = λ m j. c .each m j ∙ sym (same-targeting k m n);
+        rest = λ m j. c .rest m j ∙ ap (λ (z : ℕ). not (eqb z 0)) (sym (same-targeting k m n));
+        skips = λ q. cases (eqb q k)
+            (λ z. let p : q ≡ k = eqb-true q k z in rw (p, n, lt-ltb k (k + 1) (omega arith)) (getD-set-same written k true false (omega arith)))
+            (λ z. let u = eqb-false q k z in getD-set-other written k q true false u ∙ skips-more k written q (c .skips q) (λ p. absurd (u p)));
+      }
+
+  pub counting-skip : (k : ℕ) (b : Bool) (counts waits counts′ waits′ : List ℕ) (written written′ : List Bool)
+      → Counting k counts waits written → k < N .count → N .count ≤ maxRules → b ≡ N .counts k → b ≡ false
+      → counts′ ≡ counts → waits′ ≡ waits → written′ ≡ set written k true → Counting (k + 1) counts′ waits′ written′
+  counting-skip k b counts waits counts′ waits′ written written′ c h f x y p q r = rw (p, q, r) (counting-pass k counts waits written c h f (sym x ∙ y))
+
+  pub counting-last : (k : ℕ) (counts waits : List ℕ) (written : List Bool) → ((q : ℕ) → N .count ≤ q → N .counts q ≡ true) → Counting k counts waits written → N .count ≤ k
+      → Begun N counts waits written
+  unfolding isSettled
+  counting-last k counts waits written past c h =
+      let e : k ≡ N .count = (let i = c .within in omega arith) in
+      let f : flagged written ≡ skipped N = fun-ext (λ q. c .skips q ∙ cases (ltb q k) (λ x. rw x) (λ x. rw (x, past q (omega (arith, ltb-false q k x))))) in
+      let w : (m : ℕ) → targeting k m ≡ waiting N (flagged written) m = λ m. rw (e, f) (sym (skipped-waiting N m ∙ waiting-first N m)) in
+      record {
+        size = c .flags;
+        flags = f;
+        counters = record {
+          size = c .size;
+          wide = c .wide;
+          each = λ m i. c .each m i ∙ w m;
+          rest = λ m i. c .rest m i ∙ ap (λ (n : ℕ). not (eqb n 0)) (w m);
+        };
       }
 
 -- ---- one rule less
 
--- what is kept once one rule less targets t: whether t is then isSettled, and the counts and the set
+-- what is kept once one rule less targets t: whether t is then settled, and the counts and the set
 pub record Struck (t : ℕ) (counts waits counts′ waits′ : List ℕ) (done : Bool) : Type 0 where
   pub last : done ≡ eqb (getD counts t 0) 1
   pub fewer : counts′ ≡ set counts t (getD counts t 0 - 1)
@@ -137,7 +202,7 @@ pub struck-more : (t n : ℕ) (counts waits : List ℕ) → n ≡ getD counts t 
 struck-more t n counts waits e z =
     record { last = sym (ne-eqb (getD counts t 0) 1 (λ q. z (omega arith))); fewer = rw e; kept = refl }
 
-module _ (N : Net) (d : Written) (r t : ℕ) (counts waits : List ℕ) (c : Counters N d counts waits) (h : r < N .count) (u : d r ≡ false) (e : t ≡ N .target r) (i : t < maxMarks) where
+module _ (N : Net) (d : Written) (r t : ℕ) (counts waits : List ℕ) (c : Counters N d counts waits) (h : Counted N r) (u : d r ≡ false) (e : t ≡ N .target r) (i : t < maxMarks) where
   one-less : getD counts t 0 ≡ suc (waiting N (write d r) t)
   one-less = c .each t i ∙ rw e (waiting-less N d r h u)
 

@@ -1,4 +1,4 @@
--- A rule is ready exactly if it is unwritten and refers to no mark that still waits. Assumes nothing.
+-- A rule is ready exactly if it is unwritten and refers to no mark that still waits; a rule that does not count stands as written. Assumes nothing.
 use mathlib.Core.Path.{_≡_, refl, sym, ap, _∙_, fun-ext}
 use mathlib.Core.Bool.{Bool, true, false, not, _&&_, _||_}
 use mathlib.Core.List.{List}
@@ -10,14 +10,15 @@ use borrow.Author.Tests.{eqb-true, eqb-false, not-true}
 use Rattle.paper.specs.Limits.{maxMarks}
 use Rattle.general.specs.Cases.{cases, contra, same-test}
 use Rattle.general.specs.Below.{every, every-at, every-of, some, some-none, some-of}
+use Rattle.book.specs.Book.{Book}
 use Rattle.book.specs.Image.{bookOf}
 use Rattle.book.specs.Marks.{hasMark}
 use Rattle.book.specs.WellFormed.{WellFormed}
-use Rattle.book.specs.Firing.{refers}
 use Rattle.order_theory.specs.Order.{Net}
 use Rattle.order_theory.specs.Written.{Written, none, write}
 use Rattle.order_theory.specs.Running.{ready}
-use Rattle.order_theory.specs.Marks.{isSettled, ready-marks}
+use Rattle.order_theory.specs.Marks.{isSettled}
+use Rattle.order_theory.specs.Skipped.{Skips, ready-skips}
 use Rattle.rule_order.specs.Rules.{netOf}
 use Rattle.rule_order.specs.Nets.{rulesOf, targets-small}
 use Rattle.rule_order.specs.References.{touches}
@@ -38,7 +39,7 @@ none-at (suc n) (suc q) = none-at n q
 pub flagged-none : (n : ℕ) → flagged (replicate n false) ≡ none
 flagged-none n = fun-ext (λ q. none-at n q)
 
--- the set has each mark that is not isSettled, and no other
+-- the set has each mark that is not settled, and no other
 abbrev pub Waits : Net → Written → List ℕ → Type 0
 Waits N d waits = (m : ℕ) → m < maxMarks → hasMark waits m ≡ not (isSettled N d m)
 
@@ -48,16 +49,24 @@ none-some k f g h =
     (λ e. rw (some-none k g (λ p c. not-true (g p) (sym (h p c) ∙ every-at k f p e c))))
     (λ e. every-of k f (λ p c. h p c ∙ cases (g p) (λ x. contra (some-of k g p c x) (not-true (some k g) e)) (λ x. rw x)))
 
-pub ready-touches : (s : List ℕ) (d : Written) (waits : List ℕ) (r : ℕ) → WellFormed s → Waits (rulesOf s) d waits → ready (rulesOf s) d r ≡ (not (d r) && not (touches (bookOf s) r waits))
-unfolding touches netOf
-ready-touches s d waits r g w =
-    ready-marks (rulesOf s) maxMarks (targets-small s g) d r
+-- what the code tests: r is unwritten, and refers to no mark of the set
+unfoldable pub mayStand : Book → Written → List ℕ → ℕ → Bool
+mayStand b d waits r = not (d r) && not (touches b r waits)
+
+pub stand-written : (b : Book) (d : Written) (waits : List ℕ) (r : ℕ) → d r ≡ true → false ≡ mayStand b d waits r
+unfolding mayStand
+stand-written b d waits r e = rw e
+
+pub stand-untouched : (b : Book) (d : Written) (waits : List ℕ) (r : ℕ) (x : Bool) → d r ≡ false → x ≡ touches b r waits → not x ≡ mayStand b d waits r
+unfolding mayStand
+stand-untouched b d waits r x e t = rw (e, t)
+
+-- that is "ready", where the rules that do not count stand as written
+pub stand-ready : (s : List ℕ) (stage : ℕ) (d : Written) (waits : List ℕ) (r : ℕ) → WellFormed s → Skips (rulesOf s stage) d → Waits (rulesOf s stage) d waits
+    → mayStand (bookOf s) d waits r ≡ ready (rulesOf s stage) d r
+unfolding mayStand touches netOf
+stand-ready s stage d waits r g k w =
+    sym (ready-skips (rulesOf s stage) maxMarks (targets-small s stage g) d k r
     ∙ ap (λ b. not (d r) && b)
-    (none-some maxMarks (λ m. not (rulesOf s .refers r m) || isSettled (rulesOf s) d m) (λ m. rulesOf s .refers r m && hasMark waits m)
-    (λ m h. cases (rulesOf s .refers r m) (λ e. rw (e, w m h) (cases (isSettled (rulesOf s) d m) (λ x. rw x) (λ x. rw x))) (λ e. rw e)))
-
-pub ready-written : (s : List ℕ) (d : Written) (waits : List ℕ) (r : ℕ) → WellFormed s → Waits (rulesOf s) d waits → d r ≡ true → false ≡ ready (rulesOf s) d r
-ready-written s d waits r g w e = sym (ready-touches s d waits r g w ∙ rw e)
-
-pub ready-untouched : (s : List ℕ) (d : Written) (waits : List ℕ) (r : ℕ) (b : Bool) → WellFormed s → Waits (rulesOf s) d waits → d r ≡ false → b ≡ touches (bookOf s) r waits → not b ≡ ready (rulesOf s) d r
-ready-untouched s d waits r b g w e t = sym (ready-touches s d waits r g w ∙ rw (e, ← t))
+    (none-some maxMarks (λ m. not (rulesOf s stage .refers r m) || isSettled (rulesOf s stage) d m) (λ m. rulesOf s stage .refers r m && hasMark waits m)
+    (λ m h. cases (rulesOf s stage .refers r m) (λ e. rw (e, w m h) (cases (isSettled (rulesOf s stage) d m) (λ x. rw x) (λ x. rw x))) (λ e. rw e))))

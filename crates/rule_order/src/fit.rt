@@ -7,6 +7,7 @@ ghost use Rattle.book.specs.WellFormed.{WellFormed};
 ghost use Rattle.order_theory.specs.Pass.{fitPass};
 ghost use Rattle.rule_order.specs.Nets.{rulesOf};
 ghost use Rattle.rule_order.specs.References.{References};
+use crate::counted::counted_rules;
 use crate::ready::is_ready;
 use crate::references::REFS;
 use crate::waiting::count_targets;
@@ -24,20 +25,21 @@ pub fn entry_of(order: &[u16], j: usize) -> usize
     order[j] as usize
 }
 
-// Each entry is a rule that is ready where those before it are written, and there are as many as there are rules.
-// One pass over the rules and one over the order. Stack: about 9 KiB, of which the flags of the written rules are 8,384 bytes.
-pub fn order_fits(image: &[u8], rules: usize, refs: &[u64; REFS], order: &[u16]) -> bool
+// Each entry is a counted rule that is ready where those before it are written, and there are as many as there are counted rules.
+// Two passes over the rules and one over the order. Stack: about 9 KiB, of which the flags of the written rules are 8,384 bytes.
+pub fn order_fits(image: &[u8], rules: usize, stage: u32, refs: &[u64; REFS], order: &[u16]) -> bool
     requires { ⌜ (WellFormed (now image)) × (rules ≡ rulesIn (now image)) × (References (now image) (now refs)) ⌝ }
-    ensures { λ r. ⌜ r ≡ fitPass (rulesOf (now (image .entry))) (now (order .entry)) ⌝ }
+    ensures { λ r. ⌜ r ≡ fitPass (rulesOf (now (image .entry)) stage) (now (order .entry)) ⌝ }
 {
-    if order.len() != rules {
+    let counted = counted_rules(image, rules, stage);
+    if order.len() != counted {
         return false;
     }
     let mut counts = [0u16; MAX_MARKS];
     let mut waits = [0u64; MARK_WORDS];
-    count_targets(image, rules, &mut counts, &mut waits);
     let mut written = [false; MAX_RULES];
-    for j in 0..rules {
+    count_targets(image, rules, stage, &mut counts, &mut waits, &mut written);
+    for j in 0..counted {
         let r = entry_of(order, j);
         if rules <= r {
             return false;

@@ -1,5 +1,6 @@
-// The order of a book's rules: what they refer to, the running order, and whether a given order is fit.
+// The order of the rules that count for a stage: which they are, what they refer to, the running order, and whether a given order is fit.
 
+pub mod counted;
 pub mod fit;
 pub mod ready;
 pub mod references;

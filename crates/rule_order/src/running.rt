@@ -1,10 +1,11 @@
-// The running order: always the lowest-numbered unwritten rule all of whose predecessors are written.
+// The running order of the rules that count for a stage: always the lowest-numbered unwritten one all of whose predecessors are written.
 ghost use mathlib.Core.Path.{_≡_};
 ghost use mathlib.Core.List.{_++_};
 ghost use Prim.Native.Nat.{_≤_};
 ghost use lib.ListN.{length, drop};
 ghost use Rattle.book.specs.Image.{rulesIn};
 ghost use Rattle.book.specs.WellFormed.{WellFormed};
+ghost use Rattle.order_theory.specs.Order.{countedRules};
 ghost use Rattle.order_theory.specs.Running.{runningOrder};
 ghost use Rattle.rule_order.specs.Nets.{rulesOf};
 ghost use Rattle.rule_order.specs.References.{References};
@@ -25,18 +26,25 @@ fn passing(passed: usize, at: usize, written: bool) -> usize
     if written | (passed < at) { passed } else { at }
 }
 
-// How many rules the running order has: all exactly if there is no loop. It stands in the room's first entries; the others stay.
+// How many rules the running order has: all that count exactly if there is no loop among them. It stands in the room's first entries; the others stay.
 // The scan goes on from where it stands. It goes back, to the lowest rule that it passed over, only where a mark has just been
 // settled, so at most once for each mark: at most 257 passes over the rules, and one where no rule is passed over, as in a derived
 // book. Stack: about 9 KiB, of which the flags of the written rules are 8,384 bytes.
-pub fn running_order(image: &[u8], rules: usize, refs: &[u64; REFS], order: &mut [u16]) -> usize
-    requires { ⌜ (WellFormed (now image)) × (rules ≡ rulesIn (now image)) × (References (now image) (now refs)) × (rules ≤ length (now order)) ⌝ }
-    ensures { λ r. ⌜ (r ≡ length (runningOrder (rulesOf (now (image .entry))))) × (now (order .exit) ≡ runningOrder (rulesOf (now (image .entry))) ++ drop (length (runningOrder (rulesOf (now (image .entry))))) (now (order .entry))) ⌝ }
+pub fn running_order(
+    image: &[u8],
+    rules: usize,
+    stage: u32,
+    refs: &[u64; REFS],
+    order: &mut [u16],
+) -> usize
+    requires { ⌜ (WellFormed (now image)) × (rules ≡ rulesIn (now image)) × (References (now image) (now refs)) × (countedRules (rulesOf (now image) stage) ≤ length (now order)) ⌝ }
+    ensures { λ r. ⌜ (r ≡ length (runningOrder (rulesOf (now (image .entry)) stage)))
+        × (now (order .exit) ≡ runningOrder (rulesOf (now (image .entry)) stage) ++ drop (length (runningOrder (rulesOf (now (image .entry)) stage))) (now (order .entry))) ⌝ }
 {
     let mut counts = [0u16; MAX_MARKS];
     let mut waits = [0u64; MARK_WORDS];
-    count_targets(image, rules, &mut counts, &mut waits);
     let mut written = [false; MAX_RULES];
+    count_targets(image, rules, stage, &mut counts, &mut waits, &mut written);
     let mut n: usize = 0;
     let mut at: usize = 0;
     let mut passed = rules;

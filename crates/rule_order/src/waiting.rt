@@ -1,44 +1,54 @@
-// How many unwritten rules target each mark, and the set of the marks for which there is one.
+// How many counted and unwritten rules target each mark, and the set of the marks for which there is one.
 ghost use mathlib.Core.Path.{_≡_};
 ghost use Prim.Native.Nat.{_<_};
 ghost use lib.ListN.{getD, replicate};
-ghost use Rattle.paper.specs.Limits.{maxMarks};
-ghost use Rattle.book.specs.Image.{rulesIn};
+ghost use mathlib.Core.Bool.{false};
+ghost use Rattle.paper.specs.Limits.{maxMarks, maxRules};
+ghost use Rattle.book.specs.Book.{ruleOf};
+ghost use Rattle.book.specs.Image.{rulesIn, bookOf};
 ghost use Rattle.book.specs.Marks.{markWords};
 ghost use Rattle.book.specs.WellFormed.{WellFormed};
-ghost use Rattle.order_theory.specs.Written.{none};
 ghost use Rattle.rule_order.specs.Nets.{rulesOf};
-ghost use Rattle.rule_order.specs.Counters.{Counters, Struck};
+ghost use Rattle.rule_order.specs.Counters.{Begun, Struck};
+use crate::counted::is_counted;
 use book::rules::TARGET_AT;
 use paper::BOOK_HEADER;
 use paper::MAX_MARKS;
+use paper::MAX_RULES;
 use paper::RULE_SIZE;
 use texts::references::MARK_WORDS;
 
 // The mark that rule r targets.
 pub fn target_of(image: &[u8], r: usize) -> usize
     requires { ⌜ (WellFormed (now image)) × (r < rulesIn (now image)) ⌝ }
-    ensures { λ t. ⌜ (t ≡ rulesOf (now (image .entry)) .target r) × (t < maxMarks) ⌝ }
+    ensures { λ t. ⌜ (t ≡ ruleOf (bookOf (now (image .entry))) r .target) × (t < maxMarks) ⌝ }
 {
     wire::u16_at(image, BOOK_HEADER + RULE_SIZE * r + TARGET_AT) as usize
 }
 
-// Before any rule is written: one pass over the rules.
+// Before any counted rule is written: one pass over the rules. Those that do not count stand as written from the start, so that they are
+// never ready and none waits for them.
 pub fn count_targets(
     image: &[u8],
     rules: usize,
+    stage: u32,
     counts: &mut [u16; MAX_MARKS],
     waits: &mut [u64; MARK_WORDS],
+    written: &mut [bool; MAX_RULES],
 )
-    requires { ⌜ (WellFormed (now image)) × (rules ≡ rulesIn (now image)) × (now counts ≡ replicate maxMarks 0) × (now waits ≡ replicate markWords 0) ⌝ }
-    ensures { λ _. ⌜ Counters (rulesOf (now (image .entry))) none (now (counts .exit)) (now (waits .exit)) ⌝ }
+    requires { ⌜ (WellFormed (now image)) × (rules ≡ rulesIn (now image)) × (now counts ≡ replicate maxMarks 0) × (now waits ≡ replicate markWords 0) × (now written ≡ replicate maxRules false) ⌝ }
+    ensures { λ _. ⌜ Begun (rulesOf (now (image .entry)) stage) (now (counts .exit)) (now (waits .exit)) (now (written .exit)) ⌝ }
 {
     for r in 0..rules {
-        let t = target_of(image, r);
-        let n = counts[t];
-        counts[t] = n + 1;
-        let word = waits[t / 64];
-        waits[t / 64] = sets::join(word, sets::one(t % 64));
+        if is_counted(image, r, stage) {
+            let t = target_of(image, r);
+            let n = counts[t];
+            counts[t] = n + 1;
+            let word = waits[t / 64];
+            waits[t / 64] = sets::join(word, sets::one(t % 64));
+        } else {
+            written[r] = true;
+        }
     }
 }
 

@@ -1,5 +1,5 @@
 -- `rule_order::ready::is_ready` meets its contract. Assumes nothing.
-use Rattle.rule_order.specs.Ready.{ready-written, ready-untouched}
+use Rattle.rule_order.specs.Ready.{stand-written, stand-untouched}
 use borrow.Author.Needs.{needs}
 use Rattle.rule_order.proofs.ready.is_ready.Statement.{statement}
 use Rattle.rule_order.proofs.ready.is_ready.Tie as tie
@@ -9,6 +9,6 @@ is-ready-spec =
     tie.close
     (tie.spec
     (λ c. search needs)
-    (λ c. search ready-written)
+    (λ c. search stand-written)
     (λ c κs. search needs)
-    (λ c. search ready-untouched))
+    (λ c. search stand-untouched))
