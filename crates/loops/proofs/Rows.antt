@@ -19,9 +19,11 @@ use Rattle.book.specs.Image.{rulesIn, marksIn, rulePlace, ruleFrom, bookOf, kin
 use Rattle.book.specs.Read.{rules-count, rule-read}
 use Rattle.book.specs.Marks.{wordBits, markWords}
 use Rattle.book.specs.WellFormed.{WellFormed}
-use Rattle.rule_order.specs.Rules.{netOf}
+use Rattle.rule_order.specs.Rules.{counted, netOf}
+use Rattle.rule_order.specs.Nets.{rulesOf}
 use Rattle.rule_order.specs.References.{References, asked-row, awaited-in, refers-bytes}
-use Rattle.loops.specs.Places.{loopPlace}
+use Rattle.loops.specs.Places.{stagePlace}
+use Rattle.loops.specs.Searching.{targets-exist}
 use Rattle.loops.specs.Linked.{linkWords, withCondition, withTrigger, LinkedMarks}
 
 -- ---- one rule
@@ -122,18 +124,23 @@ shuffle false false true false = refl
 shuffle false false false true = refl
 shuffle false false false false = refl
 
--- ---- the loop: the first r rules are in the rows
+-- ---- the loop: those of the first r rules that count are in the rows
 
-pub record Linking (s refs rows : List ℕ) (r : ℕ) : Type 0 where
+module _ (s : List ℕ) (stage a b : ℕ) where
+  -- rule q counts, refers to a and targets b
+  abbrev leading : ℕ → Bool
+  leading q = counted stage (ruleOf (bookOf s) q .trigger) && (refers (bookOf s) q a && eqb (ruleOf (bookOf s) q .target) b)
+
+pub record Linking (s : List ℕ) (stage : ℕ) (refs rows : List ℕ) (r : ℕ) : Type 0 where
   pub formed : WellFormed s
   pub references : References s refs
   pub within : r ≤ rulesIn s
   pub size : length rows ≡ linkWords
-  pub holds : (a b : ℕ) → a < maxMarks → b < maxMarks → bit rows markWords b a ≡ some r (λ q. refers (bookOf s) q a && eqb (ruleOf (bookOf s) q .target) b)
+  pub holds : (a b : ℕ) → a < maxMarks → b < maxMarks → bit rows markWords b a ≡ some r (leading s stage a b)
 
-pub linking-first : (s refs rows : List ℕ) → WellFormed s → References s refs → rows ≡ replicate linkWords 0 → Linking s refs rows 0
+pub linking-first : (s : List ℕ) (stage : ℕ) (refs rows : List ℕ) → WellFormed s → References s refs → rows ≡ replicate linkWords 0 → Linking s stage refs rows 0
 unfolding some
-linking-first s refs rows w f e =
+linking-first s stage refs rows w f e =
     record {
       formed = w;
       references = f;
@@ -142,38 +149,54 @@ linking-first s refs rows w f e =
       holds = λ a b i j. rw e (bit-zeros linkWords markWords b a);
     }
 
-pub linking-more : (s refs rows next last : List ℕ) (r : ℕ) → Linking s refs rows r → r < rulesIn s → next ≡ withCondition s refs rows r → last ≡ withTrigger s next r
-    → Linking s refs last (r + 1)
-unfolding ruleFrom
-linking-more s refs rows next last r g h e d =
-    let w = g .formed in
-    let f = g .references in
-    let n : length next ≡ linkWords = ap length e ∙ length-condition s rows r refs ∙ g .size in
-    record {
-      formed = w;
-      references = f;
-      within = omega arith;
-      size = ap length d ∙ length-trigger s next r ∙ n;
-      holds = λ a b i j.
-          rw (d, trigger-bit s refs next w f n r h b a j i, e, condition-bit s refs rows w f (g .size) r h b a j i, some-step, g .holds a b i j, refers-bytes s refs r a w h f i, rule-read s r h)
-          (shuffle (some r (λ q. refers (bookOf s) q a && eqb (ruleOf (bookOf s) q .target) b)) (eqb (targetAt s (rulePlace r)) b)
-          (leb 2 (kindAt s (rulePlace r)) && eqb a (numberAt s (rulePlace r))) (leb 1 (senseAt s (rulePlace r)) && bit refs markWords (conditionAt s (rulePlace r)) a));
-    }
+module _ (s : List ℕ) (stage : ℕ) (refs rows : List ℕ) (n r : ℕ) (g : Linking s stage refs rows r) (m : n ≡ rulesIn s) (l : r < n) (x : Bool) (c : x ≡ rulesOf s stage .counts r) where
+  pub linking-more : (next last out : List ℕ) → x ≡ true → next ≡ withCondition s refs rows r → last ≡ withTrigger s next r → out ≡ last → Linking s stage refs out (r + 1)
+  unfolding netOf ruleFrom
+  linking-more next last out t e d′ o =
+      let d : out ≡ withTrigger s next r = o ∙ d′ in
+      let w = g .formed in
+      let f = g .references in
+      let h : r < rulesIn s = omega arith in
+      let k : length next ≡ linkWords = ap length e ∙ length-condition s rows r refs ∙ g .size in
+      let y : counted stage (ruleOf (bookOf s) r .trigger) ≡ true = sym c ∙ t in
+      record {
+        formed = w;
+        references = f;
+        within = omega arith;
+        size = ap length d ∙ length-trigger s next r ∙ k;
+        holds = λ a b i j.
+            rw (d, trigger-bit s refs next w f k r h b a j i, e, condition-bit s refs rows w f (g .size) r h b a j i, some-step, g .holds a b i j, y, refers-bytes s refs r a w h f i, rule-read s r h)
+            (shuffle (some r (leading s stage a b)) (eqb (targetAt s (rulePlace r)) b)
+            (leb 2 (kindAt s (rulePlace r)) && eqb a (numberAt s (rulePlace r))) (leb 1 (senseAt s (rulePlace r)) && bit refs markWords (conditionAt s (rulePlace r)) a));
+      }
 
-pub linking-last : (s refs rows : List ℕ) (r : ℕ) → Linking s refs rows r → rulesIn s ≤ r → LinkedMarks s rows
+  -- a rule that does not count
+  pub linking-past : (out : List ℕ) → x ≡ false → out ≡ rows → Linking s stage refs out (r + 1)
+  unfolding netOf
+  linking-past out t o =
+      let y : counted stage (ruleOf (bookOf s) r .trigger) ≡ false = sym c ∙ t in
+      record {
+        formed = g .formed;
+        references = g .references;
+        within = omega arith;
+        size = rw o (g .size);
+        holds = λ a b i j. rw (o, some-step, y) (g .holds a b i j ∙ sym (or-false (some r (leading s stage a b))));
+      }
+
+pub linking-last : (s : List ℕ) (stage : ℕ) (refs rows : List ℕ) (n r : ℕ) → n ≡ rulesIn s → Linking s stage refs rows r → n ≤ r → LinkedMarks s stage rows
 unfolding leads netOf
-linking-last s refs rows r g h =
+linking-last s stage refs rows n r m g h =
     let i = g .within in
     let z : r ≡ length (bookOf s .rules) = let c = rules-count s in omega arith in
-    record { size = g .size; holds = λ a b i j. g .holds a b i j ∙ ap (λ (k : ℕ). some k (λ q. refers (bookOf s) q a && eqb (ruleOf (bookOf s) q .target) b)) z }
+    record { size = g .size; holds = λ a b i j. g .holds a b i j ∙ ap (λ (k : ℕ). some k (leading s stage a b)) z }
 
 -- ---- the closure of the rows names the place
 
-pub place-found : (s rows next : List ℕ) (marks p : ℕ) → WellFormed s → marks ≡ marksIn s → LinkedMarks s rows → next ≡ closed marks markWords rows
-    → p ≡ first marks (λ m. bit next markWords m m) → p ≡ loopPlace (bookOf s)
-unfolding loopPlace netOf ruleFrom bookOf
-place-found s rows next marks p w m g e f =
+pub place-found : (s : List ℕ) (stage : ℕ) (rows next : List ℕ) (marks p : ℕ) → WellFormed s → marks ≡ marksIn s → LinkedMarks s stage rows → next ≡ closed marks markWords rows
+    → p ≡ first marks (λ m. bit next markWords m m) → p ≡ stagePlace (bookOf s) stage
+unfolding stagePlace netOf ruleFrom bookOf
+place-found s stage rows next marks p w m g e f =
     let n = w .headed .counted .marks in
     let z = g .size in
-    f ∙ rw (e, m) (loop-rows (netOf (bookOf s)) (marksIn s) (λ r h. let k : r < rulesIn s = rw (rules-count s) at h in rw (rule-read s r k) (w .rules r k .target)) markWords rows (omega arith) (omega arith)
+    f ∙ rw (e, m) (loop-rows (netOf (bookOf s) stage) (marksIn s) (λ r c. targets-exist s w r (c .0)) markWords rows (omega arith) (omega arith)
     (λ a b i j. g .holds a b (omega arith) (omega arith)))

@@ -1,3 +1,4 @@
 -- The root of the crate's specs.
 pub mod Places
 pub mod Linked
+pub mod Searching

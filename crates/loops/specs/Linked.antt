@@ -1,11 +1,12 @@
--- Rows over marks: row b gets the marks that the rules which target b refer to. Assumes nothing.
-use mathlib.Core.Bool.{cond}
+-- Rows over marks: row b gets the marks that the counted rules which target b refer to. Assumes nothing.
+use mathlib.Core.Bool.{cond, _&&_}
 use mathlib.Core.Path.{_≡_}
 use mathlib.Core.List.{List}
 use Prim.Native.Nat.{ℕ, _*_, _<_}
-use lib.Dec.{leb}
+use lib.Dec.{eqb, leb}
 use lib.ListN.{length}
 use Rattle.paper.specs.Limits.{maxMarks}
+use Rattle.sets.specs.Set.{union, only}
 use Rattle.closure.specs.BitRows.{bit, putBit, takeRow}
 use Rattle.order_theory.specs.Loops.{leads}
 use Rattle.book.specs.Image.{rulePlace, bookOf, kindAt, senseAt, numberAt, conditionAt, targetAt}
@@ -23,7 +24,11 @@ withCondition s refs rows r = cond (leb 1 (senseAt s (rulePlace r))) (takeRow ma
 unfoldable pub withTrigger : List ℕ → List ℕ → ℕ → List ℕ
 withTrigger s rows r = cond (leb 2 (kindAt s (rulePlace r))) (putBit rows markWords (targetAt s (rulePlace r)) (numberAt s (rulePlace r))) rows
 
--- row b has a exactly if some rule refers to a and targets b
-pub record LinkedMarks (s rows : List ℕ) : Type 0 where
+-- row b has a exactly if some rule that counts for the stage refers to a and targets b
+pub record LinkedMarks (s : List ℕ) (stage : ℕ) (rows : List ℕ) : Type 0 where
   pub size : length rows ≡ linkWords
-  pub holds : (a b : ℕ) → a < maxMarks → b < maxMarks → bit rows markWords b a ≡ leads (netOf (bookOf s)) a b
+  pub holds : (a b : ℕ) → a < maxMarks → b < maxMarks → bit rows markWords b a ≡ leads (netOf (bookOf s) stage) a b
+
+-- a set of stages takes in the stage of rule r where its completion triggers the rule and the rule has a condition
+unfoldable pub withStage : List ℕ → ℕ → ℕ → ℕ
+withStage s set r = cond (eqb (kindAt s (rulePlace r)) 1 && leb 1 (senseAt s (rulePlace r))) (union set (only (numberAt s (rulePlace r)))) set

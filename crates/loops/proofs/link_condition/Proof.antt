@@ -19,7 +19,10 @@ link-condition-spec =
     (λ c. search needs)
     (λ c κs. search needs)
     (λ c. search needs)
-    (λ c κs. link-row _ (c .before .before .before .before .before .before .before .before .pre .0) _ (c .before .before .before .before .before .before .before .before .pre .2) (c .before .before .before .before .before .before .before .before .args .rows .now) _ _ _ (c .before .before .before .before .before .before .before .before .pre .3) (c .before .before .before .before .before .before .before .before .pre .1) (omega (arith, c .before .before .before .before .if1 .taken)) (c .before .before .before .u16-at .ensures) (c .before .before .u16-at2 .ensures))
+    (λ c κs. let b = c .before .before .before .before in
+    let p = b .before .before .before .before in
+    link-row _ (p .pre .0) _ (p .pre .2) (p .args .rows .now) _ _ _ (p .pre .3) (p .pre .1) (omega (arith, b .if1 .taken))
+    (c .before .before .before .u16-at .ensures) (c .before .before .u16-at2 .ensures))
     (λ c. search needs)
     (λ c. search condition-taken)
     (λ c. search condition-left))
