@@ -1,32 +1,32 @@
 -- A law for each return of the check. Assumes nothing.
 use mathlib.Core.Path.{_≡_, sym, ap, _∙_}
-use mathlib.Core.Bool.{cond}
+use mathlib.Core.Bool.{Bool, true, cond, _&&_}
 use mathlib.Core.List.{List, _++_}
 use Prim.Native.Nat.{ℕ, suc, _+_, _≤_, _<_}
 use native.Mathlib.Numerals.{add-one}
 use native.Mathlib.Omega.{arith}
-use lib.Dec.{ltb}
+use lib.Dec.{ltb, leb}
 use lib.ListN.{length, getD, set, take, drop}
 use lib.Seq.{length-take-le, take-suc, drop-cons, append-snoc, set-at, take-at}
-use borrow.Author.Tests.{ne-eqb, ltb-true, ltb-false, lt-ltb, le-ltb}
-use Rattle.paper.specs.Limits.{maxMarks, loopFound, clash, orderRoom}
-use Rattle.paper.specs.Answers.{answer, granted}
+use borrow.Author.Tests.{ne-eqb, ltb-true, leb-true, lt-ltb, le-ltb}
+use Rattle.paper.specs.Limits.{maxMarks, loopFound, clash, noSuchStage, orderRoom}
+use Rattle.paper.specs.Answers.{answer, granted, refusal}
 use Rattle.paper.specs.declared.Answer.{Answer}
-use Rattle.general.specs.Cases.{cases}
-use Rattle.order_theory.specs.Order.{NoLoop}
+use Rattle.general.specs.Cases.{both}
+use Rattle.order_theory.specs.Order.{countedRules, NoLoop}
 use Rattle.order_theory.specs.Running.{runningOrder}
-use Rattle.book.specs.Image.{rulesIn, bookOf}
+use Rattle.book.specs.Image.{stagesIn, bookOf}
 use Rattle.book.specs.Read.{rules-count}
 use Rattle.book.specs.Judging.{countsOf, imageAnswer}
 use Rattle.book.specs.WellFormed.{WellFormed, granted-well}
 use Rattle.book.specs.WellRead.{Opened}
 use Rattle.book.specs.declared.Counts.{Counts}
-use Rattle.rule_order.specs.Rules.{netOf}
-use Rattle.rule_order.specs.Nets.{rulesOf, count-is}
+use Rattle.rule_order.specs.Nets.{rulesOf}
 use Rattle.judge.proofs.Whole.{running-few, running-full}
-use Rattle.loops.specs.Places.{loopPlace, loop-fits, loop-place}
+use Rattle.loops.specs.Places.{loopPlace, loop-fits}
+use Rattle.loops.specs.Searching.{searching, alone, no-search}
 use Rattle.clashes.specs.Pairs.{clashFirst, clashSecond}
-use Rattle.judge.specs.Checking.{rulesAnswer, bookAnswer, checking, checkedRoom, targets, targets-in, book-answer, granted-room, refused-room}
+use Rattle.judge.specs.Checking.{rulesAnswer, bookAnswer, stageAnswer, checking, checkedRoom, marks-many, targets-in, book-answer, granted-room, refused-room}
 
 -- ---- a run copied to the front of a room
 
@@ -41,61 +41,55 @@ module _ (from room : List ℕ) (n i : ℕ) (f : n ≤ length from) (g : n ≤ l
 
 -- ---- 25 and 26
 
-abbrev pub Outcome : List ℕ → List ℕ → List ℕ → Answer → Type 0
-Outcome s entry exit r = (r ≡ rulesAnswer (bookOf s)) × (r .code ≡ 0 → exit ≡ runningOrder (rulesOf s) ++ drop (rulesIn s) entry)
+module _ (s : List ℕ) (h : Counts) (o : Opened s h) where
+  -- where the set has no other stage, the stage's own rules decide
+  pub no-place : (set stage : ℕ) (r : Bool) → set ≡ searching (bookOf s) → r ≡ alone set stage → r ≡ true → NoLoop (rulesOf s stage) → h .marks ≡ loopPlace (bookOf s)
+  no-place set stage r e f t n = ap (λ (c : Counts). c .marks) (o .counts) ∙ sym (no-search s (o .formed) set stage r e f t n)
 
-module _ (s : List ℕ) (w : WellFormed s) where
-  pub place-small : (p : ℕ) → p ≡ loopPlace (bookOf s) → p ≤ maxMarks
-  unfolding bookOf
-  place-small p e = let h = w .headed .counted .marks in omega (arith, loop-fits (bookOf s))
+  module _ (m : ℕ) (p : m ≡ loopPlace (bookOf s)) where
+    all-marks : h .marks ≡ bookOf s .marks
+    all-marks = ap (λ (c : Counts). c .marks) (o .counts) ∙ sym (marks-many s)
 
-  module _ (rules written : ℕ) (many : rules ≡ rulesIn s) (n : written ≡ length (runningOrder (rulesOf s))) where
-    no-loop : rules ≤ written → NoLoop (rulesOf s)
-    unfolding netOf
-    no-loop h =
-        let f = running-few (rulesOf s) in
-        let c = rules-count s in
-        running-full (rulesOf s) (bookOf s .marks) (targets-in s w) .1 (omega arith)
+    pub place-small : m ≤ maxMarks
+    place-small = let k = o .formed .headed .counted .marks in omega (arith, loop-fits (bookOf s), marks-many s)
 
-    -- fewer rules are written than there are: there is a loop
-    pub rules-loop : (entry exit : List ℕ) (p : ℕ) (r : Answer) → written < rules → p ≡ loopPlace (bookOf s) → r ≡ answer loopFound p 0 → Outcome s entry exit r
-    unfolding rulesAnswer netOf
-    rules-loop entry exit p r h e f =
-        let c = rules-count s in
-        let t = loop-place (bookOf s) (targets s w) in
-        let l : loopPlace (bookOf s) < bookOf s .marks = cases (ltb (loopPlace (bookOf s)) (bookOf s .marks)) (λ x. ltb-true (loopPlace (bookOf s)) (bookOf s .marks) x)
-        (λ x. let i = loop-fits (bookOf s) in
-        let z : length (runningOrder (rulesOf s)) ≡ length (bookOf s .rules) = running-full (rulesOf s) (bookOf s .marks) (targets-in s w) .0 (t .1 .1 (omega (arith, ltb-false (loopPlace (bookOf s)) (bookOf s .marks) x))) in
-        absurd (omega arith)) in
-        (f ∙ rw (e, lt-ltb (loopPlace (bookOf s)) (bookOf s .marks) l), λ z. absurd (omega (arith, ap (λ (a : Answer). a .code) f)))
+    pub rules-loop : (r : Answer) → m < h .marks → r ≡ answer loopFound m 0 → r ≡ rulesAnswer (bookOf s)
+    unfolding rulesAnswer
+    rules-loop r l f = f ∙ rw (← p, lt-ltb m (bookOf s .marks) (rw (← all-marks) l))
 
-    module _ (full : rules ≤ written) (p q : ℕ) (first : p ≡ clashFirst (bookOf s)) (second : q ≡ clashSecond (bookOf s) p) where
-      none-loops : rulesAnswer (bookOf s) ≡ cond (ltb p rules) (answer clash p q) granted
+    module _ (l : h .marks ≤ m) (x y : ℕ) (first : x ≡ clashFirst (bookOf s)) (second : y ≡ clashSecond (bookOf s) x) where
+      none-loops : rulesAnswer (bookOf s) ≡ cond (ltb x (h .rules)) (answer clash x y) granted
       unfolding rulesAnswer
       none-loops =
-          let z : length (bookOf s .rules) ≡ rules = rules-count s ∙ sym many in
-          rw (loop-place (bookOf s) (targets s w) .1 .0 (no-loop full), le-ltb (bookOf s .marks) (bookOf s .marks) (omega arith), z, ← first, ← second)
+          let z : length (bookOf s .rules) ≡ h .rules = rules-count s ∙ sym (ap (λ (c : Counts). c .rules) (o .counts)) in
+          rw (← p, le-ltb m (bookOf s .marks) (rw (← all-marks) l), z, ← first, ← second)
 
-      pub rules-clash : (entry exit : List ℕ) (r : Answer) → p < rules → r ≡ answer clash p q → Outcome s entry exit r
-      rules-clash entry exit r h f = (f ∙ sym (none-loops ∙ rw (lt-ltb p rules h)), λ z. absurd (omega (arith, ap (λ (a : Answer). a .code) f)))
+      pub rules-clash : (r : Answer) → x < h .rules → r ≡ answer clash x y → r ≡ rulesAnswer (bookOf s)
+      rules-clash r k f = f ∙ sym (none-loops ∙ rw (lt-ltb x (h .rules) k))
 
-      pub rules-pass : (entry exit : List ℕ) (r : Answer) → rules ≤ p → r ≡ granted → exit ≡ runningOrder (rulesOf s) ++ drop (length (runningOrder (rulesOf s))) entry → Outcome s entry exit r
-      rules-pass entry exit r h f e =
-          let l = running-few (rulesOf s) in
-          let c : rulesOf s .count ≡ rulesIn s = count-is s in
-          let z : length (runningOrder (rulesOf s)) ≡ rulesIn s = omega arith in
-          (f ∙ sym (none-loops ∙ rw (le-ltb p rules h)), λ x. e ∙ rw z)
+      pub rules-pass : (r : Answer) → h .rules ≤ x → r ≡ granted → r ≡ rulesAnswer (bookOf s)
+      rules-pass r k f = f ∙ sym (none-loops ∙ rw (le-ltb x (h .rules) k))
 
 -- ---- the check
 
-abbrev pub Result : List ℕ → List ℕ → List ℕ → Answer → Type 0
-Result s entry exit r = (r ≡ checking s (length entry)) × (exit ≡ checkedRoom s entry)
+-- the stage is one of the book's, and as many rules are written as count: it has no loop
+pub clear-so : (s : List ℕ) (stage : ℕ) → WellFormed s → (h : Counts) → h ≡ countsOf s → (counted written : ℕ) → counted ≡ countedRules (rulesOf s stage)
+    → written ≡ length (runningOrder (rulesOf s stage)) → (ltb stage (h .stages) && leb counted written) ≡ true → (stage < stagesIn s) × NoLoop (rulesOf s stage)
+clear-so s stage w h e counted written c n t =
+    let (x, y) = both (ltb stage (h .stages)) (leb counted written) t in
+    let i = ltb-true stage (h .stages) x in
+    let j = leb-true counted written y in
+    let f = running-few (rulesOf s stage) in
+    (rw e at i, running-full (rulesOf s stage) (bookOf s .marks) (targets-in s w stage) .1 (omega arith))
 
-module _ (s room : List ℕ) where
-  refusing : (a : Answer) → a ≡ checking s (length room) → (a .code ≡ 0 → ⊥) → Result s room room a
-  refusing a e n = (e, sym (refused-room s room (λ z. n (ap (λ (x : Answer). x .code) e ∙ z))))
+abbrev pub Result : List ℕ → ℕ → List ℕ → List ℕ → Answer → Type 0
+Result s stage entry exit r = (r ≡ checking s stage (length entry)) × (exit ≡ checkedRoom s stage entry)
 
-  pub check-image : (a : Answer) → a ≡ imageAnswer s → (a .code ≡ 0 → ⊥) → Result s room room a
+module _ (s : List ℕ) (stage : ℕ) (room : List ℕ) where
+  refusing : (a : Answer) → a ≡ checking s stage (length room) → (a .code ≡ 0 → ⊥) → Result s stage room room a
+  refusing a e n = (e, sym (refused-room s stage room (λ z. n (ap (λ (x : Answer). x .code) e ∙ z))))
+
+  pub check-image : (a : Answer) → a ≡ imageAnswer s → (a .code ≡ 0 → ⊥) → Result s stage room room a
   unfolding checking bookAnswer
   check-image a e n =
       let z : bookAnswer s ≡ a = rw (← e, ne-eqb (a .code) 0 n) in
@@ -112,20 +106,34 @@ module _ (s room : List ℕ) where
       judged : bookAnswer s ≡ b
       judged = book-answer s formed ∙ sym f
 
-      pub check-rules : (b .code ≡ 0 → ⊥) → Result s room room b
+      pub check-rules : (b .code ≡ 0 → ⊥) → Result s stage room room b
       unfolding checking
       check-rules n = refusing b (rw (judged, ne-eqb (b .code) 0 n)) n
 
-      module _ (i : b .code ≡ 0) (rules : ℕ) (many : rules ≡ rulesIn s) where
-        pub check-room : (r : Answer) → length room < rules → r ≡ answer orderRoom rules 0 → Result s room room r
+      module _ (i : b .code ≡ 0) (h : Counts) (c : h ≡ countsOf s) where
+        then : checking s stage (length room) ≡ stageAnswer s stage (length room)
         unfolding checking
-        check-room r h g =
-            refusing r (g ∙ rw (judged, i, lt-ltb (length room) (rulesIn s) (omega arith), many)) (λ x. absurd (omega (arith, ap (λ (y : Answer). y .code) g)))
+        then = rw (judged, i)
 
-        pub check-granted : (order exit rest : List ℕ) (r : Answer) → rules ≤ length room → r ≡ granted → order ≡ runningOrder (rulesOf s) ++ drop (rulesIn s) rest
-            → exit ≡ take rules order ++ drop rules room → Result s room exit r
-        unfolding checking
-        check-granted order exit rest r h g o x =
-            let y : checking s (length room) ≡ granted = rw (judged, i, le-ltb (length room) (rulesIn s) (omega arith)) in
-            let (d, t, l) = granted-room s room (ap (λ (v : Answer). v .code) y) in
-            (g ∙ sym y, x ∙ rw (o, many, take-at (runningOrder (rulesOf s)) (drop (rulesIn s) rest) (rulesIn s) l) (sym d))
+        pub check-nowhere : (r : Answer) → h .stages ≤ stage → r ≡ refusal noSuchStage → Result s stage room room r
+        unfolding stageAnswer
+        check-nowhere r l g =
+            refusing r (g ∙ sym (then ∙ rw (le-ltb stage (stagesIn s) (rw c at l)))) (λ x. absurd (omega (arith, ap (λ (y : Answer). y .code) g)))
+
+        module _ (known : stage < h .stages) (counted : ℕ) (many : counted ≡ countedRules (rulesOf s stage)) where
+          pub check-room : (r : Answer) → length room < counted → r ≡ answer orderRoom counted 0 → Result s stage room room r
+          unfolding stageAnswer
+          check-room r l g =
+              refusing r (g ∙ sym (then ∙ rw (lt-ltb stage (stagesIn s) (rw c at known), ← many, lt-ltb (length room) counted l)))
+              (λ x. absurd (omega (arith, ap (λ (y : Answer). y .code) g)))
+
+          pub check-granted : (order exit rest : List ℕ) (r : Answer) → counted ≤ length room → r ≡ granted
+              → order ≡ runningOrder (rulesOf s stage) ++ drop (length (runningOrder (rulesOf s stage))) rest
+              → exit ≡ take counted order ++ drop counted room → Result s stage room exit r
+          unfolding stageAnswer
+          check-granted order exit rest r l g o x =
+              let y : checking s stage (length room) ≡ granted = then ∙ rw (lt-ltb stage (stagesIn s) (rw c at known), ← many, le-ltb (length room) counted l) in
+              let (d, t, k) = granted-room s stage room (ap (λ (v : Answer). v .code) y) in (
+                g ∙ sym y,
+                x ∙ rw (o, many, take-at (runningOrder (rulesOf s stage)) (drop (length (runningOrder (rulesOf s stage))) rest) (countedRules (rulesOf s stage)) k) (sym d),
+              )

@@ -24,12 +24,12 @@ use Rattle.runner.specs.Completing.{through}
 
 -- one turn: the rule r in the marks as they stand
 pub turn-fired : (s : List ℕ) (start : List Bool) (stage : ℕ) (marks : List Bool) (r : ℕ) → fires (bookOf s) (snapOf start) stage (snapOf marks) r ≡ true
-    → stepL (rulesOf s) (actsOf (bookOf s) (snapOf start) stage) marks r ≡ effectOn marks (ruleOf (bookOf s) r)
+    → stepL (rulesOf s stage) (actsOf (bookOf s) (snapOf start) stage) marks r ≡ effectOn marks (ruleOf (bookOf s) r)
 unfolding stepL netOf actsOf
 turn-fired s start stage marks r e = rw e
 
 pub turn-kept : (s : List ℕ) (start : List Bool) (stage : ℕ) (marks : List Bool) (r : ℕ) → fires (bookOf s) (snapOf start) stage (snapOf marks) r ≡ false
-    → stepL (rulesOf s) (actsOf (bookOf s) (snapOf start) stage) marks r ≡ marks
+    → stepL (rulesOf s stage) (actsOf (bookOf s) (snapOf start) stage) marks r ≡ marks
 unfolding stepL netOf actsOf
 turn-kept s start stage marks r e = rw e
 
@@ -40,7 +40,7 @@ Going s order start stage marks j = (length marks ≡ maxMarks) × (through s st
 module _ (s order : List ℕ) (start : List Bool) (stage : ℕ) where
   pub going-last : (marks : List Bool) (j : ℕ) → Going s order start stage marks j → length order ≤ j → marks ≡ through s start stage start order
   unfolding through
-  going-last marks j g h = sym (runL-end (rulesOf s) (actsOf (bookOf s) (snapOf start) stage) order marks j h) ∙ g .1
+  going-last marks j g h = sym (runL-end (rulesOf s stage) (actsOf (bookOf s) (snapOf start) stage) order marks j h) ∙ g .1
 
   module _ (marks : List Bool) (j r : ℕ) (rule : Rule) (g : Going s order start stage marks j) (h : j < length order) (q : r ≡ getD order j 0) (i : r < rulesIn s) (e : rule ≡ ruleFrom s (rulePlace r)) where
     read : rule ≡ ruleOf (bookOf s) r
@@ -49,9 +49,9 @@ module _ (s order : List ℕ) (start : List Bool) (stage : ℕ) where
     fires-so : {b : Bool} → b ≡ firing (textOf (bookOf s)) (snapOf start) stage (snapOf marks) rule → b ≡ fires (bookOf s) (snapOf start) stage (snapOf marks) r
     fires-so f = f ∙ firing-fires (bookOf s) (snapOf start) stage (snapOf marks) r rule read
 
-    going-on : (marks′ : List Bool) → length marks′ ≡ maxMarks → stepL (rulesOf s) (actsOf (bookOf s) (snapOf start) stage) marks r ≡ marks′ → Going s order start stage marks′ (j + 1)
+    going-on : (marks′ : List Bool) → length marks′ ≡ maxMarks → stepL (rulesOf s stage) (actsOf (bookOf s) (snapOf start) stage) marks r ≡ marks′ → Going s order start stage marks′ (j + 1)
     unfolding through
-    going-on marks′ l z = (l, sym (runL-on (rulesOf s) (actsOf (bookOf s) (snapOf start) stage) order marks j h ∙ rw (← q, z)) ∙ g .1)
+    going-on marks′ l z = (l, sym (runL-on (rulesOf s stage) (actsOf (bookOf s) (snapOf start) stage) order marks j h ∙ rw (← q, z)) ∙ g .1)
 
     pub going-fired : (marks′ : List Bool) {b : Bool} → b ≡ firing (textOf (bookOf s)) (snapOf start) stage (snapOf marks) rule → b ≡ true → marks′ ≡ effectOn marks rule → Going s order start stage marks′ (j + 1)
     going-fired marks′ f t z = going-on marks′ (rw z (length-effect marks rule ∙ g .0)) (turn-fired s start stage marks r (sym (fires-so f) ∙ t) ∙ sym (z ∙ ap (effectOn marks) read))

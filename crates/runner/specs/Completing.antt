@@ -19,33 +19,32 @@ use Rattle.runner.specs.declared.Completion.{Completion}
 
 -- ---- the answer
 
--- 27, of an answer that the check gives a book
-unfoldable pub fitted : Answer → Bool → Answer
-fitted a fits = cond (eqb (a .code) 0) (cond fits granted (refusal orderUnfit)) a
+-- 29 and 27, of an answer that the check gives a book: "in a completion 29 now comes before 27"
+unfoldable pub fitted : Answer → Bool → Bool → Answer
+fitted a known fits = cond (eqb (a .code) 0) (cond known (cond fits granted (refusal orderUnfit)) (refusal noSuchStage)) a
 
--- 20 to 27
-unfoldable pub orderAnswer : List ℕ → List ℕ → Answer
-orderAnswer s order = fitted (bookAnswer s) (fitPass (rulesOf s) order)
+-- 20 to 26, 29 and 27
+unfoldable pub orderAnswer : List ℕ → List ℕ → ℕ → Answer
+orderAnswer s order stage = fitted (bookAnswer s) (ltb stage (stagesIn s)) (fitPass (rulesOf s stage) order)
 
 -- some mark at or above M is yes
 unfoldable pub anyFrom : ℕ → List Bool → Bool
 anyFrom M marks = some maxMarks (λ m. leb M m && snapOf marks m)
 
--- 28 to 30, of S stages and M marks
-unfoldable pub snapshotAnswer : ℕ → ℕ → List Bool → ℕ → Answer
-snapshotAnswer S M marks stage =
-    cond (anyFrom M marks) (refusal markAbove) (cond (ltb stage S) (cond (snapOf marks stage) granted (refusal stageClosed)) (refusal noSuchStage))
+-- 28 and 30, of M marks
+unfoldable pub snapshotAnswer : ℕ → List Bool → ℕ → Answer
+snapshotAnswer M marks stage = cond (anyFrom M marks) (refusal markAbove) (cond (snapOf marks stage) granted (refusal stageClosed))
 
--- "Completing gives 20 to 30."
+-- "Completing gives 20 to 30.": 20 to 26, 29, 27, 28, 30
 unfoldable pub completionAnswer : List ℕ → List ℕ → List Bool → ℕ → Answer
-completionAnswer s order marks stage = cond (eqb (orderAnswer s order .code) 0) (snapshotAnswer (stagesIn s) (marksIn s) marks stage) (orderAnswer s order)
+completionAnswer s order marks stage = cond (eqb (orderAnswer s order stage .code) 0) (snapshotAnswer (marksIn s) marks stage) (orderAnswer s order stage)
 
 -- ---- the snapshot
 
 -- "Completing an open stage goes through a given order. A rule fires if its trigger holds and its condition holds in the snapshot as it now
 -- stands. A firing rule sets or clears its target."
 unfoldable pub through : List ℕ → List Bool → ℕ → List Bool → List ℕ → List Bool
-through s start stage marks order = runL (rulesOf s) (actsOf (bookOf s) (snapOf start) stage) marks order
+through s start stage marks order = runL (rulesOf s stage) (actsOf (bookOf s) (snapOf start) stage) marks order
 
 -- "A refusal hands back the snapshot it was given."
 unfoldable pub completing : List ℕ → List ℕ → Snapshot → ℕ → Completion

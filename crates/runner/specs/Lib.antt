@@ -4,4 +4,5 @@ pub mod Ordered
 pub mod Table
 pub mod Walks
 pub mod Completion
+pub mod LeftOut
 pub mod Examples

@@ -42,40 +42,40 @@ module _ (b : Book) (start : Snap) (stage : ℕ) where
 
   -- ---- the walk in the words of the theorems on orders
 
-  step-fired : (now : Snap) (r : ℕ) → fires b start stage now r ≡ true → step (netOf b) (actsOf b start stage) now r ≡ altered b now r
+  step-fired : (now : Snap) (r : ℕ) → fires b start stage now r ≡ true → step (netOf b stage) (actsOf b start stage) now r ≡ altered b now r
   unfolding step netOf actsOf altered
   step-fired now r e = fun-ext (λ m. cases (eqb m (ruleOf b r .target)) (λ x. rw (x, e)) (λ x. rw x))
 
-  step-waited : (now : Snap) (r : ℕ) → fires b start stage now r ≡ false → step (netOf b) (actsOf b start stage) now r ≡ now
+  step-waited : (now : Snap) (r : ℕ) → fires b start stage now r ≡ false → step (netOf b stage) (actsOf b start stage) now r ≡ now
   unfolding step netOf actsOf
   step-waited now r e = fun-ext (λ m. cases (eqb m (ruleOf b r .target)) (λ x. rw (x, e)) (λ x. rw x))
 
   -- there is a walk
-  pub goes-run : (order : List ℕ) (now : Snap) → Goes b start stage now order (run (netOf b) (actsOf b start stage) now order)
+  pub goes-run : (order : List ℕ) (now : Snap) → Goes b start stage now order (run (netOf b stage) (actsOf b start stage) now order)
   unfolding run
   goes-run [] now = ended
   goes-run (r ∷ order) now =
-      let on : Snap → Type 0 = λ u. Goes b start stage u order (run (netOf b) (actsOf b start stage) (step (netOf b) (actsOf b start stage) now r) order) in
-      let g = goes-run order (step (netOf b) (actsOf b start stage) now r) in
+      let on : Snap → Type 0 = λ u. Goes b start stage u order (run (netOf b stage) (actsOf b start stage) (step (netOf b stage) (actsOf b start stage) now r) order) in
+      let g = goes-run order (step (netOf b stage) (actsOf b start stage) now r) in
       cases (fires b start stage now r) (λ e. fired e (subst on (step-fired now r e) g)) (λ e. waited e (subst on (step-waited now r e) g))
 
   -- it has one end
-  goes-end : {now end : Snap} {order : List ℕ} → Goes b start stage now order end → end ≡ run (netOf b) (actsOf b start stage) now order
+  pub goes-end : {now end : Snap} {order : List ℕ} → Goes b start stage now order end → end ≡ run (netOf b stage) (actsOf b start stage) now order
   unfolding run
   goes-end ended = refl
-  goes-end (fired {now} {r = r} {order = l} e g) = goes-end g ∙ ap (λ (u : Snap). run (netOf b) (actsOf b start stage) u l) (sym (step-fired now r e))
-  goes-end (waited {now} {r = r} {order = l} e g) = goes-end g ∙ ap (λ (u : Snap). run (netOf b) (actsOf b start stage) u l) (sym (step-waited now r e))
+  goes-end (fired {now} {r = r} {order = l} e g) = goes-end g ∙ ap (λ (u : Snap). run (netOf b stage) (actsOf b start stage) u l) (sym (step-fired now r e))
+  goes-end (waited {now} {r = r} {order = l} e g) = goes-end g ∙ ap (λ (u : Snap). run (netOf b stage) (actsOf b start stage) u l) (sym (step-waited now r e))
 
   pub goes-one : {now x y : Snap} {order : List ℕ} → Goes b start stage now order x → Goes b start stage now order y → x ≡ y
   goes-one g h = coincide (goes-end g) (goes-end h)
 
   -- and its changes are those of the run
-  pub turns-run : {now end : Snap} {order : List ℕ} (g : Goes b start stage now order end) (m : ℕ) → turns g m ≡ changes (netOf b) (actsOf b start stage) now order m
+  pub turns-run : {now end : Snap} {order : List ℕ} (g : Goes b start stage now order end) (m : ℕ) → turns g m ≡ changes (netOf b stage) (actsOf b start stage) now order m
   unfolding turns changes
   turns-run ended m = refl
   turns-run (fired {now} {r = r} {order = l} e g) m =
-      subst (λ (u : Snap). turns (fired e g) m ≡ flips (now m) (u m) + changes (netOf b) (actsOf b start stage) u l m) (sym (step-fired now r e))
+      subst (λ (u : Snap). turns (fired e g) m ≡ flips (now m) (u m) + changes (netOf b stage) (actsOf b start stage) u l m) (sym (step-fired now r e))
       (rw (turns-run g m))
   turns-run (waited {now} {r = r} {order = l} e g) m =
-      subst (λ (u : Snap). turns g m ≡ flips (now m) (u m) + changes (netOf b) (actsOf b start stage) u l m) (sym (step-waited now r e))
+      subst (λ (u : Snap). turns g m ≡ flips (now m) (u m) + changes (netOf b stage) (actsOf b start stage) u l m) (sym (step-waited now r e))
       (rw (turns-run g m, flips-same (now m) (now m) refl) (omega arith))

@@ -1,4 +1,4 @@
-// The runner: completes a stage along a given order.
+// The runner: completes a stage along a given order of the rules that count for it.
 ghost use mathlib.Core.Path.{_≡_};
 ghost use Rattle.runner.specs.Completing.{completing};
 use book::Snapshot;
@@ -15,14 +15,15 @@ pub struct Completion {
     pub snapshot: Snapshot,
 }
 
-// 20 to 30 and the snapshot that was given, or 0 and the snapshot after every rule of the order had its turn.
-// Cost for a fit order: the image's judgement, one pass over the texts, three passes over the rules and the order, the search for a
-// clash, and one turn for each entry. Stack: about 55 KiB: 17 here, with the fit test compiled in
-// (references 8, flags of the written rules 8), and 38 in the search for a clash.
+// 20 to 30 (29 before 27) and the snapshot that was given, or 0 and the snapshot after every rule of the order had its turn.
+// Cost for a fit order: the image's judgement, one pass over the texts, four passes over the rules, one over the order, the search for a
+// clash, and one turn for each entry; for a book in which another stage has a completion rule with a condition also the searches of
+// `loops::loop_place`, whose comment has the bound for the worst book. Stack: about 63 KiB: 17 here, with the fit test compiled in
+// (references 8, flags of the written rules 8), 38 in the search for a clash, and 8 in the search for loops, which is called from there.
 pub fn complete(book: &[u8], order: &[u16], snapshot: Snapshot, stage: u32) -> Completion
     ensures { λ r. ⌜ r ≡ completing (now (book .entry)) (now (order .entry)) snapshot stage ⌝ }
 {
-    let judged = judging::judge_order(book, order);
+    let judged = judging::judge_order(book, order, stage);
     if judged.code != 0 {
         return Completion {
             answer: judged,
@@ -30,7 +31,7 @@ pub fn complete(book: &[u8], order: &[u16], snapshot: Snapshot, stage: u32) -> C
         };
     }
     let h = counts_at(book);
-    let answer = judging::judge_snapshot(&snapshot.marks, h.stages, h.marks, stage);
+    let answer = judging::judge_snapshot(&snapshot.marks, h.marks, stage);
     if answer.code != 0 {
         return Completion { answer, snapshot };
     }

@@ -1,5 +1,5 @@
 -- `runner::judging::judge_snapshot` meets its contract. Assumes nothing.
-use Rattle.runner.specs.Ordered.{above-answer, no-stage-answer, closed-answer, open-answer}
+use Rattle.runner.specs.Ordered.{above-answer, closed-answer, open-answer}
 use borrow.Author.Needs.{needs}
 use Rattle.runner.proofs.judging.judge_snapshot.Statement.{statement}
 use Rattle.runner.proofs.judging.judge_snapshot.Tie as tie
@@ -10,11 +10,9 @@ judge-snapshot-spec =
     (tie.spec
     (λ c κs. search needs)
     (λ c κs. search needs)
-    (λ c. above-answer _ _ _ _ _ _ (c .before .before .any-from .ensures) (c .before .if1 .taken) (c .refused .ensures))
-    (λ c κs. search needs)
-    (λ c. no-stage-answer _ _ _ _ _ (c .before .before .before .any-from .ensures) (c .before .before .if1 .left) _ (c .before .if2 .taken) (c .refused2 .ensures))
+    (λ c. above-answer _ _ _ _ _ (c .before .before .any-from .ensures) (c .before .if1 .taken) (c .refused .ensures))
     (λ c. search needs)
     (λ c κs. search needs)
-    (λ c. closed-answer _ _ _ _ _ (c .before .before .before .before .before .any-from .ensures) (c .before .before .before .before .if1 .left) _ (c .before .before .before .if2 .left) (c .before .if3 .taken) (c .refused3 .ensures))
+    (λ c. closed-answer _ _ _ _ (c .before .before .before .before .any-from .ensures) (c .before .before .before .if1 .left) _ (c .before .if2 .taken) (c .refused2 .ensures))
     (λ c κs. search needs)
-    (λ c. open-answer _ _ _ _ _ (c .before .before .before .before .before .any-from .ensures) (c .before .before .before .before .if1 .left) _ (c .before .before .before .if2 .left) (c .before .if3 .left) (c .granted .ensures)))
+    (λ c. open-answer _ _ _ _ (c .before .before .before .before .any-from .ensures) (c .before .before .before .if1 .left) _ (c .before .if2 .left) (c .granted .ensures)))
