@@ -124,12 +124,12 @@ module _ (c : FlatChart) where
     refers-high x k (opening f h) e = (h, all-elem High (derivedText c f) (text-high f) k (rw (derived-text c f h) at e))
     refers-high x k (closing f h) e = (h, all-elem High (derivedText c f) (text-high f) k (rw (derived-text c f h) at e))
 
-    -- no loop
-    pub derived-no-loop : NoLoop (netOf (derivedBook c))
+    -- no loop, whichever stage the rules are counted for: what counts is not looked at
+    pub derived-no-loop : (stage : ℕ) → NoLoop (netOf (derivedBook c) stage)
     unfolding netOf refers
-    derived-no-loop r h l =
-        let (q, i, e, k) = turn (netOf (derivedBook c)) r h l in
-        let (p, j, g, n) = turn (netOf (derivedBook c)) q i k in
-        let a = refers-high (ruleOf (derivedBook c) r) (ruleOf (derivedBook c) q .target) (shape-at r h) e in
-        let b = refers-high (ruleOf (derivedBook c) q) (ruleOf (derivedBook c) p .target) (shape-at q i) g in
+    derived-no-loop stage r h l =
+        let (q, i, e, k) = turn (netOf (derivedBook c) stage) r h l in
+        let (p, j, g, n) = turn (netOf (derivedBook c) stage) q i k in
+        let a = refers-high (ruleOf (derivedBook c) r) (ruleOf (derivedBook c) q .target) (shape-at r (h .0)) e in
+        let b = refers-high (ruleOf (derivedBook c) q) (ruleOf (derivedBook c) p .target) (shape-at q (i .0)) g in
         omega (arith, a .1, b .0)

@@ -4,6 +4,7 @@ use mathlib.Core.Path.{_≡_, refl, sym, ap, _∙_}
 use mathlib.Core.Bool.{Bool, true, false, not, _&&_, _||_, or-true, or-false}
 use native.Mathlib.Omega.{arith}
 use lib.Dec.{eqb, ltb}
+use lib.ListN.{length, getD}
 use borrow.Author.Tests.{eqb-true, eq-eqb, ltb-true, ltb-false, not-true, not-false}
 use Rattle.general.specs.Cases.{contra, cases, both}
 use Rattle.sets.specs.Set.{has, minus, only}
@@ -17,8 +18,11 @@ use Rattle.book.specs.Book.{textOf, noRule}
 use Rattle.book.specs.Firing.{fires, triggered, allowed}
 use Rattle.general.specs.Lists.{all-at, at-all}
 use Rattle.book.specs.declared.Rule.{Rule}
+use Rattle.book.specs.declared.Trigger.{Trigger}
+use Rattle.book.specs.declared.Trigger.the-variants.{None, Completed, BecomeYes, BecomeNo}
+use Rattle.order_theory.specs.Order.{Counted}
 use Rattle.order_theory.specs.Settle.{Settled}
-use Rattle.rule_order.specs.Rules.{netOf, actsOf}
+use Rattle.rule_order.specs.Rules.{counted, netOf, actsOf}
 use Rattle.deriver.specs.Matching.{markOf}
 use Rattle.derived.specs.Derived.{executedMark, includedMark, answeredMark, on, inclusion, responding, answering, derivedText, derivedBook, derivedRules, derived-text, Parts, join, parts}
 use Rattle.agreement.specs.Matching.{match-stage, match-executed, match-included, match-answered, match-past}
@@ -142,10 +146,27 @@ module _ (c : FlatChart) (fit : Fit c) (m : Marking) (e : ℕ) (he : e < c .coun
           let q : base + (k - base) ≡ k = omega arith in
           rw q at (g (k - base) (omega arith) (rw q p))
 
-  pub derived-settled : Settled (netOf (derivedBook c)) (actsOf (derivedBook c) (markOf c m) e) (markOf c m) (markOf c next)
+  -- a rule that does not count for e waits for another completion, so it does not fire
+  uncounted-idle : (x : Rule) → counted e (x .trigger) ≡ false → Fired x ≡ false
+  unfolding counted triggered
+  uncounted-idle x h = go (x .trigger) h
+    where
+      go : (t : Trigger) → counted e t ≡ false → (triggered (markOf c m) e t (markOf c next) && allowed (textOf (derivedBook c)) (x .sense) (markOf c next)) ≡ false
+      go None z = contra refl z
+      go (Completed d) z = rw z
+      go (BecomeYes k) z = contra refl z
+      go (BecomeNo k) z = contra refl z
+
+  pub derived-settled : Settled (netOf (derivedBook c) e) (actsOf (derivedBook c) (markOf c m) e) (markOf c m) (markOf c next)
   unfolding netOf actsOf derivedBook fires
   derived-settled =
       record {
-        wrote = λ r h f. all-at Writes noRule (derivedRules c) (join c Writes all-wrote) r h f;
-        stayed = λ k h. stayed k (parts c (Idle k) (at-all (Idle k) noRule (derivedRules c) (λ r i q. h r i q)));
+        wrote = λ r h f. all-at Writes noRule (derivedRules c) (join c Writes all-wrote) r (h .0) f;
+        stayed = λ k h. stayed k (parts c (Idle k) (at-all (Idle k) noRule (derivedRules c) (λ r i q. waits k h r i q)));
       }
+    where
+      waits : (k : ℕ)
+          → ((r : ℕ) → Counted (netOf (derivedBook c) e) r → netOf (derivedBook c) e .target r ≡ k → actsOf (derivedBook c) (markOf c m) e .fires (markOf c next) r ≡ false)
+          → (r : ℕ) → r < length (derivedRules c) → Idle k (getD (derivedRules c) r noRule)
+      waits k h r i q =
+          cases (counted e (getD (derivedRules c) r noRule .trigger)) (λ x. h r (i, x) q) (λ x. uncounted-idle (getD (derivedRules c) r noRule) x)

@@ -24,8 +24,8 @@ use Rattle.chart.specs.Reading.{reading, refused}
 use Rattle.chart.specs.declared.Reading.{Reading}
 use Rattle.chart.specs.Outcome.{Outcome, outcome, judged}
 use Rattle.chart.specs.ReadingGives.{refused-empty}
+use Rattle.order_theory.specs.Order.{countedRules}
 use Rattle.order_theory.specs.Running.{runningOrder}
-use Rattle.book.specs.Image.{rulesIn}
 use Rattle.book.specs.declared.Snapshot.{Snapshot}
 use Rattle.rule_order.specs.Nets.{rulesOf}
 use Rattle.judge.specs.Checking.{Checked, checked, checked-is, checking, checkedRoom, granted-room, refused-room}
@@ -113,12 +113,13 @@ pub record Demand1 : Type 0 where
   pub deriveOnly : (c : FlatChart) (room : ℕ) (a : Answer) → Derives c room a → a ≡ derivingAnswer c room
   pub deriveGranted : (c : FlatChart) (room : List ℕ) → derivingAnswer c (length room) .code ≡ 0 → derivedRoom c room ≡ derivedImage c ++ drop (length (derivedImage c)) room
   pub deriveRefused : (c : FlatChart) (room : List ℕ) → (derivingAnswer c (length room) .code ≡ 0 → ⊥) → derivedRoom c room ≡ room
-  -- the check: 20 to 26, 31; the running order is written, and room past it stays as it was; a refusal leaves the room as it was
-  pub check : (book : List ℕ) (room : ℕ) → Checked book room (checking book room)
-  pub checkOnly : (book : List ℕ) (room : ℕ) (a : Answer) → Checked book room a → a ≡ checking book room
-  pub checkGranted : (book room : List ℕ) → checking book (length room) .code ≡ 0 → checkedRoom book room ≡ runningOrder (rulesOf book) ++ drop (rulesIn book) room
-  pub checkRefused : (book room : List ℕ) → (checking book (length room) .code ≡ 0 → ⊥) → checkedRoom book room ≡ room
-  -- completing: 20 to 30; a refusal hands back the snapshot it was given
+  -- the check for a stage: 20 to 26, 29, 31; that stage's running order is written, and room past it stays as it was; a refusal leaves the room as it was
+  pub check : (book : List ℕ) (stage room : ℕ) → Checked book stage room (checking book stage room)
+  pub checkOnly : (book : List ℕ) (stage room : ℕ) (a : Answer) → Checked book stage room a → a ≡ checking book stage room
+  pub checkGranted : (book : List ℕ) (stage : ℕ) (room : List ℕ) → checking book stage (length room) .code ≡ 0
+      → checkedRoom book stage room ≡ runningOrder (rulesOf book stage) ++ drop (countedRules (rulesOf book stage)) room
+  pub checkRefused : (book : List ℕ) (stage : ℕ) (room : List ℕ) → (checking book stage (length room) .code ≡ 0 → ⊥) → checkedRoom book stage room ≡ room
+  -- completing: 20 to 26, 29, 27, 28, 30; a refusal hands back the snapshot it was given
   pub complete : (book order : List ℕ) (s : Snapshot) (stage : ℕ) → Answered book order (s .marks) stage (completing book order s stage .answer)
   pub completeOnly : (book order : List ℕ) (s : Snapshot) (stage : ℕ) (a : Answer) → Answered book order (s .marks) stage a → a ≡ completing book order s stage .answer
   pub completeRefused : (book order : List ℕ) (s : Snapshot) (stage : ℕ) → (completing book order s stage .answer .code ≡ 0 → ⊥) → completing book order s stage .snapshot ≡ s
@@ -151,10 +152,10 @@ demand-1 =
       deriveRefused = derive-refused;
       check = checked;
       checkOnly = checked-is;
-      checkGranted = λ book room e. granted-room book room e .0;
+      checkGranted = λ book stage room e. granted-room book stage room e .0;
       checkRefused = refused-room;
-      complete = λ book order s stage. answered book order (s .marks) stage;
-      completeOnly = λ book order s stage. answered-is book order (s .marks) stage;
+      complete = λ book order s stage. answered book order stage (s .marks);
+      completeOnly = λ book order s stage. answered-is book order stage (s .marks);
       completeRefused = refusal-hands-back;
     }
 

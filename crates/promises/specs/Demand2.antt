@@ -1,6 +1,6 @@
 -- Demand 2: from a marking and its matching snapshot, chart and derived book grant exactly the same events, and they match again after every
--- step of every sequence; by request (i) "for steps by a permitted role". Stated of what the calls give: derive, check, matching, execute and complete.
--- Assumes nothing.
+-- step of every sequence; by request (i) "for steps by a permitted role", by request (ii) in the order that the check writes for each completed stage.
+-- Stated of what the calls give: derive, check, matching, execute and complete. Assumes nothing.
 use Prim.Native.Nat.{ℕ, _*_, _≤_, _<_}
 use mathlib.Core.Path.{_≡_, refl, sym, ap, subst, fun-ext, _∙_}
 use mathlib.Core.Bool.{Bool, true}
@@ -24,15 +24,16 @@ use Rattle.graph.specs.declared.FlatChart.{FlatChart}
 use Rattle.graph.specs.declared.Marking.{Marking}
 use Rattle.book.specs.Text.{Snap, snapOf}
 use Rattle.book.specs.Book.{Book}
-use Rattle.book.specs.Image.{bookOf, stagesIn, marksIn, rulesIn}
+use Rattle.book.specs.Image.{bookOf, stagesIn, marksIn}
 use Rattle.book.specs.ImageOf.{book-of-image}
 use Rattle.book.specs.declared.Snapshot.{Snapshot}
 use Rattle.order_theory.specs.Order as order
+use Rattle.order_theory.specs.Order.{countedRules}
 use Rattle.order_theory.specs.Settle.{Settled}
 use Rattle.order_theory.specs.Snapshots.{at-same}
 use Rattle.rule_order.specs.Rules.{netOf, actsOf}
 use Rattle.rule_order.specs.Nets.{rulesOf}
-use Rattle.judge.specs.Checking.{CheckPasses, checking, checkedRoom, is-passed}
+use Rattle.judge.specs.Checking.{checking, checkedRoom, is-passed}
 use Rattle.derived.specs.Derived.{derivedBook}
 use Rattle.deriver.specs.Deriving.{derivedImage, derivingAnswer, derivedRoom}
 use Rattle.deriver.specs.Formed.{derived-well}
@@ -60,17 +61,22 @@ module _ (c : FlatChart) (fit : Fit c) where
   said : bookOf (derivedImage c) ≡ derivedBook c
   said = book-of-image (derivedBook c)
 
-  derived-passed : (room : ℕ) → rulesIn (derivedImage c) ≤ room → CheckPasses (derivedImage c) room
-  derived-passed room h =
+  passes : Passes (derivedImage c)
+  passes =
       record {
         formed = derived-well c fit;
-        acyclic = rw said (derived-no-loop c (fit .few));
+        acyclic = λ stage h. rw said (derived-no-loop c (fit .few) stage);
         calm = rw said (derived-calm c);
-        wide = h;
       }
 
-  pub derived-passes : (room : ℕ) → rulesIn (derivedImage c) ≤ room → checking (derivedImage c) room ≡ granted
-  derived-passes room h = is-passed (derivedImage c) room (derived-passed room h)
+  pub derived-passes : (stage room : ℕ) → stage < stagesIn (derivedImage c) → countedRules (rulesOf (derivedImage c) stage) ≤ room → checking (derivedImage c) stage room ≡ granted
+  derived-passes stage room k h =
+      is-passed (derivedImage c) stage room
+      (record { formed = passes .formed; acyclic = passes .acyclic; calm = passes .calm; known = k; wide = h })
+
+  pub stages-are : stagesIn (derivedImage c) ≡ c .count
+  unfolding bookOf derivedBook
+  stages-are = ap (λ (b : Book). b .stages) said
 
   -- ---- the matching snapshot is one that the derived book can be completed from
 
@@ -80,10 +86,6 @@ module _ (c : FlatChart) (fit : Fit c) where
 
     matching-long : length (matchingMarks c m) ≡ maxMarks
     matching-long = marks-whole c (fit .few) m
-
-    pub stages-are : stagesIn (derivedImage c) ≡ c .count
-    unfolding bookOf derivedBook
-    stages-are = ap (λ (b : Book). b .stages) said
 
     marks-are : marksIn (derivedImage c) ≡ 4 * c .count
     unfolding bookOf derivedBook
@@ -107,16 +109,14 @@ module _ (c : FlatChart) (fit : Fit c) where
 
     -- ---- one step
 
-    -- the order may be any fit one
-    module _ (l : List ℕ) (fitOrder : order.Fit (rulesOf (derivedImage c)) l) (e r : ℕ) where
-      passes : Passes (derivedImage c)
-      passes = derived-passed (rulesIn (derivedImage c)) (omega arith)
-
+    -- the order may be any fit one of the completed stage; past the count there is none, and both refuse
+    module _ (e r : ℕ) (l : List ℕ) (fitOrder : e < c .count → order.Fit (rulesOf (derivedImage c) e) l) where
       -- chart and book grant the same event, if the role may
       pub same-grants : Permits (rolesOf c e) r → (executing c m e r .answer .code ≡ 0) ↔ (completing (derivedImage c) l (matchingOf c m .snapshot) e .answer .code ≡ 0)
       same-grants p = (
         λ g. let t = granted-enabled c m e r .0 g in
-            ap (λ (a : Answer). a .code) (completes (derivedImage c) passes (matchingOf c m .snapshot) e (opened e (t .0 .stands .exists) (t .1)) l fitOrder .granted),
+            let h : e < c .count = t .0 .stands .exists in
+            ap (λ (a : Answer). a .code) (completes (derivedImage c) passes (matchingOf c m .snapshot) e (opened e h (t .1)) l (fitOrder h) .granted),
         λ g. let o = granted-only (derivedImage c) l (matchingOf c m .snapshot) e (rw matches matching-long) g .2 in
             let h : e < c .count = rw stages-are at (o .known) in
             let y : snapOf (matchingMarks c m) e ≡ true = rw matches at (o .yes) in
@@ -132,22 +132,24 @@ module _ (c : FlatChart) (fit : Fit c) where
           let t = granted-enabled c m e r .0 g in
           let h : e < c .count = t .0 .stands .exists in
           let o = opened e h (t .1) in
-          let k = completes (derivedImage c) passes (matchingOf c m .snapshot) e o l fitOrder in
+          let k = completes (derivedImage c) passes (matchingOf c m .snapshot) e o l (fitOrder h) in
           at-same (completing (derivedImage c) l (matchingOf c m .snapshot) e .snapshot .marks) (matchingMarks c (after c m e))
           (k .whole ∙ sym (matching-long-after h))
-          (λ x. completed-is (derivedImage c) passes (matchingOf c m .snapshot) e o l fitOrder (markOf c (after c m e)) (settles h) x ∙ sym (marks-at c (after c m e) x))
+          (λ x. completed-is (derivedImage c) passes (matchingOf c m .snapshot) e o l (fitOrder h) (markOf c (after c m e)) (settles h) x ∙ sym (marks-at c (after c m e) x))
         where
           matching-long-after : e < c .count → length (matchingMarks c (after c m e)) ≡ maxMarks
           matching-long-after h = marks-whole c (fit .few) (after c m e)
 
-          settles : e < c .count
-              → Settled (rulesOf (derivedImage c)) (actsOf (bookOf (derivedImage c)) (snapOf (matchingOf c m .snapshot .marks)) e) (snapOf (matchingOf c m .snapshot .marks)) (markOf c (after c m e))
+          start : Snap
+          start = snapOf (matchingOf c m .snapshot .marks)
+
+          settles : e < c .count → Settled (rulesOf (derivedImage c) e) (actsOf (bookOf (derivedImage c)) start e) start (markOf c (after c m e))
           settles h =
               let D : Book = derivedBook c in
               let F : Snap = markOf c (after c m e) in
-              let q : snapOf (matchingOf c m .snapshot .marks) ≡ markOf c m = rw matches (fun-ext (marks-at c m)) in
-              subst (λ (b : Book). Settled (netOf b) (actsOf b (snapOf (matchingOf c m .snapshot .marks)) e) (snapOf (matchingOf c m .snapshot .marks)) F) (sym said)
-              (subst (λ (S : Snap). Settled (netOf D) (actsOf D S e) S F) (sym q) (derived-settled c fit m e h))
+              let q : start ≡ markOf c m = rw matches (fun-ext (marks-at c m)) in
+              subst (λ (b : Book). Settled (netOf b e) (actsOf b start e) start F) (sym said)
+              (subst (λ (S : Snap). Settled (netOf D e) (actsOf D S e) S F) (sym q) (derived-settled c fit m e h))
 
       -- after the step, granted or refused, they match again, and the marking is fit
       pub fit-again : FitMarking (c .count) (executing c m e r .marking)
@@ -185,43 +187,52 @@ pub record Agrees (c : FlatChart) (l : List ℕ) (m : Marking) (e r : ℕ) : Typ
   pub matches : Permits (rolesOf c e) r → completing (derivedImage c) l (matchingOf c m .snapshot) e .snapshot ≡ matchingOf c (executing c m e r .marking) .snapshot
   pub refuses : (Permits (rolesOf c e) r → ⊥) → e < c .count → executing c m e r ≡ refusing notPermitted 0 m
 
--- along the steps, each an event and a role, from each marking to the next
-abbrev pub Alike : FlatChart → List ℕ → Marking → List (ℕ × ℕ) → Type 0
+-- along the steps, each an event and a role, from each marking to the next, where `l` gives the order of each stage
+abbrev pub Alike : FlatChart → (ℕ → List ℕ) → Marking → List (ℕ × ℕ) → Type 0
 Alike c l m [] = Unit {0}
-Alike c l m (s ∷ steps) = Agrees c l m (s .0) (s .1) × Alike c l (executing c m (s .0) (s .1) .marking) steps
+Alike c l m (s ∷ steps) = Agrees c (l (s .0)) m (s .0) (s .1) × Alike c l (executing c m (s .0) (s .1) .marking) steps
 
-pub alike : (c : FlatChart) → Fit c → (l : List ℕ) → order.Fit (rulesOf (derivedImage c)) l → (m : Marking) → FitMarking (c .count) m → (steps : List (ℕ × ℕ)) → Alike c l m steps
+pub alike : (c : FlatChart) → Fit c → (l : ℕ → List ℕ) → ((e : ℕ) → e < c .count → order.Fit (rulesOf (derivedImage c) e) (l e)) → (m : Marking) → FitMarking (c .count) m
+    → (steps : List (ℕ × ℕ)) → Alike c l m steps
 alike c t l f m k [] = tt
 alike c t l f m k (s ∷ steps) = (
-  record { grants = same-grants c t m k l f (s .0) (s .1); matches = match-again c t m k l f (s .0) (s .1); refuses = forbids c t m k l f (s .0) (s .1) },
-  alike c t l f (executing c m (s .0) (s .1) .marking) (fit-again c t m k l f (s .0) (s .1)) steps,
+  record {
+    grants = same-grants c t m k (s .0) (s .1) (l (s .0)) (f (s .0));
+    matches = match-again c t m k (s .0) (s .1) (l (s .0)) (f (s .0));
+    refuses = forbids c t m k (s .0) (s .1) (l (s .0)) (f (s .0));
+  },
+  alike c t l f (executing c m (s .0) (s .1) .marking) (fit-again c t m k (s .0) (s .1) (l (s .0)) (f (s .0))) steps,
 )
 
 -- ---- through the calls
 
--- The book that derive writes into room, and the order that check writes for it into more room, as far as they are written.
+-- The book that derive writes into room, and the order that check writes for it and a stage into more room, as far as they are written.
 abbrev pub written : FlatChart → List ℕ → List ℕ
 written c bytes = take (length (derivedImage c)) (derivedRoom c bytes)
 
-abbrev pub ordered : List ℕ → List ℕ → List ℕ
-ordered book room = take (rulesIn book) (checkedRoom book room)
+abbrev pub ordered : List ℕ → List ℕ → ℕ → List ℕ
+ordered book room stage = take (countedRules (rulesOf book stage)) (checkedRoom book stage room)
 
 pub record Demand2 (c : FlatChart) (bytes room : List ℕ) : Type 0 where
   -- deriving is granted, and what it writes is the derived book's image
   pub derives : derivingAnswer c (length bytes) ≡ granted
   pub writes : written c bytes ≡ derivedImage c
-  -- the check passes it
-  pub passes : checking (written c bytes) (length room) ≡ granted
-  -- from any fit marking and its matching snapshot, along any sequence of steps, in the order that the check wrote
+  -- the check passes it for the stage of each event
+  pub passes : (e : ℕ) → e < c .count → checking (written c bytes) e (length room) ≡ granted
+  -- from any fit marking and its matching snapshot, along any sequence of steps, each in the order that the check writes for its stage
   pub agrees : (m : Marking) → FitMarking (c .count) m → (steps : List (ℕ × ℕ)) → Alike c (ordered (written c bytes) room) m steps
 
-pub demand-2 : (c : FlatChart) → Fit c → (bytes room : List ℕ) → length (derivedImage c) ≤ length bytes → rulesIn (derivedImage c) ≤ length room → Demand2 c bytes room
+-- given room for the book, and for the order of each stage
+pub demand-2 : (c : FlatChart) → Fit c → (bytes room : List ℕ) → length (derivedImage c) ≤ length bytes
+    → ((e : ℕ) → e < c .count → countedRules (rulesOf (derivedImage c) e) ≤ length room) → Demand2 c bytes room
 demand-2 c t bytes room h k =
     let g = granted-bytes c t bytes h in
-    let p : checking (derivedImage c) (length room) ≡ granted = derived-passes c t (length room) k in
+    let p : (e : ℕ) → e < c .count → checking (derivedImage c) e (length room) ≡ granted = λ e i. derived-passes c t e (length room) (rw (stages-are c t) i) (k e i) in
+    let f : (e : ℕ) → e < c .count → order.Fit (rulesOf (derivedImage c) e) (ordered (derivedImage c) room e) =
+    λ e i. written-fit (derivedImage c) e room (ap (λ (a : Answer). a .code) (p e i)) in
     record {
       derives = g .0;
       writes = g .1;
       passes = rw (g .1) p;
-      agrees = λ m f steps. rw (g .1) (alike c t (ordered (derivedImage c) room) (written-fit (derivedImage c) room (ap (λ (a : Answer). a .code) p)) m f steps);
+      agrees = λ m n steps. rw (g .1) (alike c t (ordered (derivedImage c) room) f m n steps);
     }

@@ -1,5 +1,5 @@
 -- The settled examples P1 to P12 as rows under one theorem. Assumes nothing.
-use Prim.Native.Nat.{ℕ, _≤_, _<_}
+use Prim.Native.Nat.{ℕ, zero, suc, _≤_, _<_}
 use mathlib.Core.Path.{_≡_, refl, sym, ap, ap₂, subst, _∙_}
 use mathlib.Core.Bool.{true, false}
 use mathlib.Core.List.{List, [], _∷_}
@@ -11,6 +11,7 @@ use Rattle.paper.specs.Limits.{maxEvents, maxMarks, conditionWanting, includeEx
 use Rattle.paper.specs.Limits as limit
 use Rattle.paper.specs.Answers.{answer, granted, refusal}
 use Rattle.paper.specs.declared.Answer.{Answer}
+use Rattle.general.specs.Below.{tally}
 use Rattle.sets.specs.Set.{has}
 use Rattle.general.specs.Tables.{zeros-at}
 use Rattle.graph.specs.Chart.{rolesOf, Fit, FitMarking}
@@ -31,8 +32,10 @@ use Rattle.general.specs.Lists.{flat}
 use Rattle.book.specs.Image.{stagesIn, rulesIn}
 use Rattle.book.specs.ImageOf.{image-length, book-of-image}
 use Rattle.book.specs.declared.Snapshot.{Snapshot}
-use Rattle.rule_order.specs.Rules.{netOf}
-use Rattle.rule_order.specs.Nets.{count-is}
+use Rattle.order_theory.specs.Order as Order
+use Rattle.order_theory.specs.Order.{countedRules}
+use Rattle.rule_order.specs.Rules.{counted, netOf}
+use Rattle.rule_order.specs.Nets.{rulesOf}
 use Rattle.derived.specs.Derived.{derivedBook}
 use Rattle.deriver.specs.Deriving.{derivedImage, derivingAnswer}
 use Rattle.deriver.specs.Matching.{matchingMarks, matchingOf}
@@ -41,15 +44,15 @@ use Rattle.deriver.specs.Examples as deriver
 use Rattle.listing.specs.Text.{listingText}
 use Rattle.listing.specs.Examples.{paperText, paper-listing}
 use Rattle.judge.specs.Checking.{checking}
-use Rattle.judge.specs.Examples.{p9, p10, p9-loop, p10-pass, p10-clash}
+use Rattle.judge.specs.Examples.{p9, p10, pair as pairBook, p9-loop, p10-pass, p10-clash, pair-pass, pair-loop}
 use Rattle.runner.specs.Table.{Passes, Answered}
 use Rattle.runner.specs.Table as table
 use Rattle.runner.specs.Completing.{completing}
-use Rattle.runner.specs.Completion.{Open, granted-only}
+use Rattle.runner.specs.Completion.{Open, granted-only, completes, written-fit}
 use Rattle.runner.specs.Examples as runner
 use Rattle.runner.specs.declared.Completion.{Completion}
 use Rattle.promises.specs.Matching.{matched, marks-whole}
-use Rattle.promises.specs.Demand2.{stages-are, Alike, written, ordered, Demand2, demand-2}
+use Rattle.promises.specs.Demand2.{derived-passes, stages-are, Alike, written, ordered, Demand2, demand-2}
 use Rattle.promises.specs.Demand1.{demand-1}
 
 -- ---- P1 to P3, of what reading the paper's chart gives
@@ -74,26 +77,26 @@ module _ (r : Reading) where
     -- "P3: then 1: 238, finished."
     pub p3 : (executing (r .chart) after0 1 0 .answer ≡ granted) × Worth after1 238 × (finishing (r .chart) after1 ≡ record { answer = granted; yes = true })
 
-  -- the same by completions of a book along an order, from the snapshot that matching gives
-  module _ (book order : List ℕ) where
+  -- the same by completions of a book along an order of each stage, from the snapshot that matching gives
+  module _ (book : List ℕ) (order : ℕ → List ℕ) where
     abbrev pub snapshot0 : Snapshot
     snapshot0 = matchingOf (r .chart) (r .marking) .snapshot
 
     abbrev pub snapshot1 : Snapshot
-    snapshot1 = completing book order snapshot0 0 .snapshot
+    snapshot1 = completing book (order 0) snapshot0 0 .snapshot
 
     pub record OnBook : Type 0 where
       -- P1: stage 1 is closed
-      pub p1 : completing book order snapshot0 1 ≡ record { answer = refusal stageClosed; snapshot = snapshot0 }
+      pub p1 : completing book (order 1) snapshot0 1 ≡ record { answer = refusal stageClosed; snapshot = snapshot0 }
       -- P2: completing stage 0
-      pub p2 : (completing book order snapshot0 0 .answer ≡ granted) × (worth (snapshot1 .marks) ≡ 119)
+      pub p2 : (completing book (order 0) snapshot0 0 .answer ≡ granted) × (worth (snapshot1 .marks) ≡ 119)
       -- P3: then stage 1
-      pub p3 : (completing book order snapshot1 1 .answer ≡ granted) × (worth (completing book order snapshot1 1 .snapshot .marks) ≡ 238)
+      pub p3 : (completing book (order 1) snapshot1 1 .answer ≡ granted) × (worth (completing book (order 1) snapshot1 1 .snapshot .marks) ≡ 238)
 
-  -- the book that derive writes into `bytes`, in the order that check writes into `room`
+  -- the book that derive writes into `bytes`, in the orders that check writes into `room`
   pub record ByBook (bytes room : List ℕ) : Type 0 where
     pub derives : derivingAnswer (r .chart) (length bytes) ≡ granted
-    pub passes : checking (written (r .chart) bytes) (length room) ≡ granted
+    pub passes : (checking (written (r .chart) bytes) 0 (length room) ≡ granted) × (checking (written (r .chart) bytes) 1 (length room) ≡ granted)
     pub runs : OnBook (written (r .chart) bytes) (ordered (written (r .chart) bytes) room)
 
 pub record Rows : Type 0 where
@@ -102,9 +105,9 @@ pub record Rows : Type 0 where
   pub book : derivedBook paperChart ≡ paperBook
   -- and its listing is the paper's text, byte for byte
   pub listing : listingText wholeChart ≡ paperText
-  -- P1 to P3 of the chart, and of the book, given room for its 162 bytes and its 10 rules
+  -- P1 to P3 of the chart, and of the book, given room for its 162 bytes and for the 7 of its 10 rules that count for each stage
   pub onChart : OnChart (reading wholeChart)
-  pub byBook : (bytes room : List ℕ) → 162 ≤ length bytes → 10 ≤ length room → ByBook (reading wholeChart) bytes room
+  pub byBook : (bytes room : List ℕ) → 162 ≤ length bytes → 7 ≤ length room → ByBook (reading wholeChart) bytes room
   -- "P4: an event that is its own response is pending after it ran."
   pub p4 : executing (pair none (set none 0 1) none) (marking 0 0 1) 0 0 ≡ granting (marking 1 1 1)
   -- "P5: an excluded, unexecuted condition doesn't block. P6: nor an excluded pending milestone."
@@ -115,14 +118,18 @@ pub record Rows : Type 0 where
   -- "P8: node 3 includes that group, excludes node 1: code 9, places 2, 0."
   pub p8 : reading conflictChart ≡ refused (answer includeExclude 2 0)
   -- "P9: one stage, one mark, "if not mark 0, set mark 0" alone: 25, place 0."
-  pub p9 : checking p9 1 ≡ answer loopFound 0 0
+  pub p9 : checking p9 0 1 ≡ answer loopFound 0 0
   -- "P10: set and clear mark 1 on completions of 0 and 1 pass; both on 0: 26, places 0, 1."
-  pub p10 : (checking (p10 0 1) 2 ≡ granted) × (checking (p10 0 0) 2 ≡ answer limit.clash 0 1)
+  pub p10 : (checking (p10 0 1) 0 1 ≡ granted) × (checking (p10 0 1) 1 1 ≡ granted) × (checking (p10 0 0) 0 2 ≡ answer limit.clash 0 1)
+  -- request (ii): "on completion of A if b, set c" beside "on completion of B if c, set b": A and B are 0 and 1, b and c are 2 and 3; it passes for A and for B
+  pub pairPasses : (checking (pairBook 1 1) 0 1 ≡ granted) × (checking (pairBook 1 1) 1 1 ≡ granted)
+  -- and without the trigger of the second rule: 25, place b, whichever stage is asked for, one that it has not too
+  pub pairLoops : (checking (pairBook 0 0) 0 2 ≡ answer loopFound 2 0) × (checking (pairBook 0 0) 1 2 ≡ answer loopFound 2 0) × (checking (pairBook 0 0) 2 0 ≡ answer loopFound 2 0)
   -- "P11: no rules, empty order, open stage: same snapshot.": of every such book
   pub p11 : (s : List ℕ) → Passes s → rulesIn s ≡ 0 → (snapshot : Snapshot) (stage : ℕ) → Open s snapshot stage
       → completing s [] snapshot stage ≡ record { answer = granted; snapshot = snapshot }
   -- "P12: a rule listed twice: 27.": in every order of every book that passes
-  pub p12 : (s order : List ℕ) (i j : ℕ) → Passes s → i < j → j < length order → getD order i 0 ≡ getD order j 0 → (snapshot : Snapshot) (stage : ℕ)
+  pub p12 : (s order : List ℕ) (i j : ℕ) → Passes s → i < j → j < length order → getD order i 0 ≡ getD order j 0 → (snapshot : Snapshot) (stage : ℕ) → stage < stagesIn s
       → completing s order snapshot stage ≡ record { answer = refusal orderUnfit; snapshot = snapshot }
 
 -- ---- P1 to P3, computed on the chart that the bytes give
@@ -142,17 +149,13 @@ on-chart =
 book-is : derivedBook (reading wholeChart .chart) ≡ paperBook
 book-is = ap (λ (r : Reading). derivedBook (r .chart)) whole-is ∙ deriver.examples .book
 
--- 0 is granted
-zero-granted : (s l : List ℕ) (snapshot : Snapshot) (stage : ℕ) → completing s l snapshot stage .answer .code ≡ 0 → completing s l snapshot stage .answer ≡ granted
-zero-granted s l snapshot stage e = go (completing s l snapshot stage .answer) (demand-1 .complete s l snapshot stage) e
-  where
-    go : (a : Answer) → Answered s l (snapshot .marks) stage a → a .code ≡ 0 → a ≡ granted
-    go a (table.refused b c n) z = absurd (n z)
-    go a (table.unfit p n) z = absurd (omega arith)
-    go a (table.above p f m i h x) z = absurd (omega arith)
-    go a (table.nowhere p f b h) z = absurd (omega arith)
-    go a (table.closed p f b h x) z = absurd (omega arith)
-    go a (table.completed p f b h x) z = refl
+-- 0 is granted, and the snapshot is whole again
+zero-granted : (s l : List ℕ) (snapshot : Snapshot) (stage : ℕ) → length (snapshot .marks) ≡ maxMarks → completing s l snapshot stage .answer .code ≡ 0
+    → (completing s l snapshot stage .answer ≡ granted) × (length (completing s l snapshot stage .snapshot .marks) ≡ maxMarks)
+zero-granted s l snapshot stage w e =
+    let (p, f, o) = granted-only s l snapshot stage w e in
+    let d = completes s p snapshot stage o l f in
+    (d .granted, d .whole)
 
 -- a closed stage, whole
 closed-kept : (s l : List ℕ) (snapshot : Snapshot) (stage : ℕ) → Answered s l (snapshot .marks) stage (refusal stageClosed)
@@ -164,7 +167,7 @@ closed-kept s l snapshot stage row =
     made : Answer → Snapshot → Completion
     made x y = record { answer = x; snapshot = y }
 
-module _ (bytes room : List ℕ) (h : 162 ≤ length bytes) (k : 10 ≤ length room) where
+module _ (bytes room : List ℕ) (h : 162 ≤ length bytes) (k : 7 ≤ length room) where
   abbrev c : FlatChart
   c = reading wholeChart .chart
 
@@ -177,14 +180,19 @@ module _ (bytes room : List ℕ) (h : 162 ≤ length bytes) (k : 10 ≤ length r
   fits : Fit c × FitMarking (c .count) m
   fits = reading-fit wholeChart (ap (λ (r : Reading). r .answer .code) whole-is)
 
+  -- seven rules count for each of the two stages
+  seven : (e : ℕ) → e < c .count → countedRules (rulesOf s e) ≤ length room
+  unfolding netOf counted tally
+  seven zero i = rw (book-of-image (derivedBook c), book-is) k
+  seven (suc zero) i = rw (book-of-image (derivedBook c), book-is) k
+  seven (suc (suc e)) i = absurd (let two : c .count ≡ 2 = ap (λ (r : Reading). r .chart .count) whole-is in omega arith)
+
   met : Demand2 c bytes room
-  unfolding netOf
   met =
       let b : length s ≡ 162 = image-length (derivedBook c) ∙ rw book-is in
-      let n : rulesIn s ≡ 10 = sym (count-is s) ∙ rw (book-of-image (derivedBook c), book-is) in
-      demand-2 c (fits .0) bytes room (rw b h) (rw n k)
+      demand-2 c (fits .0) bytes room (rw b h) seven
 
-  abbrev l : List ℕ
+  abbrev l : ℕ → List ℕ
   l = ordered (written c bytes) room
 
   -- along 0 and then 1, by role 0, since the chart names none
@@ -194,35 +202,47 @@ module _ (bytes room : List ℕ) (h : 162 ≤ length bytes) (k : 10 ≤ length r
   anyone : (e : ℕ) → Permits (rolesOf c e) 0
   anyone e = record { known = omega arith; open-or-named = inl (ap (λ (r : Reading). rolesOf (r .chart) e) whole-is ∙ zeros-at maxEvents e) }
 
-  matched1 : completing s l (matchingOf c m .snapshot) 0 .snapshot ≡ matchingOf c (after0 (reading wholeChart)) .snapshot
+  matched1 : completing s (l 0) (matchingOf c m .snapshot) 0 .snapshot ≡ matchingOf c (after0 (reading wholeChart)) .snapshot
   matched1 = along .0 .matches (anyone 0)
 
-  granted0 : completing s l (matchingOf c m .snapshot) 0 .answer .code ≡ 0
+  granted0 : completing s (l 0) (matchingOf c m .snapshot) 0 .answer .code ≡ 0
   granted0 = along .0 .grants (anyone 0) .0 (ap (λ (a : Answer). a .code) (on-chart .0 .p2 .0))
 
-  granted1 : completing s l (completing s l (matchingOf c m .snapshot) 0 .snapshot) 1 .answer .code ≡ 0
+  granted1 : completing s (l 1) (completing s (l 0) (matchingOf c m .snapshot) 0 .snapshot) 1 .answer .code ≡ 0
   granted1 = rw matched1 (along .1 .0 .grants (anyone 1) .0 (ap (λ (a : Answer). a .code) (on-chart .0 .p3 .0)))
 
-  closed : completing s l (matchingOf c m .snapshot) 1 ≡ record { answer = refusal stageClosed; snapshot = matchingOf c m .snapshot }
+  start-whole : length (matchingOf c m .snapshot .marks) ≡ maxMarks
+  start-whole = rw (matched c m (fits .0) (fits .1)) (marks-whole c (fits .0 .few) m)
+
+  closed : completing s (l 1) (matchingOf c m .snapshot) 1 ≡ record { answer = refusal stageClosed; snapshot = matchingOf c m .snapshot }
   closed =
-      let w : length (matchingOf c m .snapshot .marks) ≡ maxMarks = rw (matched c m (fits .0) (fits .1)) (marks-whole c (fits .0 .few) m) in
-      let (p, f, o) = granted-only s l (matchingOf c m .snapshot) 0 w granted0 in
+      let (p, _, o) = granted-only s (l 0) (matchingOf c m .snapshot) 0 start-whole granted0 in
       let two : c .count ≡ 2 = ap (λ (r : Reading). r .chart .count) whole-is in
-      let known : 1 < stagesIn s = omega (arith, stages-are c (fits .0) m (fits .1)) in
-      closed-kept s l (matchingOf c m .snapshot) 1 (table.closed p f (o .belongs) known (on-chart .1))
+      let known : 1 < stagesIn s = omega (arith, stages-are c (fits .0)) in
+      let g : Order.Fit (rulesOf s 1) (ordered s room 1) =
+      written-fit s 1 room (ap (λ (a : Answer). a .code) (derived-passes c (fits .0) 1 (length room) known (seven 1 (omega arith)))) in
+      let f : Order.Fit (rulesOf s 1) (l 1) = subst (λ (b : List ℕ). Order.Fit (rulesOf s 1) (ordered b room 1)) (sym (met .writes)) g in
+      closed-kept s (l 1) (matchingOf c m .snapshot) 1 (table.closed p known f (o .belongs) (on-chart .1))
 
   on-book : OnBook (reading wholeChart) s l
   on-book =
-      let u : Snapshot = completing s l (matchingOf c m .snapshot) 0 .snapshot in
-      let next : completing s l u 1 .snapshot ≡ matchingOf c (after1 (reading wholeChart)) .snapshot = rw matched1 (along .1 .0 .matches (anyone 1)) in
+      let first = zero-granted s (l 0) (matchingOf c m .snapshot) 0 start-whole granted0 in
+      let u : Snapshot = completing s (l 0) (matchingOf c m .snapshot) 0 .snapshot in
+      let next : completing s (l 1) u 1 .snapshot ≡ matchingOf c (after1 (reading wholeChart)) .snapshot = rw matched1 (along .1 .0 .matches (anyone 1)) in
       record {
         p1 = closed;
-        p2 = (zero-granted s l (matchingOf c m .snapshot) 0 granted0, ap (λ (x : Snapshot). worth (x .marks)) matched1 ∙ on-chart .0 .p2 .1 .1);
-        p3 = (zero-granted s l u 1 granted1, ap (λ (x : Snapshot). worth (x .marks)) next ∙ on-chart .0 .p3 .1 .1);
+        p2 = (first .0, ap (λ (x : Snapshot). worth (x .marks)) matched1 ∙ on-chart .0 .p2 .1 .1);
+        p3 = (zero-granted s (l 1) u 1 (first .1) granted1 .0, ap (λ (x : Snapshot). worth (x .marks)) next ∙ on-chart .0 .p3 .1 .1);
       }
 
   by-book : ByBook (reading wholeChart) bytes room
-  by-book = record { derives = met .derives; passes = met .passes; runs = subst (λ (b : List ℕ). OnBook (reading wholeChart) b l) (sym (met .writes)) on-book }
+  by-book =
+      let two : c .count ≡ 2 = ap (λ (r : Reading). r .chart .count) whole-is in
+      record {
+        derives = met .derives;
+        passes = (met .passes 0 (omega arith), met .passes 1 (omega arith));
+        runs = subst (λ (b : List ℕ). OnBook (reading wholeChart) b l) (sym (met .writes)) on-book;
+      }
 
 pub rows : Rows
 rows =
@@ -238,7 +258,9 @@ rows =
       p7 = (examples.examples .p7-granted, examples.examples .p7-conditions);
       p8 = examples.examples .p8;
       p9 = p9-loop;
-      p10 = (p10-pass .0, p10-clash);
+      p10 = (p10-pass .0, p10-pass .1, p10-clash .0);
+      pairPasses = (pair-pass .0, pair-pass .1);
+      pairLoops = pair-loop;
       p11 = runner.p11;
       p12 = runner.p12;
     }
