@@ -392,14 +392,20 @@ def sound_small():
                        Rule(BECOME_YES, 2, CLEAR, 0, 4, 1, 5)], [(0, 2), (2, 3)], [3, NOT, 3, 4, OR])
 
 
-def passing(book):
-    """The check of a book that has no fault, with room just enough."""
-    return GRANTED, check_request(len(book.rules), book_image(book))
+def passing(book, stage=0):
+    """The check of a book that has no fault, with room just enough for the stage's rules."""
+    return GRANTED, check_request(len(model.counted(book, stage)), stage, book_image(book))
+
+
+def stageless(book):
+    """A book without stages passes for none, whatever its rules and its room."""
+    assert book.stages == 0
+    return plain(29), check_request(len(book.rules), 0, book_image(book))
 
 
 def both_calls(rng, answer, image, rules):
     """The check and a completion give codes 20 to 26 alike."""
-    yield answer, check_request(rng.choice((0, rules, rules + 3)), image)
+    yield answer, check_request(rng.choice((0, rules, rules + 3)), rng.choice((0, 1, 2, 64, HUGE)), image)
     snapshot = random_snapshot(rng, rng.choice((8, 256)))
     order = [rng.randrange(rules + 2) for _ in range(rng.choice((0, rules, rules + 1)))]
     yield answer, complete_request(rng.choice((0, 1, 64, HUGE)), snapshot, order, image)
@@ -411,7 +417,7 @@ def of_text(rng, answer, words, marks):
     if answer != GRANTED:
         yield from both_calls(rng, answer, image, 1)
     else:
-        yield answer, check_request(1, image)
+        yield answer, check_request(1, 0, image)
         yield answer, complete_request(0, [True] + random_snapshot(rng, marks)[1:], [0], image)
 
 
@@ -498,11 +504,11 @@ def condition_causes(rng):
     yield from of_text(rng, GRANTED, sixteen + [AND, 0] * 9 + [AND] * 15, marks)  # sixteen again and again
     yield from of_text(rng, plain(24, 0), sixteen + [NOT, 0, AND] + [AND] * 15, marks)
     # words that lie in no condition
-    yield passing(Book(0, 1, [], [(1, 1)], [AND, 0, 60000, 65532]))
-    yield passing(Book(0, 0, [], [], [AND, 0, 60000, 65532]))
+    yield passing(Book(1, 1, [], [(1, 1)], [AND, 0, 60000, 65532]))
+    yield stageless(Book(0, 0, [], [], [AND, 0, 60000, 65532]))
     yield from both_calls(rng, plain(24, 0), book_image(Book(0, 0, [], [(0, 1)], [0])), 0)
     # overlapping, nested, equal
-    yield passing(Book(0, 5, [], [(0, 5), (0, 1), (1, 1), (1, 2), (0, 4), (0, 5)], [3, 4, NOT, OR, NOT]))
+    yield passing(Book(1, 5, [], [(0, 5), (0, 1), (1, 1), (1, 2), (0, 4), (0, 5)], [3, 4, NOT, OR, NOT]))
     parts = Book(0, 5, [], [(0, 4), (0, 1), (1, 2), (2, 2)], [3, 4, NOT, OR])
     yield from both_calls(rng, plain(24, 3), book_image(parts), 0)
 
@@ -518,13 +524,10 @@ def loop_causes(rng):
             yield from case(plain(25, 2), 1, 3, [Rule(trigger, 0, effect, 0, 2, 0, 2)])
             yield from case(plain(25, 1), 1, 3, [Rule(trigger, 0, effect, 0, 2, 0, 1), Rule(trigger, 0, effect, 0, 1, 0, 2)])
             chain = [Rule(trigger, 0, effect, 0, 2, 0, 1), Rule(trigger, 0, effect, 0, 1, 0, 0)]
-            yield passing(Book(0, 3, chain, [], []))
+            yield passing(Book(1, 3, chain, [], []))
     # a completion refers to nothing: no loop, though stage 0 is targeted
     yield passing(Book(1, 2, [on_completion(0, SET, 1), Rule(0, 1, SET, 0, 0, 0, 0)], [(0, 1)], [1]))
     yield passing(Book(1, 1, [on_completion(0, CLEAR, 0)], [], []))
-    # rules on completions of different stages still make a loop of the whole book
-    yield from case(plain(25, 2), 2, 4, [Rule(COMPLETED, 1, SET, 0, 0, 0, 3), Rule(COMPLETED, 1, SET, 0, 1, 1, 2)],
-                    [(0, 1), (1, 1)], [2, 3])
     # rules that hang off the loop 4, 5: before it (0 to 4) and behind it (5 to 1)
     hanging = [Rule(2, 0, 1, 0, 0, 0, 4), Rule(2, 0, 1, 0, 5, 0, 1), Rule(2, 0, 1, 0, 4, 0, 5), Rule(3, 0, 1, 0, 5, 0, 4),
                Rule(3, 0, 1, 0, 1, 0, 2)]
@@ -564,6 +567,101 @@ def loop_causes(rng):
                 rules, opened = rules + hanging, opened + hanging
                 yield from case(plain(25, 256 - length), 1, 256, rng.sample(rules, len(rules)), texts, marks)
                 yield passing(Book(1, 256, rng.sample(opened, len(opened)), texts, list(marks)))
+
+
+def on_if(stage, condition, target, effect=SET, sense=1):
+    """On the completion of a stage, under a condition."""
+    return Rule(COMPLETED, sense, effect, 0, stage, condition, target)
+
+
+def bare(rule):
+    """The rule without its trigger."""
+    return rule._replace(trigger=0, number=0)
+
+
+def of_ten_marks(stages, rules):
+    """A book of ten marks in which condition m is mark m."""
+    return Book(stages, 10, rules, [(mark, 1) for mark in range(10)], list(range(10)))
+
+
+def pass_for_all(rng, book):
+    """The check and a completion of each stage, and the check of the one past the last."""
+    for stage in range(book.stages):
+        yield passing(book, stage)
+        snapshot = [mark < book.stages or mark < book.marks and rng.random() < 0.5 for mark in range(256)]
+        yield GRANTED, complete_request(stage, snapshot, model.running_order(book, stage), book_image(book))
+    yield plain(29), check_request(MAX_ROOM_NUMBERS, book.stages, book_image(book))
+
+
+def loop_for_all(rng, mark, book):
+    """25 and its place do not depend on the stage asked for, nor on whether there is such a stage."""
+    image, rules = book_image(book), len(book.rules)
+    for stage in list(range(book.stages)) + [book.stages, HUGE]:
+        yield plain(25, mark), check_request(rng.choice((0, rules)), stage, image)
+        order = rng.choice((model.counted(book, stage), list(range(rules))))
+        yield plain(25, mark), complete_request(stage, [m < book.marks for m in range(256)], order, image)
+
+
+def stage_loop_causes(rng):
+    """Code 25 within one completion: which rules count for a stage."""
+    # the request's own: A and B are stages 0 and 1, b and c marks 2 and 3
+    a, b = on_if(0, 2, 3), on_if(1, 3, 2)
+    yield from pass_for_all(rng, of_ten_marks(2, [a, b]))
+    yield from pass_for_all(rng, of_ten_marks(2, [b, a]))
+    for pair in ([bare(a), b], [a, bare(b)], [bare(a), bare(b)], [a, b._replace(number=0)], [a._replace(number=1), b]):
+        yield from loop_for_all(rng, 2, of_ten_marks(2, pair))
+        yield from loop_for_all(rng, 2, of_ten_marks(2, pair[::-1]))
+    for kind in (BECOME_YES, BECOME_NO):  # a rule that waits for a mark counts for every stage too
+        yield from loop_for_all(rng, 2, of_ten_marks(2, [a, Rule(kind, 0, SET, 0, 3, 0, 2)]))
+        yield from loop_for_all(rng, 2, of_ten_marks(2, [a, Rule(kind, 1, SET, 0, 9, 3, 2)]))
+        yield from pass_for_all(rng, of_ten_marks(2, [a, b, Rule(kind, 0, SET, 0, 3, 0, 4)]))
+    # three stages around: no two of them meet in one completion; a rule that closes the circle in one of them does
+    around = [on_if(0, 5, 6), on_if(1, 6, 7), on_if(2, 7, 5)]
+    yield from pass_for_all(rng, of_ten_marks(3, around))
+    for stage in range(3):
+        closing = [rule._replace(number=stage) for rule in around]
+        yield from loop_for_all(rng, 5, of_ten_marks(3, closing))
+        yield from pass_for_all(rng, of_ten_marks(3, closing[:2] + [around[2]._replace(number=(stage + 1) % 3)]))
+        yield from loop_for_all(rng, 5, of_ten_marks(3, rng.sample(around + closing, 6)))
+    # a completion's own mark, and completions without a condition, which refer to nothing
+    yield from loop_for_all(rng, 8, of_ten_marks(2, [on_if(1, 8, 8)]))
+    without = [on_completion(0, SET, 2), on_completion(1, SET, 2), on_completion(1, SET, 3)]
+    yield from pass_for_all(rng, of_ten_marks(2, [a] + without))
+
+
+def looping_stage_causes(rng):
+    """Code 25: the lowest mark over all stages, and loops in the last of 64 stages alone."""
+    high, low = [on_if(0, 7, 8), on_if(0, 8, 7)], [on_if(3, 4, 5), on_if(3, 5, 4)]
+    yield from loop_for_all(rng, 7, of_ten_marks(4, high))
+    yield from loop_for_all(rng, 4, of_ten_marks(4, high + low))
+    yield from loop_for_all(rng, 4, of_ten_marks(4, low + high))
+    yield from loop_for_all(rng, 2, of_ten_marks(4, low + high + [Rule(BECOME_YES, 0, SET, 0, 2, 0, 2)]))
+    yield from loop_for_all(rng, 4, of_ten_marks(4, low + [Rule(BECOME_YES, 0, SET, 0, 9, 0, 9)]))
+    # rules that hang off: a mark of another stage's completion leads into the loop and is lower, but on none
+    yield from loop_for_all(rng, 7, of_ten_marks(4, high + [on_if(1, 8, 6), on_if(0, 6, 5), on_if(2, 5, 7), on_if(0, 4, 7)]))
+    ring = [on_if(63, m, m + 1) for m in range(8)]
+    yield from pass_for_all(rng, of_ten_marks(10, [rule._replace(number=p) for p, rule in enumerate(ring + [on_if(0, 8, 0)])]))
+    wide = of_ten_marks(64, ring + [on_if(63, 8, 0)])._replace(marks=256)
+    for stage in (0, 1, 62, 63, 64):
+        yield plain(25, 0), check_request(9, stage, book_image(wide))
+        yield passing(wide._replace(rules=ring + [on_if(62, 8, 0)]), min(stage, 63))
+
+
+def whole_book_causes(rng):
+    """Without stages there is no loop, and every check gives 29. Clashes stay over the whole book, whatever stage is asked for."""
+    for trigger in (BECOME_YES, BECOME_NO):
+        yield stageless(Book(0, 3, [Rule(trigger, 0, SET, 0, 2, 0, 2)], [], []))
+    alone = Book(0, 1, [without_trigger(2, 0, SET, 0)], [(0, 1)], [0])
+    yield stageless(alone)
+    for order in ([], [0], [0, 0]):
+        yield plain(29), complete_request(0, [False] * 256, order, book_image(alone))
+    clash = Book(0, 1, [Rule(0, 0, SET, 0, 0, 0, 0), Rule(0, 0, CLEAR, 0, 0, 0, 0)], [], [])
+    yield plain(26, 0, 1), check_request(0, 0, book_image(clash))
+    for first, second in ((on_if(0, 5, 4), on_if(0, 6, 4, CLEAR)), (on_completion(0, SET, 4), bare(on_if(0, 6, 4, CLEAR)))):
+        fight = book_image(of_ten_marks(2, [on_if(1, 3, 2), on_if(0, 2, 3), first, second]))
+        for stage in (0, 1, 2):
+            yield plain(26, 2, 3), check_request(0, stage, fight)
+            yield plain(26, 2, 3), complete_request(stage, [True] * 256, [0], fight)
 
 
 def clash_causes(rng):
@@ -610,53 +708,68 @@ def clash_causes(rng):
 
 
 def order_causes(rng):
-    """Codes 27 to 31 in their order, on a sound book."""
+    """Codes 29, 27, 28 and 30 in their order, on a sound book. Rules 0, 2, 3 count for stage 0, rules 1, 2, 3 for 1, rules 2, 3 for 2."""
     book = sound_small()
-    image, order = book_image(book), [0, 1, 2, 3]
+    image, orders = book_image(book), ([0, 2, 3], [1, 2, 3], [2, 3])
     opened = [True] * 8 + [False] * 248
-    for wrong in ([], [0], [0, 1, 2], [0, 1, 2, 3, 3], [0, 1, 2, 3, 4],  # another length
-                  [0, 1, 2, 2], [0, 0, 2, 3], [0, 1, 2, 4], [0, 1, 2, 65535], [0, 1, 2, 256], [256, 1, 2, 3],
-                  [0, 1, 3, 2], [2, 0, 1, 3], [0, 2, 1, 3], [3, 2, 1, 0], [1, 2, 0, 3]):
-        yield plain(27), complete_request(rng.choice((0, 3, HUGE)), rng.choice((opened, [True] * 256)), wrong, image)
-    for right in (order, [1, 0, 2, 3]):
-        for stage in range(3):
-            yield GRANTED, complete_request(stage, opened, right, image)
+    for stage, wrongs in ((0, ([], [0], [0, 2], [0, 2, 3, 3], [0, 2, 3, 4], [0, 2, 2], [0, 0, 3], [0, 2, 4], [0, 2, 65535], [256, 2, 3],
+                               [0, 3, 2], [2, 0, 3], [3, 2, 0],
+                               [0, 1, 2, 3], [1, 0, 2, 3], [0, 2, 3, 1], [1, 2, 3], [2, 3], [0, 1, 2], [0, 2, 1], [0, 1, 3])),
+                          (1, ([0, 1, 2, 3], [0, 2, 3], [2, 3], [1, 2, 0], [1, 3, 2], [1, 2, 3, 0], [1, 1, 2, 3])),
+                          (2, ([0, 1, 2, 3], [0, 2, 3], [1, 2, 3], [2, 3, 0], [2, 1], [0, 1], [3, 2], [2], []))):
+        for wrong in wrongs:
+            yield plain(27), complete_request(stage, rng.choice((opened, [True] * 256, [False] * 256)), wrong, image)
+        yield GRANTED, complete_request(stage, opened, orders[stage], image)
     for mark in (8, 9, 63, 64, 128, 254, 255):
         snapshot = list(opened)
         snapshot[mark] = True
-        yield plain(28), complete_request(rng.choice((0, 3, HUGE)), snapshot, order, image)
+        stage = rng.randrange(3)
+        snapshot[stage] = rng.random() < 0.5  # before 30
+        yield plain(28), complete_request(stage, snapshot, orders[stage], image)
     for stage in (3, 4, 63, 64, 255, 256, 65536, 65536 + 1, 70000, 1 << 31, HUGE):
-        yield plain(29), complete_request(stage, opened, order, image)
-        yield plain(29), complete_request(stage, [False] * 256, order, image)
+        for order in ([2, 3], [0, 1, 2, 3], []):  # before 27 and 28
+            yield plain(29), complete_request(stage, rng.choice((opened, [True] * 256)), order, image)
+        yield plain(29), complete_request(stage, [False] * 256, [2, 3], image)
     for stage in range(3):
         closed = [mark != stage and mark < 8 for mark in range(256)]
-        yield plain(30), complete_request(stage, closed, order, image)
+        yield plain(30), complete_request(stage, closed, orders[stage], image)
     empty = book_image(Book(1, 1, [], [], []))
     yield GRANTED, complete_request(0, [True] + [False] * 255, [], empty)  # P11
     yield plain(27), complete_request(0, [True] + [False] * 255, [0], empty)
     pair = book_image(Book(2, 2, [on_completion(0, SET, 1), on_completion(1, CLEAR, 1)], [], []))
     yield plain(27), complete_request(0, [True] + [False] * 255, [0, 0], pair)  # P12
+    yield plain(27), complete_request(0, [True] + [False] * 255, [0, 1], pair)
+    yield GRANTED, complete_request(0, [True] + [False] * 255, [0], pair)
     for book in (Book(0, 0, [], [], []), Book(0, 255, [], [], []), Book(0, 256, [], [], []),
                  Book(0, 3, [Rule(2, 0, 1, 0, 0, 0, 1)], [], [])):
-        order = list(range(len(book.rules)))
-        yield passing(book)
-        yield plain(29), complete_request(0, [False] * 256, order, book_image(book))
-        if book.marks < 256:
-            yield plain(28), complete_request(0, [mark == book.marks for mark in range(256)], order, book_image(book))
+        for order in (list(range(len(book.rules))), [0, 1]):
+            yield plain(29), complete_request(0, [rng.random() < 0.5] * 256, order, book_image(book))
+        yield stageless(book)
     for stages, marks in ((64, 64), (64, 256), (1, 255), (1, 256), (1, 1)):
         image = book_image(Book(stages, marks, [], [], []))
         everyone = [mark < marks for mark in range(256)]
         yield GRANTED, complete_request(stages - 1, everyone, [], image)
         yield plain(29), complete_request(stages, everyone, [], image)
-    sound = sound_book(rng, rules=12)
-    for room in (0, 1, 11):
-        yield plain(31, 12), check_request(room, book_image(sound))
-    for room in (12, 13, 100):
-        yield GRANTED, check_request(room, book_image(sound))
-    yield GRANTED, check_request(0, empty)
-    yield GRANTED, check_request(5, empty)
+
+
+def order_room_causes(rng):
+    """Codes 29 and 31 of the check: room against what counts for the stage asked for, not against the whole book."""
+    small, lone = sound_small(), Book(2, 8, [on_completion(1, SET, 3)] * 5, [], [])
+    for book, stage in ((small, 0), (small, 2), (lone, 0), (lone, 1), (sound_book(rng, 3, rules=12), rng.randrange(3))):
+        needed, image = len(model.counted(book, stage)), book_image(book)
+        for room in range(needed):
+            yield plain(31, needed), check_request(room, stage, image)
+        for room in (needed, needed + 1, len(book.rules), 100):
+            yield GRANTED, check_request(room, stage, image)
+        for past in (book.stages, book.stages + 1, 64, 65536, 65536 + stage, 1 << 31, HUGE):
+            yield plain(29), check_request(0, past, image)  # before 31
+            yield plain(29), check_request(rng.choice((needed, 100)), past, image)
+    empty = book_image(Book(1, 1, [], [], []))
+    yield GRANTED, check_request(0, 0, empty)
+    yield GRANTED, check_request(5, 0, empty)
     clash = [on_completion(0, SET, 1), on_completion(0, CLEAR, 1)]
-    yield plain(26, 0, 1), check_request(0, book_image(Book(2, 2, clash, [], [])))  # before 31
+    for stage in (0, 1, 2):  # before 29 and 31
+        yield plain(26, 0, 1), check_request(0, stage, book_image(Book(2, 2, clash, [], [])))
 
 
 def pair_causes(rng):
@@ -684,17 +797,20 @@ def pair_causes(rng):
             (plain(24, 0), loop, two_left), (plain(24, 0), clash, two_left), (plain(24, 0), loop + clash, two_left),
             (plain(25, 2), loop + clash, []), (plain(25, 2), clash + loop, []), (plain(25, 2), own_clash, [])):
         yield from both_calls(rng, answer, book_image(Book(1, 3, rules, conditions, [0, 0])), len(rules))
-        yield answer, check_request(0, book_image(Book(1, 3, rules, conditions, [0, 0])))  # before 31
+        for stage in (0, 1):  # before 29 and 31
+            yield answer, check_request(0, stage, book_image(Book(1, 3, rules, conditions, [0, 0])))
 
-    image, order, wrong_order = book_image(sound_small()), [0, 1, 2, 3], [0, 1, 3, 2]
+    image, order, wrong_order = book_image(sound_small()), [0, 2, 3], [0, 3, 2]
     opened, closed = [mark < 8 for mark in range(256)], [False] * 256
     past, past_and_closed = [mark < 9 for mark in range(256)], [mark == 255 for mark in range(256)]
-    for stage in (0, 3, 70000, HUGE):
-        for snapshot in (past, past_and_closed):
-            yield plain(27), complete_request(stage, snapshot, wrong_order, image)
-            yield plain(28), complete_request(stage, snapshot, order, image)
-        yield plain(27), complete_request(stage, closed, wrong_order, image)
-    yield plain(27), complete_request(3, opened, wrong_order, image)
+    for snapshot in (past, past_and_closed):
+        yield plain(27), complete_request(0, snapshot, wrong_order, image)
+        yield plain(28), complete_request(0, snapshot, order, image)
+    yield plain(27), complete_request(0, closed, wrong_order, image)
+    for stage in (3, 70000, HUGE):  # 29 before 27, 28 and 30
+        for snapshot in (opened, closed, past, past_and_closed):
+            for listed in (order, wrong_order, [2, 3], [0, 1, 2, 3]):
+                yield plain(29), complete_request(stage, snapshot, listed, image)
 
 
 def running_order_causes(rng):
@@ -703,13 +819,18 @@ def running_order_causes(rng):
         chain = [Rule(BECOME_YES, 0, SET, 0, m, 0, m + 1) for m in range(length)]
         for rules in (chain, chain[::-1], rng.sample(chain, length), chain[::-1] * 2, rng.sample(chain * 3, 3 * length)):
             book = Book(1, length + 1, rules, [], [])
-            yield GRANTED, check_request(len(rules), book_image(book))
+            yield GRANTED, check_request(len(rules), 0, book_image(book))
             snapshot = [mark == 0 for mark in range(256)]
-            yield GRANTED, complete_request(0, snapshot, model.running_order(book), book_image(book))
+            yield GRANTED, complete_request(0, snapshot, model.running_order(book, 0), book_image(book))
+            # every third rule counts for stage 1 alone: what it would hold up is not held up in stage 0
+            gaps = [on_completion(1, SET, rule.target) if rule.target % 3 == 2 else rule for rule in rules]
+            for stage in (0, 1):
+                yield passing(Book(2, max(2, length + 1), gaps, [], []), stage)
     for _ in range(6):
         book = sound_book(rng, stages=2, marks=14, rules=40)
-        yield passing(book)
-        yield None, complete_request(0, [mark < 14 for mark in range(256)], random_order(rng, book), book_image(book))
+        for stage in (0, 1):
+            yield passing(book, stage)
+            yield GRANTED, complete_request(stage, [mark < 14 for mark in range(256)], random_order(rng, book, stage), book_image(book))
 
 
 def firing_causes(rng):
@@ -734,7 +855,7 @@ def firing_causes(rng):
     # another stage's completion does not fire; a completed stage does not close by itself
     book = Book(2, 4, [on_completion(1, SET, 2), on_completion(0, SET, 3)], [], [])
     for stage in (0, 1):
-        yield GRANTED, complete_request(stage, [True, True] + [False] * 254, [0, 1], book_image(book))
+        yield GRANTED, complete_request(stage, [True, True] + [False] * 254, [1 - stage], book_image(book))
     # a closing rule for the completed stage itself, and a rule that reads a mark settled before it
     rules = [on_completion(0, CLEAR, 0), Rule(BECOME_NO, 0, SET, 0, 0, 0, 1), without_trigger(2, 0, SET, 2)]
     book = Book(1, 3, rules, [(0, 1)], [1])
@@ -756,7 +877,8 @@ def bad_requests(rng):
     yield BAD, whole[0][:-4]  # without the role
     for body in whole:
         yield BAD, body[:-64]  # as long as it was without role bytes
-    yield BAD, check_request(0, b'')[:-1]
+    yield BAD, check_request(0, 0, b'')[:-1]
+    yield BAD, check_request(0, 0, b'')[:5]  # without the stage
     yield BAD, b'\x07'
     yield BAD, b'\x08'
     body = complete_request(0, [False] * 256, [1, 2, 3], b'')
@@ -768,10 +890,10 @@ def request_limits(rng):
     """The longest rooms, order and body, what is just past the first two, and bytes behind the fields, which are not read."""
     chart, start, image = model.empty_chart(1), Marking(set(), set(), {0}), book_image(sound_small())
     yield GRANTED, derive_request(MAX_ROOM_BYTES, chart)
-    yield GRANTED, check_request(MAX_ROOM_NUMBERS, image)
+    yield GRANTED, check_request(MAX_ROOM_NUMBERS, 0, image)
     for past in (1, 65536, HUGE - MAX_ROOM_BYTES):
         yield BAD, derive_request(MAX_ROOM_BYTES + past, chart)
-        yield BAD, check_request(MAX_ROOM_NUMBERS + past, image)
+        yield BAD, check_request(MAX_ROOM_NUMBERS + past, 0, image)
     order = [0] * MAX_ROOM_NUMBERS
     whole = complete_request(0, [True] + [False] * 255, order, image)
     yield plain(27), whole
@@ -820,40 +942,68 @@ def largest_derivings(rng):
 
 
 def largest_derived_book(rng):
+    """64 events: 128 completion rules a stage, and 128 rules without a trigger."""
     chart = random_flat(rng, 64, 1.0)
+    chart.responses[5].discard(5)
     book = model.derived_book(chart)
     image = book_image(book)
-    yield GRANTED, check_request(8384, image)
-    yield plain(31, 8384), check_request(8383, image)
+    for stage in (5, 63):
+        yield passing(book, stage)
+    needed = len(model.counted(book, 5))
+    yield plain(31, needed), check_request(needed - 1, 5, image)
     everyone = set(range(64))
     snapshot = model.matching(chart, Marking(everyone, set(), everyone))[1]
-    yield GRANTED, complete_request(rng.randrange(64), snapshot, model.running_order(book), image)
-    yield plain(27), complete_request(0, snapshot, list(range(8383, -1, -1)), image)
+    stage = rng.randrange(64)
+    yield GRANTED, complete_request(stage, snapshot, model.running_order(book, stage), image)
+    yield plain(27), complete_request(0, snapshot, model.running_order(book, 0)[::-1], image)
+    yield plain(27), complete_request(0, snapshot, list(range(len(book.rules))), image)
 
 
 def largest_hand_made(rng):
     """64 stages, 256 marks, 8,384 rules, 256 conditions, 41,024 words."""
     book = sound_book(rng, 64, 256, 8384, 256, longest=16)
     book = book._replace(words=(book.words + [AND] * 41024)[:41024])
-    yield passing(book)
+    for stage in (0, 63):
+        yield passing(book, stage)
     snapshot = [True] * 64 + random_snapshot(rng, 256)[64:]
-    yield GRANTED, complete_request(63, snapshot, model.running_order(book), book_image(book))
+    yield GRANTED, complete_request(63, snapshot, model.running_order(book, 63), book_image(book))
+
+
+def completions_with_conditions(rng):
+    """64 stages and 8,384 rules, each on a completion and with a condition. Marks are ranked upwards in even stages and downwards in odd
+    ones, so the whole book is one loop; then a rule of one stage goes the other way."""
+    texts = [(mark, 1) for mark in range(256)]
+
+    def rule(p):
+        one, two = sorted(rng.sample(range(256), 2), reverse=p % 2 == 1)
+        return on_if(p % 64, one, two, sense=rng.choice((1, 2)))
+
+    rules = [on_if(0, 6, 7)] + [rule(p) for p in range(1, 8384)]
+    book = Book(64, 256, rules, texts, list(range(256)))
+    snapshot = [True] * 64 + random_snapshot(rng, 256)[64:]
+    for stage in (0, 63):
+        yield passing(book, stage)
+        yield GRANTED, complete_request(stage, snapshot, model.running_order(book, stage), book_image(book))
+    looping = book_image(book._replace(rules=rules[:-1] + [on_if(0, 7, 6)]))
+    lowest = min(model.looping_targets(model.read_book(looping), 0))
+    yield plain(25, lowest), check_request(8384, 63, looping)
+    yield plain(25, lowest), complete_request(1, snapshot, [], looping)
 
 
 def wide_conditions(rng):
     """One condition of 41,024 words; 256 conditions that overlap; many rules on one target."""
     words = [0] + [1, AND, 2, OR] * 10255 + [1, AND, NOT]
-    yield GRANTED, check_request(0, book_image(Book(0, 3, [], [(0, len(words))], words)))
-    yield plain(24, 0), check_request(0, book_image(Book(0, 3, [], [(0, len(words))], words[:-1] + [AND])))
+    yield GRANTED, check_request(0, 0, book_image(Book(1, 3, [], [(0, len(words))], words)))
+    yield plain(24, 0), check_request(0, 0, book_image(Book(1, 3, [], [(0, len(words))], words[:-1] + [AND])))
     words = [0] + [rng.choice((1, 2)), AND] * 255
     spans = [(0, 2 * i + 1) for i in range(256)]
     rng.shuffle(spans)
-    yield passing(Book(0, 3, [], spans, words))
+    yield passing(Book(1, 3, [], spans, words))
     setting = [on_completion(rng.randrange(64), SET, 255) for _ in range(700)]
-    yield passing(Book(64, 256, setting, [], []))
+    yield passing(Book(64, 256, setting, [], []), rng.randrange(64))
     against = setting + [without_trigger(0, 0, CLEAR, 255)]
-    yield plain(26, 0, 700), check_request(701, book_image(Book(64, 256, against, [], [])))
-    yield plain(26, 699, 700), check_request(701, book_image(
+    yield plain(26, 0, 700), check_request(701, 0, book_image(Book(64, 256, against, [], [])))
+    yield plain(26, 699, 700), check_request(701, 0, book_image(
         Book(64, 256, [rule._replace(number=rule.number % 63) for rule in setting[:-1]]
              + [on_completion(63, SET, 255), on_completion(63, CLEAR, 255)], [], [])))
 
@@ -919,6 +1069,7 @@ def listing_causes(rng):
 
 
 CAUSES = (header_causes, node_causes, group_causes, conflict_causes, accepted_charts, charts_with_roles, unfit_causes, step_causes,
-          role_causes, marking_causes, derive_causes, book_header_causes, rule_causes, condition_causes, loop_causes, clash_causes,
-          order_causes, pair_causes, running_order_causes, firing_causes, bad_requests, request_limits, listing_causes)
-LARGEST = (largest_charts, largest_derivings, largest_derived_book, largest_hand_made, wide_conditions)
+          role_causes, marking_causes, derive_causes, book_header_causes, rule_causes, condition_causes, loop_causes, stage_loop_causes,
+          looping_stage_causes, whole_book_causes, clash_causes, order_causes, order_room_causes, pair_causes, running_order_causes,
+          firing_causes, bad_requests, request_limits, listing_causes)
+LARGEST = (largest_charts, largest_derivings, largest_derived_book, largest_hand_made, completions_with_conditions, wide_conditions)

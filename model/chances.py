@@ -142,53 +142,120 @@ def wild_book(rng):
     return Book(stages, marks, rules, conditions, words)
 
 
-def sound_book(rng, stages=None, marks=None, rules=None, conditions=None, longest=6):
-    """A book without loop and clash: targets rank above what a rule refers to, and each target has one way to be apart."""
+def ranks_by_stage(rng, stages, marks, crossed):
+    """A rank of the marks for each stage: mostly one for all, or the lower part of it in another order for each stage."""
+    row = rng.sample(range(marks), marks)
+    part = rng.choice((marks, marks * 2 // 3)) if crossed else rng.choice((0, 0, marks // 2))
+    rows = [rng.sample(row[:part], part) + row[part:] for stage in range(max(1, stages))]
+    return [{mark: place for place, mark in enumerate(row)} for row in rows]
+
+
+def sound_book(rng, stages=None, marks=None, rules=None, conditions=None, longest=None, crossed=False):
+    """A book without loop and clash: in the ranks of each stage that a rule counts for, its target ranks above what it refers to, and
+    each target has one way to be apart. The whole book often has a loop, from one stage's completion to another's and back."""
     stages = rng.choice((1, 2, 3, 5, 8)) if stages is None else stages
     marks = stages + rng.choice((1, 2, 4, 8, 20)) if marks is None else marks
     count = rng.choice((0, 1, 2, 3, 5, 8, 12, 20, 30)) if rules is None else rules
-    rank = list(range(marks))
-    rng.shuffle(rank)
-    low = [m for m in range(marks) if rank[m] < max(1, marks * 2 // 3)]
-    spans, words = random_texts(rng, low, rng.choice((1, 2, 4, 8)) if conditions is None else conditions, longest)
+    ranks = ranks_by_stage(rng, stages, marks, crossed)
+    low = [m for m in range(marks) if ranks[0][m] < max(1, marks * 2 // 3) or crossed]
+    spans, words = random_texts(rng, low, rng.choice((1, 2, 4, 8)) if conditions is None else conditions, longest or rng.choice((1, 2, 6)))
     refers = [{word for word in words[start:start + length] if word < marks} for start, length in spans]
     way = [(rng.choice(('set', 'clear', 'stages', 'record')), rng.randrange(len(spans)),
             [rng.randrange(2) for _ in range(stages)]) for _ in range(marks)]
     made = []
-    while len(made) < count:
-        rule = sound_rule(rng, stages, marks, rank, refers, way)
+    tries = iter(range(100 * count))
+    while len(made) < count and (not crossed or next(tries, None) is not None):  # in crossed ranks there may be no further rule
+        rule = sound_rule(rng, stages, marks, ranks, refers, way)
         if rule:
             made.append(rule)
     return Book(stages, marks, made, spans, words)
 
 
-def sound_rule(rng, stages, marks, rank, refers, way):
+def crossed_book(rng):
+    """A sound book of few stages and marks and many conditions of one mark: it often has a loop over the whole book."""
+    stages = rng.choice((2, 2, 3))
+    return sound_book(rng, stages, stages + rng.choice((1, 2, 4)), rng.choice((8, 12, 20, 30)), 8, 1, crossed=True)
+
+
+def sound_rule(rng, stages, marks, ranks, refers, way):
     """A rule on a random target, or None where the target ranks too low for what the rule would refer to."""
     target = rng.randrange(marks)
     kind, record, effects = way[target]
-    trigger = 1 if kind == 'stages' else rng.choice((0, 1, 2, 3))
+    trigger = 1 if kind == 'stages' else rng.choice((0, 1, 1, 1, 2, 3))
     if trigger == 1 and stages == 0:
         return None
     number = 0 if trigger == 0 else rng.randrange(stages if trigger == 1 else marks)
     sense = rng.choice((1, 2)) if kind == 'record' else rng.choice((0, 1, 2))
     condition = 0 if sense == 0 else record if kind == 'record' else rng.randrange(len(refers))
     marks_used = (refers[condition] if sense else set()) | ({number} if trigger in (2, 3) else set())
-    if any(rank[m] >= rank[target] for m in marks_used):
+    if any(rank[m] >= rank[target] for rank in (ranks[number:number + 1] if trigger == 1 else ranks) for m in marks_used):
         return None
     effect = {'set': 1, 'clear': 0, 'record': sense % 2}.get(kind)
     return Rule(trigger, sense, effects[number] if effect is None else effect, 0, number, condition, target)
 
 
-def random_order(rng, book):
-    """Some fit order: any rule that is ready comes next."""
+def circle_of_completions(rng):
+    """Rules in a circle, each with a condition on the mark that the one before targets. They wait for completions of one stage, of two or
+    more, or some for nothing; now and then one of them is missing, or stands twice for two stages."""
+    stages, length = rng.choice((1, 2, 2, 3, 4)), rng.choice((1, 2, 2, 2, 3, 4, 6))
+    marks = stages + length + rng.randrange(3)
+    ring = rng.sample(range(marks), length)
+    home, stray, bare = rng.randrange(stages), rng.choice((0, 0.3, 0.6)), rng.choice((0, 0.2, 0.5))
+    rules = []
+    for i, target in enumerate(ring):
+        stage = rng.randrange(stages) if rng.random() < stray else home
+        trigger = rng.choice((0, 2)) if rng.random() < bare else 1
+        number = {0: 0, 1: stage, 2: ring[i - 1]}[trigger]
+        rules.append(Rule(trigger, rng.choice((1, 2)), 1, 0, number, (i - 1) % length, target))
+    if rng.random() < 0.3:
+        rules.pop(rng.randrange(length))
+    elif rng.random() < 0.3:
+        rules.append(rng.choice(rules)._replace(trigger=1, number=rng.randrange(stages)))
+    rng.shuffle(rules)
+    return Book(stages, marks, rules, [(i, 1) for i in range(length)], ring)
+
+
+def a_trigger_less(rng, book):
+    """The book with one rule's trigger taken away: the rule then counts for every stage."""
+    rules = list(book.rules)
+    completing = [p for p, rule in enumerate(rules) if rule.trigger == 1]
+    if completing:
+        p = rng.choice(completing)
+        rules[p] = rules[p]._replace(trigger=0, number=0)
+    return book._replace(rules=rules)
+
+
+def a_stage(rng, stages):
+    """A stage to ask for: mostly one that the book has, now and then the first past it or one far off."""
+    return rng.randrange(stages) if stages and rng.random() < 0.85 else rng.choice((stages, stages + 1, 64, 65536, (1 << 32) - 1))
+
+
+def random_order(rng, book, stage):
+    """Some fit order of the stage: any rule that is ready comes next."""
     refers = model.references(book)
-    order, unwritten = [], list(range(len(book.rules)))
+    order, unwritten = [], model.counted(book, stage)
     while unwritten:
         targets = {book.rules[p].target for p in unwritten}
         rule = rng.choice([q for q in unwritten if not refers[q] & targets])
         order.append(rule)
         unwritten.remove(rule)
     return order
+
+
+def with_uncounted(rng, book, order):
+    """A stage's order with one rule too many, or in another's place, that does not count for the stage; where all count, as it was."""
+    order, others = list(order), sorted(set(range(len(book.rules))) - set(order))
+    if others and order and rng.random() < 0.4:
+        order[rng.randrange(len(order))] = rng.choice(others)
+    elif others:
+        order.insert(rng.choice((0, len(order), rng.randrange(len(order) + 1))), rng.choice(others))
+    return order
+
+
+def of_whole_book(rng, book, order):
+    """Every rule once: as they stand, or those of the stage's order first and the others behind them, or before them."""
+    others = sorted(set(range(len(book.rules))) - set(order))
+    return rng.choice((list(range(len(book.rules))), list(order) + others, others + list(order)))
 
 
 def disturbed(rng, order, count):
@@ -242,42 +309,62 @@ def derivings(rng):
 
 def wild_checks(rng):
     book = wild_book(rng)
-    yield check_request(max(0, len(book.rules) + rng.choice((0, 0, 1, 5, -1))), model.book_image(book))
+    stage = a_stage(rng, book.stages)
+    yield check_request(max(0, len(model.counted(book, stage)) + rng.choice((0, 0, 1, 5, -1))), stage, model.book_image(book))
 
 
 def wild_completions(rng):
     book = wild_book(rng)
-    order = list(range(len(book.rules)))
+    stage = a_stage(rng, book.stages)
+    order = model.counted(book, stage)
     rng.shuffle(order)
     snapshot = random_snapshot(rng, rng.choice((book.marks, book.marks, book.marks, 256)))
-    yield complete_request(rng.randrange(book.stages + 1), snapshot, order, model.book_image(book))
+    yield complete_request(stage, snapshot, order, model.book_image(book))
+
+
+def circles(rng):
+    """A circle of rules in one completion, or over several, and the same with one trigger taken away: each stage is asked for."""
+    book = circle_of_completions(rng)
+    for book in (book, a_trigger_less(rng, book)):
+        for stage in range(book.stages):
+            order = model.counted(book, stage)
+            yield check_request(len(order) + rng.choice((0, 1)), stage, model.book_image(book))
+            rng.shuffle(order)
+            snapshot = [mark < book.stages or mark < book.marks and rng.random() < 0.5 for mark in range(256)]
+            yield complete_request(stage, snapshot, order, model.book_image(book))
 
 
 def sound_books(rng):
-    """A sound hand-made book: its check, and completions in the running order, in other fit orders, and in unfit ones."""
-    book = sound_book(rng)
+    """A sound hand-made book: its check for a stage, and completions in the stage's running order, in other fit orders, and in unfit
+    ones, among them orders of another stage and of the whole book. Now and then a trigger is taken away, and it may be sound no more."""
+    book = rng.choice((sound_book, crossed_book))(rng)
     image = model.book_image(book)
-    yield check_request(len(book.rules) + rng.choice((0, 0, 3)), image)
+    stage = a_stage(rng, book.stages)
+    yield check_request(len(model.counted(book, stage)) + rng.choice((0, 0, 3)), stage, image)
+    yield check_request(len(book.rules), stage, model.book_image(a_trigger_less(rng, book)))
     for _ in range(3):
         snapshot = random_snapshot(rng, book.marks)
         opened = [s for s in range(book.stages) if snapshot[s]] or [0]
         stage = rng.choice(opened)
-        yield complete_request(stage, snapshot, model.running_order(book), image)
-        order = random_order(rng, book)
+        yield complete_request(stage, snapshot, model.running_order(book, stage), image)
+        order = random_order(rng, book, stage)
         yield complete_request(stage, snapshot, order, image)
         yield complete_request(stage, snapshot, disturbed(rng, order, len(book.rules)), image)
+        unfit = rng.choice((with_uncounted, with_uncounted, of_whole_book))(rng, book, order)
+        yield complete_request(rng.choice((stage, stage, stage, a_stage(rng, book.stages))), snapshot, unfit, image)
+        yield complete_request(rng.choice(opened), snapshot, order, image)
 
 
 def sound_runs(rng):
-    """Completions of a sound hand-made book one after another, each from the snapshot before it."""
-    book = sound_book(rng)
-    image, order = model.book_image(book), model.running_order(book)
+    """Completions of a sound hand-made book one after another, each from the snapshot before it, in the order of its stage."""
+    book = rng.choice((sound_book, crossed_book))(rng)
+    image, orders = model.book_image(book), [model.running_order(book, stage) for stage in range(book.stages)]
     snapshot = random_snapshot(rng, book.marks)
     for _ in range(rng.randrange(3, 12)):
         opened = [s for s in range(book.stages) if snapshot[s]]
         stage = rng.choice(opened) if opened and rng.random() < 0.9 else rng.randrange(book.stages)
-        yield complete_request(stage, snapshot, order, image)
-        snapshot = model.complete(image, order, snapshot, stage)[1]
+        yield complete_request(stage, snapshot, orders[stage], image)
+        snapshot = model.complete(image, orders[stage], snapshot, stage)[1]
 
 
 def accepted_image(rng):
@@ -309,10 +396,8 @@ def run_of_both(rng, chart, marking, steps_to_go):
     derived = model.derived_book(chart)
     book, rules = model.book_image(derived), len(derived.rules)
     yield derive_request(len(book), chart)
-    yield check_request(rules, book)
-    order = model.check_book(book, [0] * rules)[1]
-    if rules < 100 and rng.random() < 0.3:
-        order = random_order(rng, derived)
+    yield check_request(rules, rng.randrange(chart.count), book)
+    orders, freely = {}, rules < 100 and rng.random() < 0.3
     snapshot = model.matching(chart, marking)[1]
     for _ in range(steps_to_go):
         opened = model.open_events(chart, marking)
@@ -323,8 +408,10 @@ def run_of_both(rng, chart, marking, steps_to_go):
         if not model.is_permitted(chart, event, role):
             assert stepped == (32, 0, 0) and marking == before
             continue
-        yield complete_request(event, snapshot, order, book)
-        completed, snapshot = model.complete(book, order, snapshot, event)
+        if event not in orders:
+            orders[event] = random_order(rng, derived, event) if freely else model.running_order(derived, event)
+        yield complete_request(event, snapshot, orders[event], book)
+        completed, snapshot = model.complete(book, orders[event], snapshot, event)
         assert (stepped[0] in (11, 12, 13) and completed[0] == 30) or stepped == completed == model.GRANTED
         assert snapshot == model.matching(chart, marking)[1]
         if rng.random() < 0.2:
@@ -369,12 +456,11 @@ def listings(rng):
 def damaged_books(rng):
     book = rng.choice((wild_book, sound_book))(rng)
     image = with_bytes_changed(rng, model.book_image(book))
+    stage = rng.randrange(book.stages + 1)
     if rng.random() < 0.5:
-        yield check_request(len(book.rules), image)
+        yield check_request(len(book.rules), stage, image)
     else:
-        snapshot = random_snapshot(rng, book.marks)
-        order = list(range(len(book.rules)))
-        yield complete_request(rng.randrange(book.stages + 1), snapshot, order, image)
+        yield complete_request(stage, random_snapshot(rng, book.marks), model.counted(book, stage), image)
 
 
 def damaged_flats(rng):
@@ -390,5 +476,5 @@ def damaged_flats(rng):
     yield bytes(body) if body[0] == 2 else bytes(body[:-8])
 
 
-SMALL = (charts, wild_checks, wild_completions, sound_books, sound_runs, damaged_charts, badly_flagged, damaged_books, listings)
+SMALL = (charts, wild_checks, wild_completions, circles, sound_books, sound_runs, damaged_charts, badly_flagged, damaged_books, listings)
 WIDE = (steps, derivings, side_by_side, damaged_flats)  # their requests carry a flat chart of 2,628 bytes

@@ -399,26 +399,37 @@ def references(book):
     return refers
 
 
-def rules_on_loops(book):
-    """The rules from which a chain of rules, each before the next, comes back to its start."""
-    referring = [[] for mark in range(256)]
-    for q, marks in enumerate(references(book)):
-        for mark in marks:
-            referring[mark].append(q)
+def counted(book, stage):
+    """For a stage: all rules but those triggered by another stage's completion."""
+    return [p for p, rule in enumerate(book.rules) if not (rule.trigger == COMPLETED and rule.number != stage)]
 
-    @functools.lru_cache(maxsize=None)
-    def chain_from(target):
-        """Every rule that comes after a rule with this target, or after such a rule, and so on."""
-        reached, seen, todo = set(), {target}, [target]
+
+@functools.lru_cache(maxsize=256)
+def marks_reached_back(steps):
+    """Of steps (from, to) between marks: the marks from which some steps lead back."""
+    leads = {}
+    for mark, target in steps:
+        leads.setdefault(mark, set()).add(target)
+
+    def reached(start):
+        seen, todo = set(), [start]
         while todo:
-            for q in referring[todo.pop()]:
-                reached.add(q)
-                if book.rules[q].target not in seen:
-                    seen.add(book.rules[q].target)
-                    todo.append(book.rules[q].target)
-        return reached
+            new = leads.get(todo.pop(), set()) - seen
+            seen |= new
+            todo += new
+        return seen
 
-    return [p for p, rule in enumerate(book.rules) if p in chain_from(rule.target)]
+    left, before = set(leads), None
+    while left != before:  # a mark that leads to none of these is not led back to
+        left, before = {mark for mark in left if not leads[mark].isdisjoint(left)}, left
+    return {mark for mark in left if mark in reached(mark)}
+
+
+def looping_targets(book, stage):
+    """The targets of the rules on a loop: a chain of rules counted for the stage, each before the next, that comes back to its start.
+    A rule leads from each mark that it refers to to its target, so these are the marks that are led back to."""
+    refers = references(book)
+    return marks_reached_back(frozenset((mark, book.rules[q].target) for q in counted(book, stage) for mark in refers[q]))
 
 
 def are_apart(one, two):
@@ -436,10 +447,10 @@ def clashes(book):
             if book.rules[p].effect != book.rules[q].effect and not are_apart(book.rules[p], book.rules[q])]
 
 
-def running_order_as_said(book):
-    """Always the lowest-numbered unwritten rule all of whose predecessors are written."""
+def running_order_as_said(book, stage):
+    """Always the lowest-numbered unwritten rule, of those counted for the stage, all of whose predecessors are written."""
     refers = references(book)
-    order, unwritten = [], list(range(len(book.rules)))
+    order, unwritten = [], counted(book, stage)
     while unwritten:
         unwritten_targets = {book.rules[p].target for p in unwritten}
         lowest = next(q for q in unwritten if not refers[q] & unwritten_targets)
@@ -448,17 +459,18 @@ def running_order_as_said(book):
     return order
 
 
-def running_order_of_long_book(book):
+def running_order_of_long_book(book, stage):
     """The same, with the rules that are ready kept in a heap and a rule made ready by the last mark it waits for."""
+    refers = references(book)
     left = [0] * 256  # of a mark: how many rules with this target are unwritten
-    for rule in book.rules:
-        left[rule.target] += 1
-    waits = [{mark for mark in marks if left[mark]} for marks in references(book)]
+    for p in counted(book, stage):
+        left[book.rules[p].target] += 1
+    waits = {q: {mark for mark in refers[q] if left[mark]} for q in counted(book, stage)}
     waiting = [[] for mark in range(256)]
-    for q, marks in enumerate(waits):
+    for q, marks in waits.items():
         for mark in marks:
             waiting[mark].append(q)
-    ready = [q for q, marks in enumerate(waits) if not marks]
+    ready = [q for q, marks in waits.items() if not marks]
     heapq.heapify(ready)
     order = []
     while ready:
@@ -474,17 +486,18 @@ def running_order_of_long_book(book):
     return order
 
 
-def running_order(book):
-    return running_order_as_said(book) if len(book.rules) <= 100 else running_order_of_long_book(book)
+def running_order(book, stage):
+    return running_order_as_said(book, stage) if len(book.rules) <= 100 else running_order_of_long_book(book, stage)
 
 
-def is_fit_order(book, order):
-    if sorted(order) != list(range(len(book.rules))):
+def is_fit_order(book, stage, order):
+    """Each rule counted for the stage once, no other, and none before one that comes before it."""
+    if sorted(order) != counted(book, stage):
         return False
     refers = references(book)
     unlisted = [0] * 256  # of a mark: how many rules with this target are still to come
-    for rule in book.rules:
-        unlisted[rule.target] += 1
+    for p in order:
+        unlisted[book.rules[p].target] += 1
     for q in order:
         if any(unlisted[mark] for mark in refers[q]):
             return False
@@ -494,22 +507,25 @@ def is_fit_order(book, order):
 
 @functools.lru_cache(maxsize=4)
 def judged_book(image):
-    """Refusals 20 to 26. A book that passes is remembered, as long runs come back to it."""
+    """Refusals 20 to 26. A loop of any stage refuses the book, whichever stage is asked for; clashes are over all rules. A book
+    that passes is remembered, as long runs come back to it."""
     book = read_book(image)
-    refuse_lowest(25, [book.rules[p].target for p in rules_on_loops(book)])
+    refuse_lowest(25, set().union(*[looping_targets(book, stage) for stage in range(book.stages)]))
     refuse_lowest(26, clashes(book))
     return book
 
 
-def check_book(image, room):
+def check_book(image, stage, room):
     """The answer and the room, a list of 16-bit numbers, after the call."""
     try:
         book = judged_book(image)
-        if len(room) < len(book.rules):
-            raise Refused(31, len(book.rules))
+        refuse_if(29, stage >= book.stages)
+        needed = len(counted(book, stage))
+        if len(room) < needed:
+            raise Refused(31, needed)
     except Refused as refused:
         return refused.answer, room
-    return GRANTED, running_order(book) + room[len(book.rules):]
+    return GRANTED, running_order(book, stage) + room[needed:]
 
 
 # ---- Completing a stage
@@ -544,22 +560,26 @@ def fires(book, rule, stage, at_start, now):
     return True
 
 
-def complete(image, order, snapshot, stage):
-    """The answer and the snapshot after the call."""
-    try:
-        book = judged_book(image)
-        refuse_if(27, not is_fit_order(book, order))
-        refuse_if(28, any(snapshot[book.marks:]))
-        refuse_if(29, stage >= book.stages)
-        refuse_if(30, not snapshot[stage])
-    except Refused as refused:
-        return refused.answer, snapshot
+def gone_through(book, order, snapshot, stage):
     now = list(snapshot)
     for p in order:
         rule = book.rules[p]
         if fires(book, rule, stage, snapshot, now):
             now[rule.target] = rule.effect == SET
-    return GRANTED, now
+    return now
+
+
+def complete(image, order, snapshot, stage):
+    """The answer and the snapshot after the call."""
+    try:
+        book = judged_book(image)
+        refuse_if(29, stage >= book.stages)
+        refuse_if(27, not is_fit_order(book, stage, order))
+        refuse_if(28, any(snapshot[book.marks:]))
+        refuse_if(30, not snapshot[stage])
+    except Refused as refused:
+        return refused.answer, snapshot
+    return GRANTED, gone_through(book, order, snapshot, stage)
 
 
 # ---- The program "book listing"
@@ -620,13 +640,14 @@ def settled_examples():
     answer, chart, start = read_chart(PAPER_CHART)
     assert answer == GRANTED and listing(PAPER_CHART) == PAPER_LISTING
     image = book_image(derived_book(chart))
-    answer, order = check_book(image, [0] * 10)
-    assert answer == GRANTED
+    checks = [check_book(image, stage, [0] * 7) for stage in (0, 1)]
+    assert checks == [(GRANTED, [0, 1, 2, 6, 7, 8, 9]), (GRANTED, [3, 4, 5, 6, 7, 8, 9])]
+    orders = [order for answer, order in checks]
     snapshot = matching(chart, start)[1]
     assert worth(snapshot) == 113 and execute(chart, start, 1, 0)[0] == (12, 0, 0)  # P1
-    after, snapshot = execute(chart, start, 0, 0)[1], complete(image, order, snapshot, 0)[1]
+    after, snapshot = execute(chart, start, 0, 0)[1], complete(image, orders[0], snapshot, 0)[1]
     assert worth(matching(chart, after)[1]) == worth(snapshot) == 119  # P2
-    after, snapshot = execute(chart, after, 1, 0)[1], complete(image, order, snapshot, 1)[1]
+    after, snapshot = execute(chart, after, 1, 0)[1], complete(image, orders[1], snapshot, 1)[1]
     assert worth(matching(chart, after)[1]) == worth(snapshot) == 238 and finished(chart, after)[1]  # P3
 
     free = (NONE, INCLUDED)
@@ -643,11 +664,11 @@ def settled_examples():
     assert answer == (9, 2, 0) and chart == empty_chart() and start == empty_marking()  # P8
 
     loop = Book(1, 1, [without_trigger(NEGATED, 0, SET, 0)], [(0, 1)], [0])
-    assert check_book(book_image(loop), [0])[0] == (25, 0, 0)  # P9
+    assert check_book(book_image(loop), 0, [0])[0] == (25, 0, 0)  # P9
     pair = Book(2, 2, [on_completion(0, SET, 1), on_completion(1, CLEAR, 1)], [], [])
-    assert check_book(book_image(pair), [0, 0]) == (GRANTED, [0, 1])
+    assert [check_book(book_image(pair), stage, [7, 7]) for stage in (0, 1)] == [(GRANTED, [0, 7]), (GRANTED, [1, 7])]
     both = book_image(pair._replace(rules=[on_completion(0, SET, 1), on_completion(0, CLEAR, 1)]))
-    assert check_book(both, [0, 0])[0] == (26, 0, 1)  # P10
+    assert check_book(both, 0, [0, 0])[0] == (26, 0, 1)  # P10
     still = [True] + [False] * 255
     assert complete(book_image(Book(1, 1, [], [], [])), [], still, 0) == (GRANTED, still)  # P11
     assert complete(book_image(pair), [0, 0], still, 0)[0] == (27, 0, 0)  # P12
@@ -656,7 +677,7 @@ def settled_examples():
         assert read_chart(chart_image([free] * count, []))[0] == code
     for held, code in ((16, GRANTED), (17, (24, 0, 0))):
         deep = Book(1, 1, [], [(0, 2 * held - 1)], [0] * held + [AND] * (held - 1))
-        assert check_book(book_image(deep), [])[0] == code
+        assert check_book(book_image(deep), 0, [])[0] == code
 
 
 def role_examples():
@@ -680,19 +701,46 @@ def role_examples():
     assert read_chart(chart_image([(NONE, 1 + byte(1)), (0, 4)], []))[0] == (6, 0, 0)
 
 
+def stage_examples():
+    """The request's two rules: marks A, B, b, c are 0 to 3; condition 0 is b, condition 1 is c."""
+    def on_if(stage, condition, target):
+        return Rule(COMPLETED, AS_WRITTEN, SET, 0, stage, condition, target)
+
+    two = Book(2, 4, [on_if(0, 0, 3), on_if(1, 1, 2)], [(0, 1), (1, 1)], [2, 3])
+    assert [check_book(book_image(two), stage, [9, 9]) for stage in (0, 1)] == [(GRANTED, [0, 9]), (GRANTED, [1, 9])]
+    assert check_book(book_image(two), 2, [])[0] == (29, 0, 0) and check_book(book_image(two), 1, [])[0] == (31, 1, 0)
+    for taken in (0, 1):  # without its trigger, the rule counts for the other one's stage
+        rules = [rule._replace(trigger=NO_TRIGGER, number=0) if p == taken else rule for p, rule in enumerate(two.rules)]
+        for stage in (0, 1, 2):
+            assert check_book(book_image(two._replace(rules=rules)), stage, [])[0] == (25, 2, 0)
+    open_both = [True, True, True] + [False] * 253
+    after = complete(book_image(two), [0], open_both, 0)
+    assert after[0] == GRANTED and worth(after[1]) == 15
+    assert complete(book_image(two), [0, 1], open_both, 0)[0] == (27, 0, 0)
+    assert complete(book_image(two), [0, 1], open_both, 2)[0] == (29, 0, 0)
+    none = Book(0, 1, [Rule(BECOME_YES, NO_CONDITION, SET, 0, 0, 0, 0)], [], [])  # no stage, so no loop
+    assert check_book(book_image(none), 0, [])[0] == (29, 0, 0)
+
+
 def orders_agree():
-    """Small random books without a loop get one running order from both functions that make it."""
+    """Small random books without a loop, also over all rules, get one running order from both functions that make it."""
     rng = random.Random(1)
     for _ in range(500):
         rank = rng.sample(range(12), 12)
         rules = []
         for _ in range(rng.randrange(60)):
             one, two, target = sorted(rng.sample(range(12), 3), key=lambda mark: rank[mark])
-            rules.append(rng.choice((on_completion(0, SET, target), without_trigger(AS_WRITTEN, one, SET, target),
+            rules.append(rng.choice((on_completion(rng.randrange(2), SET, target), without_trigger(AS_WRITTEN, one, SET, target),
                                      Rule(BECOME_YES, NO_CONDITION, SET, 0, one, 0, target),
+                                     Rule(COMPLETED, AS_WRITTEN, SET, 0, rng.randrange(2), one, target),
                                      Rule(BECOME_NO, NEGATED, SET, 0, one, two, target))))
-        book = Book(1, 12, rules, [(mark, 1) for mark in range(12)], list(range(12)))
-        assert running_order_of_long_book(book) == running_order_as_said(book)
+        book = Book(2, 12, rules, [(mark, 1) for mark in range(12)], list(range(12)))
+        for stage in (0, 1):
+            order = running_order_of_long_book(book, stage)
+            assert order == running_order_as_said(book, stage)
+            # going through all rules, as before the request, ends alike: those left out for a stage do not fire when it is completed
+            snapshot, by_rank = [rng.random() < 0.5 for mark in range(256)], sorted(range(len(rules)), key=lambda p: rank[rules[p].target])
+            assert gone_through(book, order, snapshot, stage) == gone_through(book, by_rank, snapshot, stage)
 
 
 if __name__ == '__main__':
@@ -702,5 +750,6 @@ if __name__ == '__main__':
     else:
         settled_examples()
         role_examples()
+        stage_examples()
         orders_agree()
         print('the settled examples hold')

@@ -65,8 +65,8 @@ def derive_request(room, chart):
     return b'\x06' + bytes32(room) + flat_bytes(chart)
 
 
-def check_request(room, image):
-    return b'\x07' + bytes32(room) + image
+def check_request(room, stage, image):
+    return b'\x07' + bytes32(room) + bytes32(stage) + image
 
 
 def complete_request(stage, snapshot, order, image):
@@ -130,7 +130,7 @@ def line_for(body):
     if operation == 6:
         return derive_line(body) if len(body) >= 5 + FLAT_BYTES else BAD
     if operation == 7:
-        return check_line(body) if len(body) >= 5 else BAD
+        return check_line(body) if len(body) >= 9 else BAD
     if operation == 8:
         return complete_line(body) if len(body) >= 41 else BAD
     if operation == LISTING:
@@ -172,10 +172,10 @@ def derive_line(body):
 
 
 def check_line(body):
-    count = model.number32(body, 1)
+    count, stage = model.number32(body, 1), model.number32(body, 5)
     if count > MAX_ROOM_NUMBERS:
         return BAD
-    answer, room = model.check_book(body[5:], [FILL * 257] * count)
+    answer, room = model.check_book(body[9:], stage, [FILL * 257] * count)
     return line('check', answer, [zlib.adler32(b''.join(bytes16(p) for p in room))])
 
 

@@ -1,4 +1,5 @@
-// Reads a rule book from standard input, checks it, and prints the answer, and of a book that passes the counts and the running order.
+// Reads a stage's number (32 bits) and a rule book from standard input, checks the book for the stage, and prints the answer, and of a
+// book that passes the counts and that stage's running order.
 ghost use Prim.Native.Nat.{_<_, _≤_};
 ghost use Rattle.paper.specs.Limits.{maxRules};
 ghost use Rattle.judge.specs.Checking.{CheckPasses};
@@ -12,8 +13,12 @@ use paper::RULE_SIZE;
 use paper::WORD_SIZE;
 use printing::ROOM;
 
-// The longest book image, and one byte more, which shows a longer input for what it is.
-const INPUT: usize = BOOK_HEADER
+// The bytes of the stage's number.
+const STAGE: usize = 4;
+
+// The stage, the longest book image, and one byte more, which shows a longer input for what it is.
+const INPUT: usize = STAGE
+    + BOOK_HEADER
     + RULE_SIZE * MAX_RULES
     + CONDITION_SIZE * MAX_CONDITIONS
     + WORD_SIZE * MAX_WORDS
@@ -23,7 +28,7 @@ fn wide(n: u16) -> u64 {
     n as u64
 }
 
-// The numbers of the running order, behind the word `order`.
+// The first numbers of the room, which are the running order, behind the word `order`.
 fn order_line(buffer: &mut [u8; ROOM], at: usize, order: &[u16; MAX_RULES], rules: usize) -> usize
     requires { ⌜ (at < 4096) × (rules ≤ maxRules) ⌝ }
     ensures { λ r. ⌜ r < 4096 ⌝ }
@@ -38,8 +43,14 @@ fn order_line(buffer: &mut [u8; ROOM], at: usize, order: &[u16; MAX_RULES], rule
 }
 
 // What is printed of a book that passes, behind the answer.
-fn passed_lines(buffer: &mut [u8; ROOM], at: usize, book: &[u8], order: &[u16; MAX_RULES]) -> usize
-    requires { ⌜ (at < 4096) × (CheckPasses (now book) maxRules) ⌝ }
+fn passed_lines(
+    buffer: &mut [u8; ROOM],
+    at: usize,
+    book: &[u8],
+    stage: u32,
+    order: &[u16; MAX_RULES],
+) -> usize
+    requires { ⌜ (at < 4096) × (CheckPasses (now book) stage maxRules) ⌝ }
     ensures { λ r. ⌜ r < 4096 ⌝ }
 {
     let h = book::header::counts_at(book);
@@ -52,24 +63,30 @@ fn passed_lines(buffer: &mut [u8; ROOM], at: usize, book: &[u8], order: &[u16; M
         h.conditions,
         h.words,
     );
-    order_line(buffer, a, order, h.rules as usize)
+    let counted = rule_order::counted::counted_rules(book, h.rules as usize, stage);
+    order_line(buffer, a, order, counted)
 }
 
-fn report(book: &[u8]) {
+fn report(book: &[u8], stage: u32) {
     let mut order = [0u16; MAX_RULES];
-    let answer = judge::check(book, &mut order);
+    let answer = judge::check(book, stage, &mut order);
     let mut buffer = [0u8; ROOM];
     let at = printing::answer(&mut buffer, 0, b"checked", answer);
     if answer.code != 0 {
         printing::finish(buffer, at);
         return;
     }
-    let end = passed_lines(&mut buffer, at, book, &order);
+    let end = passed_lines(&mut buffer, at, book, stage, &order);
     printing::finish(buffer, end);
 }
 
 fn main() {
     let mut input = [0u8; INPUT];
     let n = io::read_full(STDIN_FILENO, &mut input);
-    report(&input[..n]);
+    if n < STAGE {
+        report(b"", 0);
+        return;
+    }
+    let stage = wire::u32_at(&input, 0);
+    report(&input[STAGE..n], stage);
 }

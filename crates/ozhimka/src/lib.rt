@@ -106,10 +106,10 @@ pub extern "C" fn ozhimka_derive(chart: FlatChart, room: &mut [u8]) -> Answer
 }
 
 #[no_mangle]
-pub extern "C" fn ozhimka_check(book: &[u8], room: &mut [u16]) -> Answer
-    ensures { λ r. ⌜ (r ≡ checking (now (book .entry)) (length (now (room .entry)))) × (now (room .exit) ≡ checkedRoom (now (book .entry)) (now (room .entry))) ⌝ }
+pub extern "C" fn ozhimka_check(book: &[u8], stage: u32, room: &mut [u16]) -> Answer
+    ensures { λ r. ⌜ (r ≡ checking (now (book .entry)) stage (length (now (room .entry)))) × (now (room .exit) ≡ checkedRoom (now (book .entry)) stage (now (room .entry))) ⌝ }
 {
-    judge::check(book, room)
+    judge::check(book, stage, room)
 }
 
 #[no_mangle]

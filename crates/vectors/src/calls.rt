@@ -95,17 +95,18 @@ pub fn derive(body: &[u8], line: &mut [u8; LINE]) -> usize {
     show::number(line, at, adler::of_bytes(&room, n))
 }
 
-// The book is all that follows the room's size.
+// The book is all that follows the room's size and the stage.
 pub fn check(body: &[u8], line: &mut [u8; LINE]) -> usize {
-    if body.len() < FIELDS + 4 {
+    if body.len() < FIELDS + 8 {
         return show::bad_request(line);
     }
     let n = wire::u32_at(body, FIELDS) as usize;
     if MAX_NUMBERS < n {
         return show::bad_request(line);
     }
+    let stage = wire::u32_at(body, FIELDS + 4);
     let mut room = [FILL_NUMBER; MAX_NUMBERS];
-    let answer = rooms::check(&body[FIELDS + 4..], &mut room, n);
+    let answer = rooms::check(&body[FIELDS + 8..], stage, &mut room, n);
     let at = show::answer(line, b"check", answer);
     show::number(line, at, adler::of_numbers(&room, n))
 }

@@ -29,17 +29,17 @@ pub fn derive(chart: FlatChart, room: &mut [u8; MAX_BYTES], n: usize) -> Answer
     derive_part(chart, room, n)
 }
 
-fn check_part(book: &[u8], room: &mut [u16], n: usize) -> Answer
+fn check_part(book: &[u8], stage: u32, room: &mut [u16], n: usize) -> Answer
     requires { ⌜ n ≤ length (now room) ⌝ }
 {
-    judge::check(book, &mut room[..n])
+    judge::check(book, stage, &mut room[..n])
 }
 
-// Checks into the first n numbers.
-pub fn check(book: &[u8], room: &mut [u16; MAX_NUMBERS], n: usize) -> Answer
+// Checks for a stage, into the first n numbers.
+pub fn check(book: &[u8], stage: u32, room: &mut [u16; MAX_NUMBERS], n: usize) -> Answer
     requires { ⌜ n ≤ 10000 ⌝ }
 {
-    check_part(book, room, n)
+    check_part(book, stage, room, n)
 }
 
 fn complete_part(book: &[u8], order: &[u16], n: usize, snapshot: Snapshot, stage: u32) -> Completion

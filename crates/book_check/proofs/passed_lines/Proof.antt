@@ -1,6 +1,6 @@
 -- `book_check::passed_lines` meets its contract. Assumes nothing.
 use borrow.Author.Needs.{needs}
-use Rattle.book_check.proofs.Passing.{few-rules}
+use Rattle.book_check.proofs.Passing.{rules-said, few-rules}
 use Rattle.book_check.proofs.passed_lines.Statement.{statement}
 use Rattle.book_check.proofs.passed_lines.Tie as tie
 
@@ -11,5 +11,6 @@ passed-lines-spec =
     (λ c κs. search needs)
     (λ c κs. search needs)
     (λ c. search needs)
+    (λ c κs. search rules-said)
     (λ c κs. search few-rules)
     (λ c. search needs))
