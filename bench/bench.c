@@ -16,11 +16,11 @@ static const double ROUND_SECONDS = 0.004;
 
 static uint8_t image[CHART_BYTES], book[BOOK_BYTES], room[BOOK_BYTES];
 static uint16_t order[ORDER_NUMBERS], numbers[ORDER_NUMBERS];
-static size_t image_length, book_length, rules;
+static size_t image_length, book_length, ordered; // how many rules the order has: those that count for the stage
 static struct flat_chart chart;
 static struct marking marking;
 static struct snapshot snapshot;
-static const uint32_t event = 1, role = 1;
+static const uint32_t event = 1, role = 1; // the event is the stage that is checked and completed, too
 
 // the same chart, marking and snapshot under the library's names
 static struct ozhimka_chart own_chart;
@@ -79,10 +79,10 @@ static void plain_5(void) { plain_out.settled = plain_matching(chart, marking); 
 static void own_5(void) { own_out.settled = ozhimka_matching(own_chart, own_marking); }
 static void plain_6(void) { plain_out.answer = plain_derive(chart, room, sizeof room); }
 static void own_6(void) { own_out.answer = ozhimka_derive(own_chart, room, sizeof room); }
-static void plain_7(void) { plain_out.answer = plain_check(book, book_length, numbers, ORDER_NUMBERS); }
-static void own_7(void) { own_out.answer = ozhimka_check(book, book_length, numbers, ORDER_NUMBERS); }
-static void plain_8(void) { plain_out.settled = plain_complete(book, book_length, order, rules, snapshot, event); }
-static void own_8(void) { own_out.settled = ozhimka_complete(book, book_length, order, rules, own_snapshot, event); }
+static void plain_7(void) { plain_out.answer = plain_check(book, book_length, event, numbers, ORDER_NUMBERS); }
+static void own_7(void) { own_out.answer = ozhimka_check(book, book_length, event, numbers, ORDER_NUMBERS); }
+static void plain_8(void) { plain_out.settled = plain_complete(book, book_length, order, ordered, snapshot, event); }
+static void own_8(void) { own_out.settled = ozhimka_complete(book, book_length, order, ordered, own_snapshot, event); }
 
 // ---- whether both results are the same, field by field, since the bytes between fields may be any
 
@@ -238,6 +238,16 @@ static struct times print_row(const struct call *call, const char *input, const 
     return now;
 }
 
+// The order of the loaded book's stage; the check says how many rules count for it where it gets no room.
+static void load_order(void)
+{
+    struct answer needed = plain_check(book, book_length, event, order, 0);
+    ordered = needed.place;
+    if (needed.code != 31 || plain_check(book, book_length, event, order, ORDER_NUMBERS).code != 0)
+        abort();
+    share();
+}
+
 // Loads a chart and its book. Every event was executed and none is pending, so that all are open and every call is granted.
 static void load_chart(size_t (*write)(uint8_t *, uint32_t), uint32_t n)
 {
@@ -248,20 +258,16 @@ static void load_chart(size_t (*write)(uint8_t *, uint32_t), uint32_t n)
     marking = (struct marking){all, 0, all};
     snapshot = plain_matching(chart, marking).snapshot;
     plain_derive(chart, book, sizeof book);
-    rules = book[8] | (size_t)book[9] << 8;
+    size_t rules = book[8] | (size_t)book[9] << 8;
     book_length = 32 + 10 * rules + 8 * n + 2 * (book[16] | (size_t)book[17] << 8);
-    plain_check(book, book_length, order, ORDER_NUMBERS);
-    share();
+    load_order();
 }
 
 static void load_book(size_t (*write)(uint8_t *))
 {
     book_length = write(book);
-    rules = ORDER_NUMBERS;
     memset(&snapshot, 1, sizeof snapshot);
-    if (plain_check(book, book_length, order, ORDER_NUMBERS).code != 0)
-        abort();
-    share();
+    load_order();
 }
 
 static void print_charts(const char *input, size_t (*write)(uint8_t *, uint32_t))
@@ -292,5 +298,6 @@ int main(void)
     print_charts("sparse", sparse_chart);
     print_books("largest book, layered", layered_book);
     print_books("largest book, one mark", paired_book);
+    print_books("largest book, completions", staged_book);
     return 0;
 }

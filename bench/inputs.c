@@ -108,6 +108,15 @@ static uint8_t *put_rule(uint8_t *at, uint32_t set, uint32_t condition, uint32_t
     return put16(put16(put16(at + 4, 0), condition), target);
 }
 
+// The same on the completion of a stage.
+static uint8_t *put_completion(uint8_t *at, uint32_t stage, uint32_t set, uint32_t condition, uint32_t target)
+{
+    uint8_t *end = put_rule(at, set, condition, target);
+    at[0] = 1;
+    put16(at + 4, stage);
+    return end;
+}
+
 // Words of condition c: the whole text divided as evenly as it goes.
 static uint32_t words_before(uint32_t c)
 {
@@ -152,5 +161,15 @@ size_t paired_book(uint8_t *book)
     uint8_t *at = put_book_header(book);
     for (uint32_t p = 0; p < RULES; p++)
         at = put_rule(at, p % 2, 0, 0);
+    return (size_t)(put_conditions(at) - book);
+}
+
+size_t staged_book(uint8_t *book)
+{
+    uint8_t *at = put_book_header(book);
+    for (uint32_t p = 0; p < RULES; p++) {
+        uint32_t stage = p % STAGES, target = p / STAGES * (MARKS - 1) / (RULES / STAGES); // never mark 255, as above
+        at = put_completion(at, stage, stage % 2, target, target);
+    }
     return (size_t)(put_conditions(at) - book);
 }

@@ -21,4 +21,8 @@ size_t layered_book(uint8_t *book);
 // The largest book again, where all rules set and clear one mark, so that every pair has to be compared. Gives its length.
 size_t paired_book(uint8_t *book);
 
+// The worst book for the search for loops: the largest again, every rule on a completion and with a condition, 131 rules to each of the 64
+// stages. A stage's rules come in an order in which each has to wait for the next ones. Gives its length.
+size_t staged_book(uint8_t *book);
+
 #endif

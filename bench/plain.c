@@ -485,35 +485,124 @@ static struct answer read_book(const uint8_t *image, size_t length, struct book 
 
 // ---- loops and clashes
 
-// The lowest mark on a loop, or MAX_MARKS. Only marks that are referred to, and that a referring rule targets, can be on one.
-static uint32_t lowest_looping(const struct book *book)
+// A search over the marks: row[m] is what the rules that target m refer to.
+struct search {
+    struct marks row[MAX_MARKS], referring, fresh, open; // targets of rules that refer; marks not yet visited, and those on the way here
+};
+
+static void refer(struct search *search, const struct book *book, struct rule rule)
 {
-    struct marks row[MAX_MARKS], referred = {{0}}, referring = {{0}};
-    memset(row, 0, book->marks * sizeof row[0]);
+    if (rule.sense != NO_CONDITION)
+        join(&search->row[rule.target], &book->refers[rule.condition]);
+    if (rule.trigger >= BECOME_YES)
+        add(&search->row[rule.target], rule.number);
+    add(&search->referring, rule.target);
+}
+
+// Whether a loop is met from this mark on.
+static bool leads_to_loop(struct search *search, uint32_t mark)
+{
+    const struct marks *row = &search->row[mark];
+    drop(&search->fresh, mark);
+    add(&search->open, mark);
+    if (meet(row, &search->open))
+        return true;
+    for (uint32_t i = 0; i < 4; i++)
+        for (uint64_t next; (next = row->word[i] & search->fresh.word[i]) != 0;)
+            if (leads_to_loop(search, 64 * i + lowest(next)))
+                return true;
+    drop(&search->open, mark);
+    return false;
+}
+
+// Whether a loop is met from one of these marks on. Only marks that a referring rule targets can be on one.
+static bool finds_loop(struct search *search, struct marks from)
+{
+    search->fresh = search->referring;
+    memset(&search->open, 0, sizeof search->open);
+    for (uint32_t i = 0; i < 4; i++)
+        for (uint64_t next; (next = from.word[i] & search->fresh.word[i]) != 0;)
+            if (leads_to_loop(search, 64 * i + lowest(next)))
+                return true;
+    return false;
+}
+
+// The lowest mark on a loop, where there is one.
+static uint32_t lowest_looping(const struct search *search, uint32_t marks)
+{
+    struct marks reached[MAX_MARKS];
+    memcpy(reached, search->row, marks * sizeof reached[0]);
+    for (uint32_t k = 0; k < marks; k++)
+        for (uint32_t m = 0; m < marks; m++)
+            if (has(&reached[m], k))
+                join(&reached[m], &reached[k]);
+    uint32_t m = 0;
+    while (m < marks && !has(&reached[m], m))
+        m++;
+    return m;
+}
+
+// Rules that wait for a completion and refer to something, by stage: each leads to the next.
+struct chains {
+    uint16_t head[MAX_STAGES], next[MAX_RULES];
+};
+
+// Puts what counts for every stage into the search, and the others into their stage's chain.
+static void begin_search(const struct book *book, struct search *search, struct chains *chains)
+{
+    memset(search->row, 0, book->marks * sizeof search->row[0]);
+    memset(&search->referring, 0, sizeof search->referring);
+    memset(chains->head, 0xFF, sizeof chains->head);
     for (uint32_t p = 0; p < book->rules; p++) {
         struct rule rule = rule_of(book, p);
-        if (rule.sense != NO_CONDITION)
-            join(&row[rule.target], &book->refers[rule.condition]);
-        if (rule.trigger >= BECOME_YES)
-            add(&row[rule.target], rule.number);
-        if (rule.sense != NO_CONDITION || rule.trigger >= BECOME_YES)
-            add(&referring, rule.target);
+        if (rule.trigger == COMPLETED && rule.sense != NO_CONDITION) {
+            chains->next[p] = chains->head[rule.number];
+            chains->head[rule.number] = (uint16_t)p;
+        } else if (rule.trigger >= BECOME_YES || rule.sense != NO_CONDITION) {
+            refer(search, book, rule);
+        }
     }
+}
+
+// The lowest mark on a loop among the rules of this chain and those that count for every stage, or MAX_MARKS. Another loop than those that
+// every stage has goes through a target of the chain. Leaves the search as it was.
+static uint32_t stage_looping(const struct book *book, struct search *search, const struct chains *chains, uint32_t first)
+{
+    struct marks before = search->referring, targets = {{0}}, kept[MAX_MARKS];
+    for (uint32_t p = first; p != NO_RULE; p = chains->next[p]) {
+        struct rule rule = rule_of(book, p);
+        if (!has(&targets, rule.target))
+            kept[rule.target] = search->row[rule.target];
+        add(&targets, rule.target);
+        refer(search, book, rule);
+    }
+    uint32_t mark = finds_loop(search, targets) ? lowest_looping(search, book->marks) : MAX_MARKS;
+    for (uint32_t i = 0; i < 4; i++)
+        for (uint64_t left = targets.word[i]; left != 0; left &= left - 1)
+            search->row[64 * i + lowest(left)] = kept[64 * i + lowest(left)];
+    search->referring = before;
+    return mark;
+}
+
+// The lowest mark on a loop of any stage, or MAX_MARKS: one search for what counts for every stage, and one more for each stage that has a
+// completion rule with a condition.
+static uint32_t lowest_of_stages(const struct book *book)
+{
+    struct search search;
+    struct chains chains;
+    if (book->stages == 0)
+        return MAX_MARKS;
+    begin_search(book, &search, &chains);
+    struct marks referred = {{0}};
     for (uint32_t m = 0; m < book->marks; m++)
-        join(&referred, &row[m]);
-    uint16_t inner[MAX_MARKS];
-    uint32_t count = 0;
-    for (uint32_t m = 0; m < book->marks; m++)
-        if (has(&referred, m) && has(&referring, m))
-            inner[count++] = (uint16_t)m;
-    for (uint32_t k = 0; k < count; k++)
-        for (uint32_t a = 0; a < count; a++)
-            if (has(&row[inner[a]], inner[k]))
-                join(&row[inner[a]], &row[inner[k]]);
-    for (uint32_t a = 0; a < count; a++)
-        if (has(&row[inner[a]], inner[a]))
-            return inner[a];
-    return MAX_MARKS;
+        join(&referred, &search.row[m]);
+    uint32_t best = finds_loop(&search, referred) ? lowest_looping(&search, book->marks) : MAX_MARKS;
+    for (uint32_t s = 0; s < book->stages; s++)
+        if (chains.head[s] != NO_RULE) {
+            uint32_t mark = stage_looping(book, &search, &chains, chains.head[s]);
+            best = mark < best ? mark : best;
+        }
+    return best;
 }
 
 // Of two rule records as they stand in the image: completions of different stages, or one condition in opposite senses.
@@ -551,7 +640,7 @@ static struct answer judge(const uint8_t *image, size_t length, struct book *boo
     struct answer answer = read_book(image, length, book);
     if (answer.code != 0)
         return answer;
-    uint32_t mark = lowest_looping(book);
+    uint32_t mark = lowest_of_stages(book);
     if (mark < MAX_MARKS)
         return refused(25, mark, 0);
     return first_clash(book);
@@ -559,19 +648,30 @@ static struct answer judge(const uint8_t *image, size_t length, struct book *boo
 
 // ---- the running order
 
-// Which marks still have rules to come.
+// The rules counted for a stage, and which marks still have some of them to come.
 struct progress {
     struct marks unsettled;
-    uint16_t left[MAX_MARKS];
+    uint16_t left[MAX_MARKS], rules[MAX_RULES];
+    uint32_t count;
 };
 
-static void begin(const struct book *book, struct progress *progress)
+static bool counts(struct rule rule, uint32_t stage)
 {
-    memset(progress, 0, sizeof *progress);
+    return rule.trigger != COMPLETED || rule.number == stage;
+}
+
+static void begin(const struct book *book, uint32_t stage, struct progress *progress)
+{
+    memset(&progress->unsettled, 0, sizeof progress->unsettled);
+    memset(progress->left, 0, sizeof progress->left);
+    progress->count = 0;
     for (uint32_t p = 0; p < book->rules; p++) {
-        uint32_t target = get16(book->rules_at + 10 * p + 8);
-        progress->left[target]++;
-        add(&progress->unsettled, target);
+        struct rule rule = rule_of(book, p);
+        if (!counts(rule, stage))
+            continue;
+        progress->rules[progress->count++] = (uint16_t)p;
+        progress->left[rule.target]++;
+        add(&progress->unsettled, rule.target);
     }
 }
 
@@ -591,31 +691,34 @@ static bool settles(struct progress *progress, struct rule rule)
     return true;
 }
 
-struct answer plain_check(const uint8_t *image, size_t length, uint16_t *room, size_t count)
+struct answer plain_check(const uint8_t *image, size_t length, uint32_t stage, uint16_t *room, size_t count)
 {
     struct book book;
     struct answer answer = judge(image, length, &book);
     if (answer.code != 0)
         return answer;
-    if (count < book.rules)
-        return refused(31, book.rules, 0);
+    if (stage >= book.stages)
+        return refused(29, 0, 0);
     struct progress progress;
-    begin(&book, &progress);
-    bool written[MAX_RULES] = {false};
-    uint32_t done = 0, passed = book.rules; // the lowest rule that was passed over
-    for (uint32_t p = 0; done < book.rules; p++) {
-        if (written[p])
+    begin(&book, stage, &progress);
+    if (count < progress.count)
+        return refused(31, progress.count, 0);
+    bool written[MAX_RULES];
+    memset(written, 0, progress.count);
+    uint32_t done = 0, passed = progress.count; // the lowest rule that was passed over
+    for (uint32_t i = 0; done < progress.count; i++) {
+        if (written[i])
             continue;
-        struct rule rule = rule_of(&book, p);
+        struct rule rule = rule_of(&book, progress.rules[i]);
         if (!ready(&book, &progress, rule)) {
-            passed = p < passed ? p : passed;
+            passed = i < passed ? i : passed;
             continue;
         }
-        room[done++] = (uint16_t)p;
-        written[p] = true;
-        if (settles(&progress, rule) && passed < p) {
-            p = passed - 1;
-            passed = book.rules;
+        room[done++] = progress.rules[i];
+        written[i] = true;
+        if (settles(&progress, rule) && passed < i) {
+            i = passed - 1;
+            passed = progress.count;
         }
     }
     return granted;
@@ -623,20 +726,21 @@ struct answer plain_check(const uint8_t *image, size_t length, uint16_t *room, s
 
 // ---- completing a stage
 
-static bool fit_order(const struct book *book, const uint16_t *order, size_t count)
+static bool fit_order(const struct book *book, uint32_t stage, const uint16_t *order, size_t count)
 {
-    if (count != book->rules)
-        return false;
     struct progress progress;
-    begin(book, &progress);
-    bool seen[MAX_RULES] = {false};
+    begin(book, stage, &progress);
+    if (count != progress.count)
+        return false;
+    bool seen[MAX_RULES];
+    memset(seen, 0, book->rules);
     for (size_t i = 0; i < count; i++) {
         uint32_t p = order[i];
         if (p >= book->rules || seen[p])
             return false;
         seen[p] = true;
         struct rule rule = rule_of(book, p);
-        if (!ready(book, &progress, rule))
+        if (!counts(rule, stage) || !ready(book, &progress, rule))
             return false;
         settles(&progress, rule);
     }
@@ -668,11 +772,10 @@ static bool holds(const struct book *book, uint32_t condition, const bool *marks
     return stack & 1;
 }
 
-static bool triggered(struct rule rule, uint32_t stage, const bool *start, const bool *now)
+// Of a rule that counts for the completed stage.
+static bool triggered(struct rule rule, const bool *start, const bool *now)
 {
     switch (rule.trigger) {
-    case COMPLETED:
-        return rule.number == stage;
     case BECOME_YES:
         return !start[rule.number] && now[rule.number];
     case BECOME_NO:
@@ -690,7 +793,11 @@ struct settled plain_complete(const uint8_t *image, size_t length, const uint16_
     settled.answer = judge(image, length, &book);
     if (settled.answer.code != 0)
         return settled;
-    if (!fit_order(&book, order, count)) {
+    if (stage >= book.stages) {
+        settled.answer = refused(29, 0, 0);
+        return settled;
+    }
+    if (!fit_order(&book, stage, order, count)) {
         settled.answer = refused(27, 0, 0);
         return settled;
     }
@@ -699,14 +806,14 @@ struct settled plain_complete(const uint8_t *image, size_t length, const uint16_
             settled.answer = refused(28, 0, 0);
             return settled;
         }
-    if (stage >= book.stages || !snapshot.marks[stage]) {
-        settled.answer = refused(stage >= book.stages ? 29 : 30, 0, 0);
+    if (!snapshot.marks[stage]) {
+        settled.answer = refused(30, 0, 0);
         return settled;
     }
     bool *now = settled.snapshot.marks;
     for (size_t i = 0; i < count; i++) {
         struct rule rule = rule_of(&book, order[i]);
-        if (!triggered(rule, stage, snapshot.marks, now))
+        if (!triggered(rule, snapshot.marks, now))
             continue;
         if (rule.sense != NO_CONDITION && holds(&book, rule.condition, now) != (rule.sense == AS_WRITTEN))
             continue;

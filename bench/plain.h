@@ -59,7 +59,7 @@ struct open_count plain_count_open(struct flat_chart chart, struct marking marki
 struct finish plain_finished(struct flat_chart chart, struct marking marking);
 struct settled plain_matching(struct flat_chart chart, struct marking marking);
 struct answer plain_derive(struct flat_chart chart, uint8_t *room, size_t length);
-struct answer plain_check(const uint8_t *image, size_t length, uint16_t *room, size_t count);
+struct answer plain_check(const uint8_t *image, size_t length, uint32_t stage, uint16_t *room, size_t count);
 struct settled plain_complete(const uint8_t *image, size_t length, const uint16_t *order, size_t count, struct snapshot snapshot,
                               uint32_t stage);
 

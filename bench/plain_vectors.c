@@ -2,11 +2,13 @@
 #include "plain.h"
 
 #include <inttypes.h>
+#include <stdarg.h>
 #include <stdio.h>
 #include <stdlib.h>
 #include <string.h>
 
 enum { MAX_BODY = 262144, MAX_BYTES = 200000, MAX_NUMBERS = 10000, FLAT = 4 + 5 * 64 * 8 + 64, MARKING = 24, FILL = 165 };
+enum { LISTING = 18, LISTED_CHART = 25097, LISTED_BOOK = 49152, AND = 65533, OR = 65534, NOT = 65535 };
 
 static uint8_t body[MAX_BODY];
 
@@ -128,11 +130,11 @@ static bool derive(const uint8_t *at, size_t length)
 
 static bool check(const uint8_t *at, size_t length)
 {
-    if (length < 4 || number(at, 4) > MAX_NUMBERS)
+    if (length < 8 || number(at, 4) > MAX_NUMBERS)
         return false;
     size_t count = number(at, 4);
     uint16_t *numbers = filled(2 * count);
-    say("check", plain_check(at + 4, length - 4, numbers, count));
+    say("check", plain_check(at + 8, length - 8, (uint32_t)number(at + 4, 4), numbers, count));
     uint32_t sum = 1;
     for (size_t i = 0; i < count; i++)
         sum = adler((const uint8_t[]){(uint8_t)numbers[i], (uint8_t)(numbers[i] >> 8)}, 2, sum);
@@ -160,6 +162,68 @@ static bool complete(const uint8_t *at, size_t length)
     return true;
 }
 
+// ---- the listing: what the program book_listing prints, as its length and its sum
+
+static uint32_t listed, listed_sum;
+
+static void list(const char *format, ...)
+{
+    char text[128];
+    va_list values;
+    va_start(values, format);
+    int length = vsnprintf(text, sizeof text, format, values);
+    va_end(values);
+    listed += (uint32_t)length;
+    listed_sum = adler((const uint8_t *)text, (size_t)length, listed_sum);
+}
+
+static unsigned get(const uint8_t *at, int bytes)
+{
+    return (unsigned)number(at, bytes);
+}
+
+static void list_rule(unsigned p, const uint8_t *rule)
+{
+    unsigned when = get(rule + (rule[0] != 0 ? 4 : 6), 2);
+    list("%u %s %u %s %u\n", p, rule[0] != 0 ? "on" : rule[1] == 1 ? "if" : "unless", when, rule[2] == 1 ? "set" : "clear",
+         get(rule + 8, 2));
+}
+
+static void list_condition(unsigned c, const uint8_t *words, unsigned count)
+{
+    list("cond %u:", c);
+    for (unsigned i = 0; i < count; i++) {
+        unsigned word = get(words + 2 * i, 2);
+        list(word == AND ? " and" : word == OR ? " or" : word == NOT ? " not" : " %u", word);
+    }
+    list("\n");
+}
+
+static void list_book(const uint8_t *book)
+{
+    const uint8_t *rules = book + 32, *conditions = book + get(book + 24, 4), *words = book + get(book + 28, 4);
+    list("stages %u marks %u rules %u conditions %u words %u\n", get(book, 4), get(book + 4, 4), get(book + 8, 4), get(book + 12, 4),
+         get(book + 16, 4));
+    for (unsigned p = 0; p < get(book + 8, 4); p++)
+        list_rule(p, rules + 10 * p);
+    for (unsigned c = 0; c < get(book + 12, 4); c++)
+        list_condition(c, words + 2 * get(conditions + 8 * c, 4), get(conditions + 8 * c + 4, 4));
+}
+
+static void listing(const uint8_t *image, size_t length)
+{
+    static uint8_t book[LISTED_BOOK];
+    struct reading reading = plain_read_chart(image, length < LISTED_CHART ? length : LISTED_CHART);
+    struct answer answer = reading.answer.code != 0 ? reading.answer : plain_derive(reading.chart, book, sizeof book);
+    listed = 0;
+    listed_sum = 1;
+    if (answer.code == 0)
+        list_book(book);
+    else
+        list("refused %" PRIu32 " %" PRIu32 " %" PRIu32 "\n", answer.code, answer.place, answer.other);
+    printf("listing %" PRIu32 " %" PRIu32, listed, listed_sum);
+}
+
 static bool serve(const uint8_t *at, size_t length)
 {
     switch (at[0]) {
@@ -174,6 +238,9 @@ static bool serve(const uint8_t *at, size_t length)
         return check(at + 1, length - 1);
     case 8:
         return complete(at + 1, length - 1);
+    case LISTING:
+        listing(at + 1, length - 1);
+        return true;
     default:
         return false;
     }

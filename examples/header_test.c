@@ -1,4 +1,5 @@
-// Tries on the library what the header says of null pointers, of a book's length, of roles, of the words for each code, and of the stack.
+// Tries on the library what the header says of null pointers, of a book's length, of roles, of stages, of the words for each code, and of
+// the stack.
 // Prints what does not hold; exit status 0 if nothing, else 1. Wants POSIX contexts, to run a call on a stack that was painted before.
 #define _XOPEN_SOURCE 700
 #include "ozhimka.h"
@@ -12,7 +13,7 @@ enum { PAINT = 0xA5, ROOM = 1 << 18 };
 static int failures;
 static uint8_t image[OZHIMKA_MAX_CHART], book[OZHIMKA_MAX_BOOK];
 static uint16_t order[OZHIMKA_MAX_RULES];
-static size_t image_length, book_length, rules;
+static size_t image_length, book_length, ordered; // how many rules of the book count for stage 0
 static struct ozhimka_reading reading;
 static struct ozhimka_settled settled;
 static struct ozhimka_snapshot open; // stage 0 is open, and nothing else is yes
@@ -65,8 +66,8 @@ static void count_open(void) { order[0] = (uint16_t)ozhimka_count_open(reading.c
 static void finished(void) { settled.snapshot.marks[0] = ozhimka_finished(reading.chart, reading.marking).yes; }
 static void matching(void) { settled = ozhimka_matching(reading.chart, reading.marking); }
 static void derive(void) { settled.answer = ozhimka_derive(reading.chart, book, sizeof book); }
-static void check(void) { settled.answer = ozhimka_check(book, book_length, order, OZHIMKA_MAX_RULES); }
-static void complete(void) { settled = ozhimka_complete(book, book_length, order, rules, open, 0); }
+static void check(void) { settled.answer = ozhimka_check(book, book_length, 0, order, OZHIMKA_MAX_RULES); }
+static void complete(void) { settled = ozhimka_complete(book, book_length, order, ordered, open, 0); }
 
 static ucontext_t here, there;
 
@@ -106,7 +107,7 @@ static void try_stack(void)
     expect_stack("ozhimka_finished", finished, 6);
     expect_stack("ozhimka_derive", derive, 6);
     book_length = ozhimka_book_length(book);
-    rules = ozhimka_book_counts(book).rules;
+    ordered = ozhimka_order_length(book, 0);
     expect_stack("ozhimka_check", check, 72);
     expect_stack("ozhimka_matching", matching, 6);
     expect_stack("ozhimka_complete", complete, 56);
@@ -124,9 +125,9 @@ static void try_null(void)
     no_rules[20] = no_rules[24] = no_rules[28] = OZHIMKA_BOOK_HEADER;
     expect(is(ozhimka_read_chart(NULL, 0).answer, OZHIMKA_CHART_SHORT, 0), "no chart");
     expect(is(ozhimka_derive(reading.chart, NULL, 0), OZHIMKA_BOOK_ROOM, book_length), "no room for a book");
-    expect(is(ozhimka_check(NULL, 0, NULL, 0), OZHIMKA_BOOK_SHORT, 0), "no book to check");
-    expect(is(ozhimka_check(book, book_length, NULL, 0), OZHIMKA_ORDER_ROOM, rules), "no room for an order");
-    expect(is(ozhimka_check(no_rules, sizeof no_rules, NULL, 0), OZHIMKA_GRANTED, 0), "no rules, no room");
+    expect(is(ozhimka_check(NULL, 0, 0, NULL, 0), OZHIMKA_BOOK_SHORT, 0), "no book to check");
+    expect(is(ozhimka_check(book, book_length, 0, NULL, 0), OZHIMKA_ORDER_ROOM, ordered), "no room for an order");
+    expect(is(ozhimka_check(no_rules, sizeof no_rules, 0, NULL, 0), OZHIMKA_GRANTED, 0), "no rules, no room");
     expect(is(ozhimka_complete(NULL, 0, NULL, 0, open, 0).answer, OZHIMKA_BOOK_SHORT, 0), "no book to complete a stage of");
     expect(is(ozhimka_complete(book, book_length, NULL, 0, open, 0).answer, OZHIMKA_ORDER_UNFIT, 0), "rules, no order");
     struct ozhimka_settled same = ozhimka_complete(no_rules, sizeof no_rules, NULL, 0, open, 0);
@@ -153,6 +154,43 @@ static void try_roles(void)
     expect(is(ozhimka_count_open(none, marking).answer, OZHIMKA_UNFIT, 0), "a role past the count in another call");
 }
 
+// What the header says of the rules that count for a stage, of their order, and of 29: on the request's two rules, of which each refers to
+// what the other one sets, on completions of stages 0 and 1. Marks 2 and 3 are conditions 0 and 1.
+static void try_stages(void)
+{
+    uint8_t two[OZHIMKA_BOOK_HEADER + 2 * OZHIMKA_RULE_SIZE + 2 * OZHIMKA_CONDITION_SIZE + 2 * OZHIMKA_WORD_SIZE] = {0};
+    const uint8_t counts[8] = {2, 4, 2, 2, 2, 32, 52, 68}, rules[20] = {1, 1, 1, 0, 0, 0, 0, 0, 3, 0, 1, 1, 1, 0, 1, 0, 1, 0, 2, 0};
+    const uint8_t rest[20] = {0, 0, 0, 0, 1, 0, 0, 0, 1, 0, 0, 0, 1, 0, 0, 0, 2, 0, 3, 0};
+    uint16_t lent[3] = {7, 7, 7};
+    struct ozhimka_snapshot start = open;
+    start.marks[1] = start.marks[2] = true;
+    for (size_t i = 0; i < 8; i++)
+        two[4 * i] = counts[i];
+    memcpy(two + OZHIMKA_BOOK_HEADER, rules, sizeof rules);
+    memcpy(two + OZHIMKA_BOOK_HEADER + sizeof rules, rest, sizeof rest);
+    for (uint32_t stage = 0; stage < 2; stage++) {
+        expect(is(ozhimka_check(two, sizeof two, stage, NULL, 0), OZHIMKA_ORDER_ROOM, 1), "room for the stage's rules, not for all");
+        expect(is(ozhimka_check(two, sizeof two, stage, lent, 3), OZHIMKA_GRANTED, 0), "no loop within one completion");
+        expect(lent[0] == stage && lent[1] == 7 && lent[2] == 7, "the stage's order, and nothing behind it");
+        expect(ozhimka_order_length(two, stage) == 1, "the length of a stage's order");
+    }
+    const uint16_t both[2] = {0, 1}, wrong[1] = {1}, right[1] = {0};
+    expect(is(ozhimka_check(two, sizeof two, 2, NULL, 0), OZHIMKA_NO_SUCH_STAGE, 0), "no such stage, before room");
+    expect(is(ozhimka_complete(two, sizeof two, both, 2, start, 2).answer, OZHIMKA_NO_SUCH_STAGE, 0), "no such stage, before the order");
+    expect(is(ozhimka_complete(two, sizeof two, both, 2, start, 0).answer, OZHIMKA_ORDER_UNFIT, 0), "an order of the whole book");
+    expect(is(ozhimka_complete(two, sizeof two, wrong, 1, start, 0).answer, OZHIMKA_ORDER_UNFIT, 0), "an order of another stage");
+    struct ozhimka_settled next = ozhimka_complete(two, sizeof two, right, 1, start, 0);
+    expect(is(next.answer, OZHIMKA_GRANTED, 0) && next.snapshot.marks[3], "a completion in the stage's order");
+    memcpy(book, two, sizeof two); // each stage has a completion rule with a condition, so loops are searched for
+    book_length = sizeof two;
+    ordered = 1;
+    expect_stack("ozhimka_check with a search for loops", check, 80);
+    expect_stack("ozhimka_complete with a search for loops", complete, 64);
+    two[OZHIMKA_BOOK_HEADER] = OZHIMKA_TRIGGER_NONE;
+    for (uint32_t stage = 0; stage < 3; stage++)
+        expect(is(ozhimka_check(two, sizeof two, stage, NULL, 0), OZHIMKA_LOOP, 2), "a loop in one stage refuses the book for all");
+}
+
 static void try_reasons(void)
 {
     const char *unknown = ozhimka_reason(UINT32_MAX);
@@ -168,6 +206,7 @@ int main(void)
     try_stack();
     try_null();
     try_roles();
+    try_stages();
     try_reasons();
     return failures == 0 ? 0 : 1;
 }

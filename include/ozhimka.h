@@ -9,14 +9,15 @@
 // to be written overlaps nothing else that the call is given. A `bool` is 0 or 1.
 //
 // Stack, at most, with the copies that the caller's code makes there of structs that go in or come back by value (ozhimka_chart takes 2,632
-// bytes, ozhimka_reading 2,672), and without what the C library and the dynamic linker take: ozhimka_check 72 KiB, ozhimka_complete
-// 56 KiB, ozhimka_read_chart 17 KiB, every other call 6 KiB.
+// bytes, ozhimka_reading 2,672), and without what the C library and the dynamic linker take: ozhimka_check 80 KiB, ozhimka_complete
+// 64 KiB (8 less each where no other stage than the one asked for has a completion rule with a condition, as in a derived book),
+// ozhimka_read_chart 17 KiB, every other call 6 KiB.
 //
 // Every answer is a code, a place and an other. Code 0 is granted; any other refuses, and then
 //   - a marking or a snapshot that was handed in is handed back as it was;
 //   - no byte of lent room is written.
 // Place and other are 0 where the list below names nothing. Of several reasons the lowest code is given, in ozhimka_execute the first of
-// 14, 10, 32, 11, 12, 13; within a code the lowest place, then the lowest other.
+// 14, 10, 32, 11, 12, 13, in ozhimka_complete the first of 20 to 26, 29, 27, 28, 30; within a code the lowest place, then the lowest other.
 //
 // Chart image. Numbers of 16 bits, little-endian, and nothing behind the last:
 //   header       count of nodes N (1 to 128), count of relations K (0 to 4,096), 8, 8 + 4 N
@@ -38,14 +39,16 @@
 //   W words, 16 bits each       a mark, or 65,533 and, 65,534 or, 65,535 not; a condition's words are postfix
 // Mark e below S is stage e, yes where it is open. Rules, conditions and words are numbered from 0.
 //
-// Order. A rule refers to the marks in its condition's text and to the mark that it waits to become yes or no; a completed stage is no
-// reference. Rule p comes before rule q if q refers to p's target. A loop is a chain of rules, each before the next, that comes back to
-// its start, also a rule before itself. A fit order lists each rule once, after all that come before it. The running order is the fit
-// order that always takes the lowest-numbered rule left whose predecessors are all listed. Two rules, one that sets a mark and one that
-// clears it, clash unless they wait for completions of different stages, or use the same condition record, one as written and one
-// negated.
+// Order. For a stage all rules count but those that wait for another stage's completion, which cannot fire when this one is completed. A
+// rule refers to the marks in its condition's text and to the mark that it waits to become yes or no; a completed stage is no reference.
+// Rule p comes before rule q if q refers to p's target. A loop is a chain of rules that all count for one stage, each before the next, that
+// comes back to its start, also a rule before itself. A book that has one for any stage is refused for every stage; a book without stages
+// has none. A fit order of a stage lists each rule that counts for it once and no other rule, after all those listed that come before it.
+// The running order of a stage is its fit order that always takes the lowest-numbered rule left whose predecessors are all listed. Two rules
+// of the book, one that sets a mark and one that clears it, clash unless they wait for completions of different stages, or use the same
+// condition record, one as written and one negated.
 //
-// Completing a stage goes once through a fit order. A rule fires if its trigger and its condition hold, both in the marks as they now
+// Completing a stage goes once through a fit order of it. A rule fires if its trigger and its condition hold, both in the marks as they now
 // stand. A trigger holds: none, always; a stage completed, if it is the call's stage; become yes, if the mark was no when the call began
 // and is yes now; become no, if it was yes and is no now. A condition holds: none, always; as written, if its text gives yes; negated, if
 // it gives no. A rule that fires sets or clears its target at once. A completed stage does not close by itself: a rule has to clear it.
@@ -64,9 +67,9 @@
 #include <stdint.h>
 
 // The header's version. A new major number changes what a program written for the one before relies on; a new minor number adds to it.
-#define OZHIMKA_VERSION_MAJOR 1
+#define OZHIMKA_VERSION_MAJOR 2
 #define OZHIMKA_VERSION_MINOR 0
-#define OZHIMKA_VERSION "1.0"
+#define OZHIMKA_VERSION "2.0"
 
 #ifdef __cplusplus
 extern "C" {
@@ -173,13 +176,14 @@ enum ozhimka_code {
                                    // or condition not 0, a stage not below S, a mark not below M, a condition not below Q; place: rule
     OZHIMKA_BAD_CONDITION = 24,    // no words, words past W, a word that is neither an operator nor below M, or a text that takes from an
                                    // empty stack, holds over 16 values or does not end with one; place: condition, used or not
-    OZHIMKA_LOOP = 25,             // rules loop; place: lowest mark that a rule on a loop targets
+    OZHIMKA_LOOP = 25,             // rules that count for one stage loop; place: lowest mark that a rule on a loop targets, over all stages
     OZHIMKA_CLASH = 26,            // two rules clash; place: first rule, other: second
-    OZHIMKA_ORDER_UNFIT = 27,      // the order is no fit order of the book; one of another length than R never is
+    OZHIMKA_ORDER_UNFIT = 27,      // no fit order of the stage: it lists not just the rules that count for it, each once, or lists one before
+                                   // another that comes before it
     OZHIMKA_MARK_ABOVE = 28,       // a mark of the snapshot at or above M is yes
-    OZHIMKA_NO_SUCH_STAGE = 29,
+    OZHIMKA_NO_SUCH_STAGE = 29,    // the stage is not below S
     OZHIMKA_STAGE_CLOSED = 30,
-    OZHIMKA_ORDER_ROOM = 31,       // room for the order too short; place: numbers needed
+    OZHIMKA_ORDER_ROOM = 31,       // room for the order too short; place: numbers needed, which is how many rules count for the stage
     OZHIMKA_NOT_PERMITTED = 32     // the event names roles and this is none of them, or the role is above 7
 };
 
@@ -276,14 +280,17 @@ struct ozhimka_settled ozhimka_matching(struct ozhimka_chart chart, struct ozhim
 // Refuses with 14 and 15.
 struct ozhimka_answer ozhimka_derive(struct ozhimka_chart chart, uint8_t *room, size_t length);
 
-// Checks a book of `length` bytes and writes its running order, one number for each of its R rules, to the start of the room, which has
-// place for `count` numbers; OZHIMKA_MAX_RULES are enough for any book. What lies behind them stays as it was.
-// Refuses with 20 to 26 and 31.
-struct ozhimka_answer ozhimka_check(const uint8_t *book, size_t length, uint16_t *room, size_t count);
+// Checks a book of `length` bytes, for all of its stages, and writes the running order of one stage to the start of the room, which has
+// place for `count` numbers; OZHIMKA_MAX_RULES are enough for any book. It writes one number for each rule that counts for the stage, as
+// many as ozhimka_order_length says; what lies behind them stays as it was. A stage's order holds as long as the book stays the same.
+// Refuses with the first that holds of 20 to 26 (whichever stage is asked for), 29 (no such stage; always where the book has none), 31.
+struct ozhimka_answer ozhimka_check(const uint8_t *book, size_t length, uint32_t stage, uint16_t *room, size_t count);
 
-// The snapshot after a stage is completed: goes once through the order, which has one number for each rule of the book (as
-// ozhimka_check writes it; any fit order ends alike), and fires each rule whose trigger and condition hold. The book is checked
-// anew in every call. Books carry no roles: who may complete a stage is for ozhimka_execute to say first. Refuses with 20 to 30, and then
+// The snapshot after a stage is completed: goes once through the order, which has one number for each rule that counts for this stage (as
+// ozhimka_check writes it for the stage; any fit order of the stage ends alike), and fires each rule whose trigger and condition hold.
+// The order of one stage is unfit for another, unless the same rules count for both. The book is checked anew in every call.
+// Books carry no roles: who may complete a stage is for ozhimka_execute to say first.
+// Refuses with the first that holds of 20 to 26, 29 (no such stage), 27 (unfit order), 28 (a mark above), 30 (stage closed), and then
 // hands the snapshot back.
 struct ozhimka_settled ozhimka_complete(const uint8_t *book, size_t length, const uint16_t *order, size_t count,
                                         struct ozhimka_snapshot snapshot, uint32_t stage);
@@ -312,6 +319,18 @@ static inline size_t ozhimka_book_length(const uint8_t *header)
            + OZHIMKA_WORD_SIZE * (size_t)counts.words;
 }
 
+// How many rules of a book count for a stage, and so the numbers of its orders. The book's length has to be ozhimka_book_length's, as it is
+// of every book that ozhimka_check grants.
+static inline size_t ozhimka_order_length(const uint8_t *book, uint32_t stage)
+{
+    const uint8_t *rule = book + OZHIMKA_BOOK_HEADER;
+    size_t rules = ozhimka_book_counts(book).rules, counted = 0;
+    for (size_t p = 0; p < rules; p++, rule += OZHIMKA_RULE_SIZE)
+        if (rule[0] != OZHIMKA_TRIGGER_COMPLETED || ((uint32_t)rule[4] | (uint32_t)rule[5] << 8) == stage)
+            counted++;
+    return counted;
+}
+
 // A code in words, with what its place and other are.
 static inline const char *ozhimka_reason(uint32_t code)
 {
@@ -337,9 +356,9 @@ static inline const char *ozhimka_reason(uint32_t code)
     case OZHIMKA_BOOK_LENGTH: return "the book's offsets or its length do not fit its counts";
     case OZHIMKA_BAD_RULE: return "a rule is a bad record (place: the rule)";
     case OZHIMKA_BAD_CONDITION: return "a condition is a bad record, or its text is (place: the condition)";
-    case OZHIMKA_LOOP: return "rules loop (place: the lowest mark that a rule on a loop targets)";
+    case OZHIMKA_LOOP: return "rules of one completion loop (place: the lowest mark that a rule on a loop targets)";
     case OZHIMKA_CLASH: return "two rules clash (place: the first, other: the second)";
-    case OZHIMKA_ORDER_UNFIT: return "the order does not fit the book";
+    case OZHIMKA_ORDER_UNFIT: return "the order does not fit the book and the stage";
     case OZHIMKA_MARK_ABOVE: return "the snapshot has a mark that the book has not";
     case OZHIMKA_NO_SUCH_STAGE: return "the book has no such stage";
     case OZHIMKA_STAGE_CLOSED: return "the stage is closed";

@@ -51,6 +51,10 @@ class Book:
         start, count = self.conditions[c]
         return self.words[start:start + count]
 
+    def counted(self, stage):
+        """The rules that count for a stage: all but those that wait for another stage's completion."""
+        return [i for i, rule in enumerate(self.rules) if rule.kind != 1 or rule.number == stage]
+
     def references(self, rule):
         """The marks that a rule refers to."""
         marks = {rule.number} if rule.kind > 1 else set()

@@ -67,7 +67,7 @@ REFUSALS = {
     24: ('BAD_CONDITION', '{condition} is a bad record or has a bad text'),
     25: ('LOOP', '{mark} is on a loop: rules that wait for each other in a circle'),
     26: ('CLASH', '{rule} and {other_rule} clash: one sets a mark, the other clears it, and nothing keeps them apart'),
-    27: ('ORDER_UNFIT', 'the order is unfit: it does not list each rule once, or a rule stands before one that it waits for'),
+    27: ('ORDER_UNFIT', 'the order is unfit: it does not list each rule that counts for the stage once and no other, or a rule stands before one that it waits for'),
     28: ('MARK_ABOVE', 'the snapshot has a yes at a mark that the book does not have'),
     29: ('NO_SUCH_STAGE', 'there is no such stage'),
     30: ('STAGE_CLOSED', 'the stage is closed'),
