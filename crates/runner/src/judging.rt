@@ -23,8 +23,15 @@ use rule_order::fit::order_fits;
 use rule_order::references::REFS;
 use rule_order::references::references;
 
-// 25, 26, 29 and 27, of a well-formed book. A fit order leaves its stage no loop, so that in most books no search over the marks is made.
-fn judge_rules(book: &[u8], counts: Counts, stage: u32, refs: &[u64; REFS], order: &[u16]) -> Answer
+// 25, 26, 29 and 27, of a well-formed book. A fit order leaves its stage no loop, so that no search over the marks is made where no
+// other stage has a completion rule with a condition.
+fn judge_rules_and_order(
+    book: &[u8],
+    counts: Counts,
+    stage: u32,
+    refs: &[u64; REFS],
+    order: &[u16],
+) -> Answer
     requires { ⌜ (Opened (now book) counts) × (References (now book) (now refs)) ⌝ }
     ensures { λ r. ⌜ r ≡ fitted (rulesAnswer (bookOf (now (book .entry)))) (ltb stage (stagesIn (now (book .entry)))) (fitPass (rulesOf (now (book .entry)) stage) (now (order .entry))) ⌝ }
 {
@@ -54,7 +61,7 @@ pub fn judge_order(book: &[u8], order: &[u16], stage: u32) -> Answer
     let h = counts_at(book);
     let mut refs = [0u64; REFS];
     references(book, h, &mut refs);
-    judge_rules(book, h, stage, &refs, order)
+    judge_rules_and_order(book, h, stage, &refs, order)
 }
 
 // Whether a mark from m on is yes.

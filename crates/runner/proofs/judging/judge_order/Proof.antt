@@ -30,4 +30,4 @@ judge-order-spec =
       c .before .references .ensures,
     ))
     (λ c. rules-judged _ _ _ _ (granted-well _ _ (c .before .before .before .before .before .before .before .judge-image .ensures)
-    (c .before .before .before .before .before .if1 .left)) (c .judge-rules .ensures)))
+    (c .before .before .before .before .before .if1 .left)) (c .judge-rules-and-order .ensures)))

@@ -1,13 +1,13 @@
--- `runner::judging::judge_rules` meets its contract. Assumes nothing.
+-- `runner::judging::judge_rules_and_order` meets its contract. Assumes nothing.
 use Rattle.book.specs.declared.Counts.{Counts}
 use Rattle.runner.specs.Ordered.{fit-clear, refused-answer, nowhere-answer, fit-answer, unfit-answer}
 use borrow.Author.Needs.{needs}
 use mathlib.Core.Path.{ap}
-use Rattle.runner.proofs.judging.judge_rules.Statement.{statement}
-use Rattle.runner.proofs.judging.judge_rules.Tie as tie
+use Rattle.runner.proofs.judging.judge_rules_and_order.Statement.{statement}
+use Rattle.runner.proofs.judging.judge_rules_and_order.Tie as tie
 
-pub judge-rules-spec : {M : Type 1} → statement M
-judge-rules-spec =
+pub judge-rules-and-order-spec : {M : Type 1} → statement M
+judge-rules-and-order-spec =
     tie.close
     (tie.spec
     (λ c. search needs)
