@@ -2,9 +2,20 @@
 // after it row a has b exactly where b can be reached from a.
 ghost use mathlib.Core.Path.{_≡_};
 ghost use Prim.Native.Nat.{_+_, _*_, _/_, _≤_, _<_};
-ghost use lib.ListN.{length};
+ghost use mathlib.Core.List.{_++_};
+ghost use lib.ListN.{length, drop, replicate};
 ghost use Rattle.general.specs.Below.{first};
 ghost use Rattle.closure.specs.BitRows.{bit, putBit, takeRow, round, closed};
+
+// The first n words made 0.
+pub fn clear(rows: &mut [u64], n: usize)
+    requires { ⌜ n ≤ length (now rows) ⌝ }
+    ensures { λ _. ⌜ now (rows .exit) ≡ replicate n 0 ++ drop n (now (rows .entry)) ⌝ }
+{
+    for i in 0..n {
+        rows[i] = 0;
+    }
+}
 
 pub fn has_bit(rows: &[u64], width: usize, a: usize, b: usize) -> bool
     requires { ⌜ a * width + b / 64 < length (now rows) ⌝ }
