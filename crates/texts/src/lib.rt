@@ -3,15 +3,18 @@ pub mod eval;
 pub mod references;
 
 ghost use mathlib.Core.Path.{_≡_};
-ghost use mathlib.Core.Bool.{not};
+ghost use mathlib.Core.Bool.{true, not};
 ghost use Prim.Native.Nat.{_+_, _*_, _≤_};
-ghost use lib.ListN.{length};
+ghost use lib.ListN.{length, replicate};
 ghost use Rattle.paper.specs.Limits.{maxStack, conditionSize, wordSize};
 ghost use Rattle.general.specs.Below.{first};
 ghost use Rattle.book.specs.GoodTexts.{good, nextDepth};
 ghost use Rattle.book.specs.Image.{conditionPlace, wordPlace};
 ghost use Rattle.book.specs.Read.{wordsFrom};
 ghost use Rattle.book.specs.Judging.{conditionFits};
+ghost use Rattle.book.specs.Marks.{markWords};
+ghost use Rattle.texts.specs.Noted.{Added, recordWords, Named};
+use crate::references::note;
 use book::conditions::COUNT_AT;
 use book::header::conditions_from;
 use book::header::words_from;
@@ -36,27 +39,39 @@ fn next_depth(marks: u32, word: u16, depth: usize) -> usize
     }
 }
 
-// Whether the text of so many words from the byte `at` is good, where marks are below `marks`.
-fn text_fits(image: &[u8], at: usize, count: usize, marks: u32) -> bool
-    requires { ⌜ at + wordSize * count ≤ length (now image) ⌝ }
+// Whether the text of so many words from the byte `at` is good, where marks are below `marks`. Row c takes in the marks that it names.
+fn text_fits(image: &[u8], at: usize, count: usize, marks: u32, refs: &mut [u64], c: usize) -> bool
+    requires { ⌜ (at + wordSize * count ≤ length (now image)) × (c * markWords + markWords ≤ length (now refs)) ⌝ }
     ensures { λ r. ⌜ r ≡ good marks (wordsFrom (now (image .entry)) at count) ⌝ }
+    ensures { λ r. ⌜ (r ≡ true → Added (now (refs .entry)) c (wordsFrom (now (image .entry)) at count) (now (refs .exit))) ⌝ }
 {
     let mut depth: usize = 0;
     let mut i = 0;
     while i < count {
-        depth = next_depth(marks, wire::u16_at(image, at + WORD_SIZE * i), depth);
+        let word = wire::u16_at(image, at + WORD_SIZE * i);
+        depth = next_depth(marks, word, depth);
         if MAX_STACK < depth {
             return false;
         }
+        note(refs, c, word);
         i += 1;
     }
     depth == 1
 }
 
-// Whether the condition record at the byte `at` is good, where `words` words begin at the byte `from`.
-fn condition_fits(image: &[u8], at: usize, from: usize, marks: u32, words: u32) -> bool
-    requires { ⌜ (at + conditionSize ≤ length (now image)) × (from + wordSize * words ≤ length (now image)) ⌝ }
+// Whether the condition record at the byte `at` is good, where `words` words begin at the byte `from`. It is the record of row c.
+fn condition_fits(
+    image: &[u8],
+    at: usize,
+    from: usize,
+    marks: u32,
+    words: u32,
+    refs: &mut [u64],
+    c: usize,
+) -> bool
+    requires { ⌜ (at + conditionSize ≤ length (now image)) × (from + wordSize * words ≤ length (now image)) × (c * markWords + markWords ≤ length (now refs)) ⌝ }
     ensures { λ r. ⌜ r ≡ conditionFits marks words from (now (image .entry)) at ⌝ }
+    ensures { λ r. ⌜ (r ≡ true → Added (now (refs .entry)) c (recordWords (now (image .entry)) from at) (now (refs .exit))) ⌝ }
 {
     let start = wire::u32_at(image, at) as usize;
     let count = wire::u32_at(image, at + COUNT_AT) as usize;
@@ -66,25 +81,28 @@ fn condition_fits(image: &[u8], at: usize, from: usize, marks: u32, words: u32) 
     if (words as usize) < start + count {
         return false;
     }
-    text_fits(image, from + WORD_SIZE * start, count, marks)
+    text_fits(image, from + WORD_SIZE * start, count, marks, refs, c)
 }
 
-// The lowest condition that is bad, or the number of conditions.
-pub fn first_bad_condition(image: &[u8], rules: u32, conditions: u32, words: u32, marks: u32) -> u32
-    requires { ⌜ wordPlace rules conditions words ≤ length (now image) ⌝ }
+// The lowest condition that is bad, or the number of conditions, and then each row has the marks of its text. Each text is read once.
+pub fn first_bad_condition(
+    image: &[u8],
+    rules: u32,
+    conditions: u32,
+    words: u32,
+    marks: u32,
+    refs: &mut [u64],
+) -> u32
+    requires { ⌜ (wordPlace rules conditions words ≤ length (now image)) × (conditions * markWords ≤ length (now refs)) × (now refs ≡ replicate (length (now refs)) 0) ⌝ }
     ensures { λ r. ⌜ r ≡ first conditions (λ c. not (conditionFits marks words (conditionPlace rules conditions) (now (image .entry)) (conditionPlace rules c))) ⌝ }
+    ensures { λ r. ⌜ (r ≡ conditions → Named (now (image .entry)) rules conditions conditions (now (refs .exit))) ⌝ }
 {
     let begin = conditions_from(rules);
     let from = words_from(rules, conditions);
     let mut c: u32 = 0;
     while c < conditions {
-        if !condition_fits(
-            image,
-            begin + CONDITION_SIZE * (c as usize),
-            from,
-            marks,
-            words,
-        ) {
+        let at = begin + CONDITION_SIZE * (c as usize);
+        if !condition_fits(image, at, from, marks, words, refs, c as usize) {
             return c;
         }
         c += 1;

@@ -1,6 +1,8 @@
 -- `texts::condition_fits` meets its contract. Assumes nothing.
-use Rattle.texts.proofs.Returns.{condition-none, condition-past, condition-text}
+use Rattle.texts.proofs.Returns.{condition-none, condition-past, condition-text, condition-row}
+use Rattle.general.specs.Cases.{contra}
 use borrow.Author.Needs.{needs}
+use mathlib.Core.Path.{refl}
 use Rattle.texts.proofs.condition_fits.Statement.{statement}
 use Rattle.texts.proofs.condition_fits.Tie as tie
 
@@ -9,8 +11,12 @@ condition-fits-spec =
     tie.close
     (tie.spec
     (λ c κs. search needs) (λ c. search needs) (λ c. search needs) (λ c κs. search needs) (λ c. search needs)
-    (λ c. search condition-none)
+    (λ c. (search condition-none, λ e. contra e refl))
     (λ c. search needs)
-    (λ c. search condition-past)
-    (λ c. search needs) (λ c. search needs) (λ c κs. search needs)
-    (λ c. search condition-text))
+    (λ c. (search condition-past, λ e. contra e refl))
+    (λ c. search needs) (λ c. search needs) (λ c κs. search needs) (λ c. search needs)
+    (λ c. (
+      search (condition-text, c .before .before .text-fits .ensures .0),
+      λ e. condition-row 0 0 _ _ _ _ _ (c .before .before .before .before .before .before .before .u32-at .ensures) (c .before .before .before .before .before .before .u32-at2 .ensures) _ _ _
+          (c .before .before .text-fits .ensures .1 e),
+    )))
