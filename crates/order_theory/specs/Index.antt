@@ -9,10 +9,14 @@ use lib.ListN.{length, getD}
 use Rattle.order_theory.specs.Order.{Net, Counted, countedRules, Mem, Distinct, before, Respects, Fit}
 use Rattle.order_theory.specs.Written.{each-listed, listed-length}
 
+-- whatever would stand for an entry past the end
+pub mem-any : (l : List ℕ) (i d : ℕ) → i < length l → Mem (getD l i d) l
+mem-any [] i d h = absurd (omega arith)
+mem-any (x ∷ l) zero d h = inl refl
+mem-any (x ∷ l) (suc i) d h = inr (mem-any l i d (omega arith))
+
 pub mem-at : (l : List ℕ) (i : ℕ) → i < length l → Mem (getD l i 0) l
-mem-at [] i h = absurd (omega arith)
-mem-at (x ∷ l) zero h = inl refl
-mem-at (x ∷ l) (suc i) h = inr (mem-at l i (omega arith))
+mem-at l i h = mem-any l i 0 h
 
 pub at-mem : (l : List ℕ) (q : ℕ) → Mem q l → (i : ℕ) × (i < length l) × (getD l i 0 ≡ q)
 at-mem [] q i = absurd i
