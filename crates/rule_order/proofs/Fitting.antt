@@ -2,14 +2,15 @@
 use mathlib.Core.Path.{_≡_, sym, subst, _∙_}
 use mathlib.Core.Bool.{Bool, true, false, not, and-false}
 use mathlib.Core.List.{List}
-use Prim.Native.Nat.{ℕ, _+_, _≤_, _<_}
+use Prim.Native.Nat.{ℕ, _+_, _/_, _≤_, _<_}
 use native.Mathlib.Omega.{arith}
 use lib.Dec.{eqb, ltb}
-use lib.ListN.{length, getD, set, drop, length-set}
+use lib.ListN.{length, getD, drop, length-set}
 use borrow.Author.Tests.{eq-eqb, ne-eqb, lt-ltb, le-ltb, not-true, not-false}
-use Rattle.paper.specs.Limits.{maxMarks, maxRules}
+use Rattle.paper.specs.Limits.{maxMarks}
 use Rattle.book.specs.Book.{ruleOf}
 use Rattle.book.specs.Image.{rulesIn, bookOf}
+use Rattle.book.specs.Marks.{wordBits}
 use Rattle.book.specs.WellFormed.{WellFormed}
 use Rattle.order_theory.specs.Order.{Counted, countedRules}
 use Rattle.order_theory.specs.Written.{Written, none}
@@ -17,18 +18,19 @@ use Rattle.order_theory.specs.Running.{ready, ready-is}
 use Rattle.order_theory.specs.Pass.{fine, passes, fitPass, passes-end, passes-on, passes-stop}
 use Rattle.order_theory.specs.Skipped.{Skips, skips-first, skips-write, skipped-passes}
 use Rattle.rule_order.specs.Nets.{rulesOf, target-in, below-count, past-count, rules-few}
-use Rattle.rule_order.specs.Counters.{Counters, Begun, Struck, counted-on, struck-on}
-use Rattle.rule_order.specs.Ready.{flagged, flagged-set, mayStand, stand-ready}
+use Rattle.rule_order.specs.Words.{ruleWords, marked, flagged, flagged-set}
+use Rattle.rule_order.specs.Counters.{Counters, Begun, Struck, struck-on}
+use Rattle.rule_order.specs.Ready.{mayStand, stand-ready}
 
 -- the first j entries may stand where they do, and what the rest gives is what the whole gives
-pub record Fitting (s : List ℕ) (stage : ℕ) (order : List ℕ) (written : List Bool) (counts waits : List ℕ) (j : ℕ) : Type 0 where
-  pub size : length written ≡ maxRules
+pub record Fitting (s : List ℕ) (stage : ℕ) (order : List ℕ) (written counts waits : List ℕ) (j : ℕ) : Type 0 where
+  pub size : length written ≡ ruleWords
   pub skips : Skips (rulesOf s stage) (flagged written)
   pub counters : Counters (rulesOf s stage) (flagged written) counts waits
   pub rest : passes (rulesOf s stage) (flagged written) (drop j order) ≡ passes (rulesOf s stage) none order
 
 module _ (s : List ℕ) (stage : ℕ) (order : List ℕ) where
-  pub fitting-first : (counts waits : List ℕ) (written : List Bool) → Begun (rulesOf s stage) counts waits written → Fitting s stage order written counts waits 0
+  pub fitting-first : (counts waits written : List ℕ) → Begun (rulesOf s stage) counts waits written → Fitting s stage order written counts waits 0
   fitting-first counts waits written b =
       record {
         size = b .size;
@@ -42,7 +44,7 @@ module _ (s : List ℕ) (stage : ℕ) (order : List ℕ) where
   unfolding fitPass
   fitting-short n e h = rw (ne-eqb (length order) (countedRules (rulesOf s stage)) (λ q. h (q ∙ sym e)))
 
-  module _ (written : List Bool) (counts waits : List ℕ) (j : ℕ) (f : Fitting s stage order written counts waits j) where
+  module _ (written counts waits : List ℕ) (j : ℕ) (f : Fitting s stage order written counts waits j) where
     stops : j < length order → fine (rulesOf s stage) (flagged written) (getD order j 0) ≡ false → false ≡ fitPass (rulesOf s stage) order
     unfolding fitPass
     stops h e =
@@ -85,18 +87,15 @@ module _ (s : List ℕ) (stage : ℕ) (order : List ℕ) where
         p : t ≡ rulesOf s stage .target r
         p = target-in s stage r t p′
 
-        pub fitting-waits : 0 < getD counts t 0
-        fitting-waits = counted-on (rulesOf s stage) (flagged written) r t counts waits (f .counters) is-counted unwritten-now p k
-
-        pub fitting-more : (counts′ waits′ : List ℕ) (done : Bool) → j < length order → r ≡ getD order j 0 → Struck t counts waits counts′ waits′ done
-            → Fitting s stage order (set written r true) counts′ waits′ (j + 1)
+        pub fitting-more : (counts′ waits′ written′ : List ℕ) (done : Bool) → j < length order → r ≡ getD order j 0 → written′ ≡ marked written r → Struck t counts waits counts′ waits′ done
+            → Fitting s stage order written′ counts′ waits′ (j + 1)
         unfolding fine
-        fitting-more counts′ waits′ done h q a =
-            let z : r < length written = (let u = f .size in let v = rules-few s g in omega arith) in
+        fitting-more counts′ waits′ written′ done h q m a =
+            let z : r / wordBits < length written = (let u = f .size in let v = rules-few s g in omega arith) in
             let w : fine (rulesOf s stage) (flagged written) (getD order j 0) ≡ true = rw (← q, lt-ltb r (rulesOf s stage .count) (below-count s stage n r e i), is-next) in
-            record {
-              size = length-set written r true ∙ f .size;
+            rw m (record {
+              size = length-set written (r / wordBits) _ ∙ f .size;
               skips = subst (λ (d : Written). Skips (rulesOf s stage) d) (sym (flagged-set written r z)) (skips-write (rulesOf s stage) (flagged written) (f .skips) r);
               counters = rw (flagged-set written r z) (struck-on (rulesOf s stage) (flagged written) r t counts waits (f .counters) is-counted unwritten-now p k counts′ waits′ done a);
               rest = rw (flagged-set written r z) (rw q (sym (passes-on (rulesOf s stage) order (flagged written) j h w) ∙ f .rest));
-            }
+            })

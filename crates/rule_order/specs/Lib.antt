@@ -1,5 +1,6 @@
 -- The root of the crate's specs.
 pub mod Rules
+pub mod Words
 pub mod References
 pub mod Nets
 pub mod Counters

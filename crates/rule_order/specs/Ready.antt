@@ -1,12 +1,9 @@
 -- A rule is ready exactly if it is unwritten and refers to no mark that still waits; a rule that does not count stands as written. Assumes nothing.
-use mathlib.Core.Path.{_≡_, refl, sym, ap, _∙_, fun-ext}
+use mathlib.Core.Path.{_≡_, sym, ap, _∙_}
 use mathlib.Core.Bool.{Bool, true, false, not, _&&_, _||_}
 use mathlib.Core.List.{List}
-use Prim.Native.Nat.{ℕ, zero, suc, _<_}
-use lib.Dec.{eqb}
-use lib.ListN.{length, getD, set, replicate}
-use lib.Seq.{getD-set-same, getD-set-other}
-use borrow.Author.Tests.{eqb-true, eqb-false, not-true}
+use Prim.Native.Nat.{ℕ, _<_}
+use borrow.Author.Tests.{not-true}
 use Rattle.paper.specs.Limits.{maxMarks}
 use Rattle.general.specs.Cases.{cases, contra, same-test}
 use Rattle.general.specs.Below.{every, every-at, every-of, some, some-none, some-of}
@@ -15,29 +12,13 @@ use Rattle.book.specs.Image.{bookOf}
 use Rattle.book.specs.Marks.{hasMark}
 use Rattle.book.specs.WellFormed.{WellFormed}
 use Rattle.order_theory.specs.Order.{Net}
-use Rattle.order_theory.specs.Written.{Written, none, write}
+use Rattle.order_theory.specs.Written.{Written}
 use Rattle.order_theory.specs.Running.{ready}
 use Rattle.order_theory.specs.Marks.{isSettled}
 use Rattle.order_theory.specs.Skipped.{Skips, ready-skips}
 use Rattle.rule_order.specs.Rules.{netOf}
 use Rattle.rule_order.specs.Nets.{rulesOf, targets-small}
 use Rattle.rule_order.specs.References.{touches}
-
--- which rules a list of flags says are written
-abbrev pub flagged : List Bool → Written
-flagged l q = getD l q false
-
-pub flagged-set : (l : List Bool) (r : ℕ) → r < length l → flagged (set l r true) ≡ write (flagged l) r
-flagged-set l r h =
-    fun-ext (λ q. cases (eqb q r) (λ e. rw (e, eqb-true q r e) (getD-set-same l r true false h)) (λ e. rw e (getD-set-other l r q true false (eqb-false q r e))))
-
-none-at : (n q : ℕ) → getD (replicate n false) q false ≡ false
-none-at zero q = refl
-none-at (suc n) zero = refl
-none-at (suc n) (suc q) = none-at n q
-
-pub flagged-none : (n : ℕ) → flagged (replicate n false) ≡ none
-flagged-none n = fun-ext (λ q. none-at n q)
 
 -- the set has each mark that is not settled, and no other
 abbrev pub Waits : Net → Written → List ℕ → Type 0
@@ -53,13 +34,13 @@ none-some k f g h =
 unfoldable pub mayStand : Book → Written → List ℕ → ℕ → Bool
 mayStand b d waits r = not (d r) && not (touches b r waits)
 
-pub stand-written : (b : Book) (d : Written) (waits : List ℕ) (r : ℕ) → d r ≡ true → false ≡ mayStand b d waits r
+pub stand-written : (b : Book) (d : Written) (waits : List ℕ) (r : ℕ) (w : Bool) → w ≡ d r → w ≡ true → false ≡ mayStand b d waits r
 unfolding mayStand
-stand-written b d waits r e = rw e
+stand-written b d waits r w e t = rw (← e, t)
 
-pub stand-untouched : (b : Book) (d : Written) (waits : List ℕ) (r : ℕ) (x : Bool) → d r ≡ false → x ≡ touches b r waits → not x ≡ mayStand b d waits r
+pub stand-untouched : (b : Book) (d : Written) (waits : List ℕ) (r : ℕ) (w x : Bool) → w ≡ d r → w ≡ false → x ≡ touches b r waits → not x ≡ mayStand b d waits r
 unfolding mayStand
-stand-untouched b d waits r x e t = rw (e, t)
+stand-untouched b d waits r w x e u t = rw (← e, u, t)
 
 -- that is "ready", where the rules that do not count stand as written
 pub stand-ready : (s : List ℕ) (stage : ℕ) (d : Written) (waits : List ℕ) (r : ℕ) → WellFormed s → Skips (rulesOf s stage) d → Waits (rulesOf s stage) d waits

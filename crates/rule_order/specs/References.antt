@@ -2,33 +2,24 @@
 use mathlib.Core.Path.{_≡_, refl, sym, ap, _∙_}
 use mathlib.Core.Bool.{Bool, true, false, not, _&&_, _||_}
 use mathlib.Core.List.{List}
-use Prim.Native.Nat.{ℕ, zero, suc, _+_, _*_, _^_, _/_, _%_, _≤_, _<_}
+use Prim.Native.Nat.{ℕ, _+_, _*_, _^_, _/_, _%_, _≤_, _<_}
 use native.Mathlib.Omega.{arith}
 use lib.Dec.{eqb, ltb, leb}
-use lib.ListN.{length, getD, set, length-set}
-use lib.Seq.{getD-set-same, getD-set-other}
+use lib.ListN.{length, getD}
 use borrow.Author.Tests.{eqb-true, eqb-false, eq-eqb, ne-eqb, ltb-true, ltb-false, le-leb, lt-leb}
-use Rattle.paper.specs.Limits.{maxMarks, maxConditions}
-use Rattle.general.specs.Cases.{contra, cases, both, either, same-test, lt-suc, or-left, or-right}
+use Rattle.paper.specs.Limits.{maxMarks}
+use Rattle.general.specs.Cases.{contra, cases, both, either, same-test, or-left, or-right}
 use Rattle.general.specs.Below.{some, some-of, some-at, some-none, some-same, find}
 use Rattle.sets.specs.Set.{has, inter}
 use Rattle.sets.specs.Laws.{has-inter, has-empty, none-zero, above}
 use Rattle.closure.specs.BitRows.{bit}
-use Rattle.book.specs.Text.{elem}
 use Rattle.book.specs.Book.{Book, ruleOf, textOf}
 use Rattle.book.specs.Image.{rulesIn, conditionsIn, rulePlace, triggerFrom, senseFrom, ruleFrom, bookOf, kindAt, senseAt, numberAt, conditionAt}
 use Rattle.book.specs.Read.{rule-read}
 use Rattle.book.specs.WellFormed.{WellFormed}
-use Rattle.book.specs.Marks.{wordBits, markWords, hasMark, marksOf, has-marks}
+use Rattle.book.specs.Marks.{wordBits, markWords, hasMark}
 use Rattle.book.specs.Firing.{awaits, reads, refers}
-
-abbrev pub refWords : ℕ
-refWords = maxConditions * markWords
-
--- row c has the marks that the text of condition c names
-pub record References (s rows : List ℕ) : Type 0 where
-  pub size : length rows ≡ refWords
-  pub names : (c m : ℕ) → c < conditionsIn s → m < maxMarks → bit rows markWords c m ≡ elem m (textOf (bookOf s) c)
+use Rattle.texts.specs.Noted.{References}
 
 -- ---- whether a rule refers to a mark of a set, which is a row of marks
 
@@ -128,8 +119,9 @@ module _ (s : List ℕ) (r : ℕ) (g : WellFormed s) (h : r < rulesIn s) where
   pub asked-in : (c : ℕ) → 1 ≤ senseAt s (rulePlace r) → c ≡ conditionAt s (rulePlace r) → c < conditionsIn s
   asked-in c l e = rw e (g .rules r h .condition l)
 
-  pub asked-row : (c : ℕ) → 1 ≤ senseAt s (rulePlace r) → c ≡ conditionAt s (rulePlace r) → c < maxConditions
-  asked-row c l e = let j = g .headed .counted .conditions in omega (arith, asked-in c l e)
+  -- where the condition's row stands
+  pub asked-room : (rows : List ℕ) (c : ℕ) → References s rows → 1 ≤ senseAt s (rulePlace r) → c ≡ conditionAt s (rulePlace r) → c * markWords + markWords ≤ length rows
+  asked-room rows c f l e = let j = f .room in omega (arith, asked-in c l e)
 
 module _ (s marks : List ℕ) (r : ℕ) (g : WellFormed s) (h : r < rulesIn s) where
   -- trigger kinds 0 and 1 wait for no mark
@@ -213,59 +205,3 @@ touches-first b r marks x e t = rw (touches-or b r marks, ← e, t)
 
 pub touches-then : (b : Book) (r : ℕ) (marks : List ℕ) (x y : Bool) → x ≡ awaitsAny b r marks → x ≡ false → y ≡ readsAny b r marks → y ≡ touches b r marks
 touches-then b r marks x y e t f = rw (touches-or b r marks, ← e, t) f
-
--- ---- the rows while they are filled
-
--- the first k words of a row, stored from the word `at` on
-unfoldable pub storeWords : List ℕ → ℕ → List ℕ → ℕ → List ℕ
-storeWords rows at row zero = rows
-storeWords rows at row (suc k) = set (storeWords rows at row k) (at + k) (getD row k 0)
-
-pub stored : (rows : List ℕ) (at : ℕ) (row : List ℕ) → set (set (set (set rows at (getD row 0 0)) (at + 1) (getD row 1 0)) (at + 2) (getD row 2 0)) (at + 3) (getD row 3 0) ≡ storeWords rows at row markWords
-unfolding storeWords
-stored rows at row = let z : at + 0 ≡ at = omega arith in rw z
-
-module _ (rows : List ℕ) (at : ℕ) (row : List ℕ) where
-  length-store : (k : ℕ) → length (storeWords rows at row k) ≡ length rows
-  unfolding storeWords
-  length-store zero = refl
-  length-store (suc k) = length-set (storeWords rows at row k) (at + k) (getD row k 0) ∙ length-store k
-
-  store-at : (k j : ℕ) → j < k → at + k ≤ length rows → getD (storeWords rows at row k) (at + j) 0 ≡ getD row j 0
-  unfolding storeWords
-  store-at zero j h l = absurd (omega arith)
-  store-at (suc k) j h l =
-      lt-suc h (λ e. rw e (getD-set-same (storeWords rows at row k) (at + k) (getD row k 0) 0 (rw (length-store k) (omega arith))))
-      (λ i. getD-set-other (storeWords rows at row k) (at + k) (at + j) (getD row k 0) 0 (λ e. omega arith) ∙ store-at k j i (omega arith))
-
-  store-before : (k i : ℕ) → i < at → getD (storeWords rows at row k) i 0 ≡ getD rows i 0
-  unfolding storeWords
-  store-before zero i h = refl
-  store-before (suc k) i h = getD-set-other (storeWords rows at row k) (at + k) i (getD row k 0) 0 (λ e. omega arith) ∙ store-before k i h
-
--- the first k rows are filled
-pub record Filled (s rows : List ℕ) (k : ℕ) : Type 0 where
-  pub within : k ≤ conditionsIn s
-  pub size : length rows ≡ refWords
-  pub names : (c m : ℕ) → c < k → m < maxMarks → bit rows markWords c m ≡ elem m (textOf (bookOf s) c)
-
-pub filled-first : (s rows : List ℕ) → length rows ≡ refWords → Filled s rows 0
-filled-first s rows l = record { within = omega arith; size = l; names = λ c m i k. absurd (omega arith) }
-
-pub filled-more : (s rows next : List ℕ) (k : ℕ) (row : List ℕ) → WellFormed s → Filled s rows k → k < conditionsIn s → row ≡ marksOf (textOf (bookOf s) k)
-    → next ≡ set (set (set (set rows (k * markWords) (getD row 0 0)) (k * markWords + 1) (getD row 1 0)) (k * markWords + 2) (getD row 2 0)) (k * markWords + 3) (getD row 3 0)
-    → Filled s next (k + 1)
-unfolding bit
-filled-more s rows next k row g f h e q =
-    let n = f .size in
-    let z : next ≡ storeWords rows (k * markWords) row markWords = q ∙ stored rows (k * markWords) row in
-    record {
-      within = omega arith;
-      size = ap length z ∙ length-store rows (k * markWords) row markWords ∙ f .size;
-      names = λ c m i l. cases (eqb c k)
-          (λ t. rw (z, eqb-true c k t, store-at rows (k * markWords) row markWords (m / wordBits) (omega arith) (let u = g .headed .counted .conditions in omega arith), e) (has-marks (textOf (bookOf s) k) m l))
-          (λ t. let u = eqb-false c k t in rw (z, store-before rows (k * markWords) row markWords (c * markWords + m / wordBits) (omega arith)) (f .names c m (omega arith) l));
-    }
-
-pub filled-last : (s rows : List ℕ) (k : ℕ) → Filled s rows k → conditionsIn s ≤ k → References s rows
-filled-last s rows k f h = record { size = f .size; names = λ c m i l. f .names c m (let n = f .within in omega arith) l }

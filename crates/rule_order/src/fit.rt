@@ -6,15 +6,14 @@ ghost use Rattle.book.specs.Image.{rulesIn};
 ghost use Rattle.book.specs.WellFormed.{WellFormed};
 ghost use Rattle.order_theory.specs.Pass.{fitPass};
 ghost use Rattle.rule_order.specs.Nets.{rulesOf};
-ghost use Rattle.rule_order.specs.References.{References};
-use crate::counted::counted_rules;
+ghost use Rattle.texts.specs.Noted.{References};
 use crate::ready::is_ready;
-use crate::references::REFS;
 use crate::waiting::count_targets;
 use crate::waiting::strike;
 use crate::waiting::target_of;
+use crate::written::RULE_WORDS;
+use crate::written::mark_written;
 use paper::MAX_MARKS;
-use paper::MAX_RULES;
 use texts::references::MARK_WORDS;
 
 // The rule that an order has at j.
@@ -26,19 +25,18 @@ pub fn entry_of(order: &[u16], j: usize) -> usize
 }
 
 // Each entry is a counted rule that is ready where those before it are written, and there are as many as there are counted rules.
-// Two passes over the rules and one over the order. Stack: about 9 KiB, of which the flags of the written rules are 8,384 bytes.
-pub fn order_fits(image: &[u8], rules: usize, stage: u32, refs: &[u64; REFS], order: &[u16]) -> bool
+// One pass over the rules and one over the order. Stack: about 2 KiB.
+pub fn order_fits(image: &[u8], rules: usize, stage: u32, refs: &[u64], order: &[u16]) -> bool
     requires { ⌜ (WellFormed (now image)) × (rules ≡ rulesIn (now image)) × (References (now image) (now refs)) ⌝ }
     ensures { λ r. ⌜ r ≡ fitPass (rulesOf (now (image .entry)) stage) (now (order .entry)) ⌝ }
 {
-    let counted = counted_rules(image, rules, stage);
+    let mut counts = [0u16; MAX_MARKS];
+    let mut waits = [0u64; MARK_WORDS];
+    let mut written = [0u64; RULE_WORDS];
+    let counted = count_targets(image, rules, stage, &mut counts, &mut waits, &mut written);
     if order.len() != counted {
         return false;
     }
-    let mut counts = [0u16; MAX_MARKS];
-    let mut waits = [0u64; MARK_WORDS];
-    let mut written = [false; MAX_RULES];
-    count_targets(image, rules, stage, &mut counts, &mut waits, &mut written);
     for j in 0..counted {
         let r = entry_of(order, j);
         if rules <= r {
@@ -47,7 +45,7 @@ pub fn order_fits(image: &[u8], rules: usize, stage: u32, refs: &[u64; REFS], or
         if !is_ready(image, refs, &written, &waits, r) {
             return false;
         }
-        written[r] = true;
+        mark_written(&mut written, r);
         strike(target_of(image, r), &mut counts, &mut waits);
     }
     true

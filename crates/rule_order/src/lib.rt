@@ -5,4 +5,6 @@ pub mod fit;
 pub mod ready;
 pub mod references;
 pub mod running;
+pub mod scan;
 pub mod waiting;
+pub mod written;

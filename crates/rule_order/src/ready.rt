@@ -3,25 +3,26 @@ ghost use mathlib.Core.Path.{_≡_};
 ghost use Prim.Native.Nat.{_<_};
 ghost use Rattle.book.specs.Image.{rulesIn, bookOf};
 ghost use Rattle.book.specs.WellFormed.{WellFormed};
-ghost use Rattle.rule_order.specs.References.{References};
-ghost use Rattle.rule_order.specs.Ready.{flagged, mayStand};
-use crate::references::REFS;
+ghost use Rattle.texts.specs.Noted.{References};
+ghost use Rattle.rule_order.specs.Ready.{mayStand};
+ghost use Rattle.rule_order.specs.Words.{flagged};
 use crate::references::rule_touches;
-use paper::MAX_RULES;
+use crate::written::RULE_WORDS;
+use crate::written::is_written;
 use texts::references::MARK_WORDS;
 
 // Rule r is unwritten, and refers to no mark that waits: all its predecessors are written.
 pub fn is_ready<'a>(
     image: &[u8],
-    refs: &'a [u64; REFS],
-    written: &[bool; MAX_RULES],
+    refs: &'a [u64],
+    written: &[u64; RULE_WORDS],
     waits: &'a [u64; MARK_WORDS],
     r: usize,
 ) -> bool
     requires { ⌜ (WellFormed (now image)) × (References (now image) (now refs)) × (r < rulesIn (now image)) ⌝ }
     ensures { λ b. ⌜ b ≡ mayStand (bookOf (now (image .entry))) (flagged (now (written .entry))) (now (waits .entry)) r ⌝ }
 {
-    if written[r] {
+    if is_written(written, r) {
         return false;
     }
     !rule_touches(image, r, refs, waits)

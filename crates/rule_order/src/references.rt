@@ -1,13 +1,12 @@
-// What rules refer to: a row of marks for each condition record, filled once, and the test whether a rule refers to a mark of a set.
+// What rules refer to, by rows of marks for the condition records: the test whether a rule refers to a mark of a set.
 ghost use mathlib.Core.Path.{_≡_};
-ghost use Prim.Native.Nat.{_<_};
+ghost use Prim.Native.Nat.{_+_, _*_, _≤_, _<_};
 ghost use lib.ListN.{length};
-ghost use Rattle.paper.specs.Limits.{maxConditions};
 ghost use Rattle.book.specs.Image.{rulesIn, bookOf};
-ghost use Rattle.book.specs.WellRead.{Opened};
+ghost use Rattle.book.specs.Marks.{markWords};
 ghost use Rattle.book.specs.WellFormed.{WellFormed};
-ghost use Rattle.rule_order.specs.References.{refWords, References, meetWord, meeting, awaitsAny, readsAny, touches};
-use book::Counts;
+ghost use Rattle.rule_order.specs.References.{meetWord, meeting, awaitsAny, readsAny, touches};
+ghost use Rattle.texts.specs.Noted.{References};
 use book::rules::CONDITION_AT;
 use book::rules::NUMBER_AT;
 use book::rules::SENSE_AS_WRITTEN;
@@ -17,26 +16,9 @@ use paper::BOOK_HEADER;
 use paper::MAX_CONDITIONS;
 use paper::RULE_SIZE;
 use texts::references::MARK_WORDS;
-use texts::references::condition_marks;
 
 // Row c, of MARK_WORDS words, is the set of marks that the text of condition c names: 8 KiB.
 pub const REFS: usize = MAX_CONDITIONS * MARK_WORDS;
-
-// One pass over the texts.
-pub fn references(image: &[u8], counts: Counts, refs: &mut [u64; REFS])
-    requires { ⌜ (Opened (now image) counts) × (length (now refs) ≡ refWords) ⌝ }
-    ensures { λ _. ⌜ References (now (image .entry)) (now (refs .exit)) ⌝ }
-{
-    let conditions = counts.conditions as usize;
-    for c in 0..conditions {
-        let row = condition_marks(image, counts, c);
-        let at = c * MARK_WORDS;
-        refs[at] = row[0];
-        refs[at + 1] = row[1];
-        refs[at + 2] = row[2];
-        refs[at + 3] = row[3];
-    }
-}
 
 fn meet(a: u64, b: u64) -> bool
     ensures { λ r. ⌜ r ≡ meetWord a b ⌝ }
@@ -45,8 +27,8 @@ fn meet(a: u64, b: u64) -> bool
 }
 
 // Whether row c has a mark of the set.
-fn row_meets<'a>(refs: &'a [u64; REFS], c: usize, set: &'a [u64; MARK_WORDS]) -> bool
-    requires { ⌜ c < maxConditions ⌝ }
+fn row_meets<'a>(refs: &'a [u64], c: usize, set: &'a [u64; MARK_WORDS]) -> bool
+    requires { ⌜ c * markWords + markWords ≤ length (now refs) ⌝ }
     ensures { λ r. ⌜ r ≡ meeting (now (refs .entry)) c (now (set .entry)) ⌝ }
 {
     let at = c * MARK_WORDS;
@@ -73,7 +55,7 @@ fn trigger_touches(image: &[u8], r: usize, set: &[u64; MARK_WORDS]) -> bool
 fn condition_touches<'a>(
     image: &[u8],
     r: usize,
-    refs: &'a [u64; REFS],
+    refs: &'a [u64],
     set: &'a [u64; MARK_WORDS],
 ) -> bool
     requires { ⌜ (WellFormed (now image)) × (References (now image) (now refs)) × (r < rulesIn (now image)) ⌝ }
@@ -87,12 +69,7 @@ fn condition_touches<'a>(
 }
 
 // Whether rule r refers to a mark of the set.
-pub fn rule_touches<'a>(
-    image: &[u8],
-    r: usize,
-    refs: &'a [u64; REFS],
-    set: &'a [u64; MARK_WORDS],
-) -> bool
+pub fn rule_touches<'a>(image: &[u8], r: usize, refs: &'a [u64], set: &'a [u64; MARK_WORDS]) -> bool
     requires { ⌜ (WellFormed (now image)) × (References (now image) (now refs)) × (r < rulesIn (now image)) ⌝ }
     ensures { λ b. ⌜ b ≡ touches (bookOf (now (image .entry))) r (now (set .entry)) ⌝ }
 {

@@ -1,20 +1,22 @@
 // How many counted and unwritten rules target each mark, and the set of the marks for which there is one.
 ghost use mathlib.Core.Path.{_≡_};
 ghost use Prim.Native.Nat.{_<_};
-ghost use lib.ListN.{getD, replicate};
-ghost use mathlib.Core.Bool.{false};
-ghost use Rattle.paper.specs.Limits.{maxMarks, maxRules};
+ghost use lib.ListN.{replicate};
+ghost use Rattle.paper.specs.Limits.{maxMarks};
 ghost use Rattle.book.specs.Book.{ruleOf};
 ghost use Rattle.book.specs.Image.{rulesIn, bookOf};
 ghost use Rattle.book.specs.Marks.{markWords};
 ghost use Rattle.book.specs.WellFormed.{WellFormed};
+ghost use Rattle.order_theory.specs.Order.{countedRules};
 ghost use Rattle.rule_order.specs.Nets.{rulesOf};
+ghost use Rattle.rule_order.specs.Words.{ruleWords};
 ghost use Rattle.rule_order.specs.Counters.{Begun, Struck};
 use crate::counted::is_counted;
+use crate::written::RULE_WORDS;
+use crate::written::mark_written;
 use book::rules::TARGET_AT;
 use paper::BOOK_HEADER;
 use paper::MAX_MARKS;
-use paper::MAX_RULES;
 use paper::RULE_SIZE;
 use texts::references::MARK_WORDS;
 
@@ -26,42 +28,47 @@ pub fn target_of(image: &[u8], r: usize) -> usize
     wire::u16_at(image, BOOK_HEADER + RULE_SIZE * r + TARGET_AT) as usize
 }
 
-// Before any counted rule is written: one pass over the rules. Those that do not count stand as written from the start, so that they are
-// never ready and none waits for them.
+// Before any counted rule is written: how many count, by one pass over the rules. Those that do not stand as written from the start, so
+// that they are never ready and none waits for them.
 pub fn count_targets(
     image: &[u8],
     rules: usize,
     stage: u32,
     counts: &mut [u16; MAX_MARKS],
     waits: &mut [u64; MARK_WORDS],
-    written: &mut [bool; MAX_RULES],
-)
-    requires { ⌜ (WellFormed (now image)) × (rules ≡ rulesIn (now image)) × (now counts ≡ replicate maxMarks 0) × (now waits ≡ replicate markWords 0) × (now written ≡ replicate maxRules false) ⌝ }
-    ensures { λ _. ⌜ Begun (rulesOf (now (image .entry)) stage) (now (counts .exit)) (now (waits .exit)) (now (written .exit)) ⌝ }
+    written: &mut [u64; RULE_WORDS],
+) -> usize
+    requires { ⌜ (WellFormed (now image)) × (rules ≡ rulesIn (now image))
+        × (now counts ≡ replicate maxMarks 0) × (now waits ≡ replicate markWords 0) × (now written ≡ replicate ruleWords 0) ⌝ }
+    ensures { λ n. ⌜ (n ≡ countedRules (rulesOf (now (image .entry)) stage)) × (Begun (rulesOf (now (image .entry)) stage) (now (counts .exit)) (now (waits .exit)) (now (written .exit))) ⌝ }
 {
+    let mut counted: usize = 0;
     for r in 0..rules {
         if is_counted(image, r, stage) {
+            counted += 1;
             let t = target_of(image, r);
             let n = counts[t];
             counts[t] = n + 1;
             let word = waits[t / 64];
             waits[t / 64] = sets::join(word, sets::one(t % 64));
         } else {
-            written[r] = true;
+            mark_written(written, r);
         }
     }
+    counted
 }
 
-// One rule less targets the mark t: whether that was the last.
+// One rule less targets the mark t: whether none is left.
 pub fn strike(t: usize, counts: &mut [u16; MAX_MARKS], waits: &mut [u64; MARK_WORDS]) -> bool
-    requires { ⌜ (t < maxMarks) × (0 < getD (now counts) t 0) ⌝ }
+    requires { ⌜ t < maxMarks ⌝ }
     ensures { λ r. ⌜ Struck t (now (counts .entry)) (now (waits .entry)) (now (counts .exit)) (now (waits .exit)) r ⌝ }
 {
-    let n = counts[t] - 1;
-    counts[t] = n;
-    if n != 0 {
+    let n = counts[t];
+    if 1 < n {
+        counts[t] = n - 1;
         return false;
     }
+    counts[t] = 0;
     let word = waits[t / 64];
     waits[t / 64] = sets::less(word, sets::one(t % 64));
     true

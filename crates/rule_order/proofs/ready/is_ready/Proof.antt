@@ -1,4 +1,6 @@
 -- `rule_order::ready::is_ready` meets its contract. Assumes nothing.
+use native.Mathlib.Omega.{arith}
+use Rattle.rule_order.specs.Nets.{rules-few}
 use Rattle.rule_order.specs.Ready.{stand-written, stand-untouched}
 use borrow.Author.Needs.{needs}
 use Rattle.rule_order.proofs.ready.is_ready.Statement.{statement}
@@ -8,7 +10,7 @@ pub is-ready-spec : {M : Type 1} → statement M
 is-ready-spec =
     tie.close
     (tie.spec
-    (λ c. search needs)
+    (λ c κs. omega (arith, rules-few _ (c .before .before .pre .0)))
     (λ c. search stand-written)
     (λ c κs. search needs)
     (λ c. search stand-untouched))

@@ -1,5 +1,5 @@
 -- `rule_order::references::condition_touches` meets its contract. Assumes nothing.
-use Rattle.rule_order.specs.References.{reads-none, asked-row, reads-row}
+use Rattle.rule_order.specs.References.{reads-none, asked-room, reads-row}
 use borrow.Author.Needs.{needs}
 use Rattle.rule_order.proofs.references.condition_touches.Statement.{statement}
 use Rattle.rule_order.proofs.references.condition_touches.Tie as tie
@@ -16,5 +16,5 @@ condition-touches-spec =
     (λ c. search needs)
     (λ c κs. search needs)
     (λ c. search needs)
-    (λ c κs. search asked-row)
+    (λ c κs. search asked-room)
     (λ c. search reads-row))

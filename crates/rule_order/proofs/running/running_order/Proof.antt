@@ -1,17 +1,18 @@
 -- `rule_order::running::running_order` meets its contract. Assumes nothing.
-use Rattle.rule_order.specs.Nets.{rules-few}
-use Rattle.rule_order.specs.Scanning.{Scanning, turns, scanning-first, scanning-pass, scanning-room, scanning-waits, turns-less, scanning-back, scanning-on, scanning-last}
-use borrow.Author.Needs.{needs}
 use mathlib.Core.Path.{refl}
+use Prim.Native.Nat.{_-_}
 use native.Mathlib.Omega.{arith}
+use Rattle.rule_order.proofs.Listing.{Listed, room-short, listed-first, listed-length, listed-last, listed-small, listed-more}
+use borrow.Author.Needs.{needs}
 use Rattle.rule_order.proofs.running.running_order.Statement.{statement}
 use Rattle.rule_order.proofs.running.running_order.Tie as tie
 
 abbrev Inv-loop : tie.InvT-loop
-Inv-loop image rules stage refs order₀ counts₀ waits₀ written₀ n₀ at₀ passed₀ order counts waits written n at passed = Scanning image stage order₀ order written counts waits n at passed
+Inv-loop image rules stage refs room₀ counts₀ waits₀ written₀ counted at₀ passed₀ j₀ room counts waits written at passed j =
+    Listed image stage room₀ room counted at passed counts waits written j
 
 abbrev μ-loop : tie.MeasureT-loop
-μ-loop image rules stage refs order₀ counts₀ waits₀ written₀ n₀ at₀ passed₀ order counts waits written n at passed = turns image stage written at
+μ-loop image rules stage refs room₀ counts₀ waits₀ written₀ counted at₀ passed₀ j₀ room counts waits written at passed j = counted - j
 
 pub running-order-spec : {M : Type 1} → statement M
 running-order-spec =
@@ -19,110 +20,18 @@ running-order-spec =
     (tie.spec
     Inv-loop
     μ-loop
-    (λ c κs. ((c .before .before .before .before .before .pre .0), (c .before .before .before .before .before .pre .1), refl, refl, refl))
-    (λ c. scanning-first _ _ _ (c .before .before .before .before .before .before .pre .0) _ _ _ _ (c .count-targets .ensures))
-    (λ c κs. (
-      (c .before .before .before .before .before .before .before .before .before .before .pre .0),
-      (c .before .before .before .before .before .before .before .before .before .before .pre .2),
-      omega (
-        arith,
-        (c .before .before .before .before .before .before .before .before .before .before .pre .1),
-      ),
-    ))
-    (λ c. record {
-      fits = omega (
-        arith,
-        (c .before .before .before .before .before .before .before .before .before .before .before .before .pre .1),
-        rules-few _
-            (c .before .before .before .before .before .before .before .before .before .before .before .before .pre .0),
-      );
-    })
+    (λ c κs. (c .before .before .before .before .before .before .pre .0, c .before .before .before .before .before .before .pre .1, refl, refl, refl))
+    (λ c. (c .before .count-targets .ensures .0, room-short _ _ _ _ (c .before .count-targets .ensures .0) (c .if1 .taken)))
+    (λ c. listed-first _ _ _ _ _ _ _ _ (c .before .before .before .before .before .before .before .before .pre .0) (c .before .before .before .before .before .before .before .before .pre .3)
+    (c .before .count-targets .ensures .0) (c .before .count-targets .ensures .1) (c .if1 .left))
+    (λ c κs. let p = c .before .before .before .before .before .before .before .before .before .before .before .before .before in (p .pre .0, p .pre .1, p .pre .2))
+    (λ c. let l = c .before .before .before .before .before .before in
+    omega (arith, listed-small _ _ _ _ _ _ _ _ _ _ _ (l .loop .inv) _ _ _ _ _ _ (c .before .next-rule .ensures) (l .before .before .before .before .before .before .before .before .before .pre .0)))
     (λ c. search needs)
-    (λ c. scanning-room _ _ _ (c .before .before .before .before .before .before .before .before .before .before .before .before .pre .0) _ _ _ _ _ _ _
-    (c .before .before .before .before .before .loop .inv) _ (omega (arith, (c .before .before .before .before .before .before .before .before .before .before .before .before .pre .1)))
-    (c .before .is-ready .ensures) (c .if1 .taken) (c .before .before .before .before .before .before .before .before .before .before .before .before .pre .3))
-    (λ c. search (
-      needs,
-      scanning-room _ _ _ (c .before .before .before .before .before .before .before .before .before .before .before .before .pre .0) _ _ _ _ _ _ _
-          (c .before .before .before .before .before .loop .inv) _ (omega (arith, (c .before .before .before .before .before .before .before .before .before .before .before .before .pre .1)))
-          (c .before .is-ready .ensures) (c .if1 .taken) (c .before .before .before .before .before .before .before .before .before .before .before .before .pre .3),
-    ))
-    (λ c. omega (
-      arith,
-      (c .before .before .before .before .before .before .before .before .before .before .before .before .pre .1),
-      rules-few _
-          (c .before .before .before .before .before .before .before .before .before .before .before .before .pre .0),
-    ))
-    (λ c κs. (
-      (c .before .before .before .before .before .before .before .before .before .before .before .before .pre .0),
-      omega (
-        arith,
-        (c .before .before .before .before .before .before .before .before .before .before .before .before .pre .1),
-      ),
-    ))
-    (λ c κs. (
-      (c .before .before .target-of .ensures .1),
-      scanning-waits _ _ _
-          (c .before .before .before .before .before .before .before .before .before .before .before .before .before .before .before .pre .0) _ _ _ _ _ _ _
-          (c .before .before .before .before .before .before .before .before .loop .inv) _ (omega (
-            arith,
-            (c .before .before .before .before .before .before .before .before .before .before .before .before .before .before .before .pre .1),
-          ))
-          (c .before .before .before .before .is-ready .ensures) (c .before .before .before .if1 .taken) _ (c .before .before .target-of .ensures .0) (c .before .before .target-of .ensures .1),
-    ))
-    (λ c. turns-less _ _ _ (c .before .before .before .before .before .before .before .before .before .before .before .before .before .before .before .before .before .pre .0) _ _ _ _ _ _ _
-    (c .before .before .before .before .before .before .before .before .before .before .loop .inv) _ (omega (
-      arith,
-      (c .before .before .before .before .before .before .before .before .before .before .before .before .before .before .before .before .before .pre .1),
-    ))
-    (c .before .before .before .before .before .before .is-ready .ensures) (c .before .before .before .before .before .if1 .taken) _
-    (c .before .before .before .before .target-of .ensures .0) (c .before .before .before .before .target-of .ensures .1)
-    (c .before .before .before .before .before .before .before .before .before .before .before .before .before .before .before .before .before .pre .3) _ _ _ (c .before .strike .ensures) _)
-    (λ c. scanning-back _ _ _
-    (c .before .before .before .before .before .before .before .before .before .before .before .before .before .before .before .before .before .pre .0) _ _ _ _ _ _ _
-    (c .before .before .before .before .before .before .before .before .before .before .loop .inv) _ (omega (
-      arith,
-      (c .before .before .before .before .before .before .before .before .before .before .before .before .before .before .before .before .before .pre .1),
-    ))
-    (c .before .before .before .before .before .before .is-ready .ensures) (c .before .before .before .before .before .if1 .taken) _
-    (c .before .before .before .before .target-of .ensures .0) (c .before .before .before .before .target-of .ensures .1)
-    (c .before .before .before .before .before .before .before .before .before .before .before .before .before .before .before .before .before .pre .3) _ _ _ (c .before .strike .ensures) _
-    (c .if2 .taken))
+    (λ c. let l = c .before .before .before .before .before .before in omega (arith, listed-length _ _ _ _ _ _ _ _ _ _ _ (l .loop .inv), l .loop .inv .fits))
     (λ c. search needs)
-    (λ c. turns-less _ _ _ (c .before .before .before .before .before .before .before .before .before .before .before .before .before .before .before .before .before .pre .0) _ _ _ _ _ _ _
-    (c .before .before .before .before .before .before .before .before .before .before .loop .inv) _ (omega (
-      arith,
-      (c .before .before .before .before .before .before .before .before .before .before .before .before .before .before .before .before .before .pre .1),
-    ))
-    (c .before .before .before .before .before .before .is-ready .ensures) (c .before .before .before .before .before .if1 .taken) _
-    (c .before .before .before .before .target-of .ensures .0) (c .before .before .before .before .target-of .ensures .1)
-    (c .before .before .before .before .before .before .before .before .before .before .before .before .before .before .before .before .before .pre .3) _ _ _ (c .before .strike .ensures) _)
-    (λ c. scanning-on _ _ _ (c .before .before .before .before .before .before .before .before .before .before .before .before .before .before .before .before .before .pre .0) _ _ _ _ _ _ _
-    (c .before .before .before .before .before .before .before .before .before .before .loop .inv) _ (omega (
-      arith,
-      (c .before .before .before .before .before .before .before .before .before .before .before .before .before .before .before .before .before .pre .1),
-    ))
-    (c .before .before .before .before .before .before .is-ready .ensures) (c .before .before .before .before .before .if1 .taken) _
-    (c .before .before .before .before .target-of .ensures .0) (c .before .before .before .before .target-of .ensures .1)
-    (c .before .before .before .before .before .before .before .before .before .before .before .before .before .before .before .before .before .pre .3) _ _ _ (c .before .strike .ensures)
-    (c .if2 .left))
-    (λ c. omega (
-      arith,
-      (c .before .before .before .before .before .before .before .before .before .before .before .before .pre .1),
-      rules-few _
-          (c .before .before .before .before .before .before .before .before .before .before .before .before .pre .0),
-    ))
-    (λ c κs. search needs)
     (λ c. search needs)
-    (λ c. omega (arith, (c .before .before .before .before .before .before .before .before .before .before .before .before .before .pre .1)))
-    (λ c. scanning-pass _ _ _ (c .before .before .before .before .before .before .before .before .before .before .before .before .before .pre .0) _ _ _ _ _ _ _
-    (c .before .before .before .before .before .before .loop .inv) _ _ (omega (
-      arith,
-      (c .before .before .before .before .before .before .before .before .before .before .before .before .before .pre .1),
-    )) (c .before .before .is-ready .ensures) (c .before .if1 .left)
-    (c .passing .ensures))
-    (λ c. (c .before .loop .inv .long))
-    (λ c. scanning-last _ _ _ (c .before .before .before .before .before .before .before .before .pre .0) _ _ _ _ _ _ _ (c .before .loop .inv) (omega (
-      arith,
-      (c .before .before .before .before .before .before .before .before .pre .1),
-    )) (c .before .before .before .before .before .before .before .before .pre .3)))
+    (λ c. let t = c .before .before .before .before .before in
+    listed-more _ _ _ _ _ _ _ _ _ _ _ (t .before .loop .inv) _ _ _ _ _ _ (c .before .next-rule .ensures) (t .loop-test .taken))
+    (λ c. listed-length _ _ _ _ _ _ _ _ _ _ _ (c .before .loop .inv))
+    (λ c. (c .before .loop .inv .many, listed-last _ _ _ _ _ _ _ _ _ _ _ (c .before .loop .inv) (c .loop-test .left))))

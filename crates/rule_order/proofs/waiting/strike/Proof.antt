@@ -1,5 +1,4 @@
 -- `rule_order::waiting::strike` meets its contract. Assumes nothing.
-use mathlib.Core.Path.{refl}
 use Rattle.rule_order.specs.Counters.{struck-last, struck-more}
 use borrow.Author.Needs.{needs}
 use Rattle.rule_order.proofs.waiting.strike.Statement.{statement}
@@ -17,8 +16,10 @@ strike-spec =
     (λ c. search struck-more)
     (λ c. search needs)
     (λ c. search needs)
+    (λ c. search needs)
+    (λ c. search needs)
     (λ c κs. search needs)
     (λ c κs. search needs)
     (λ c. search needs)
     (λ c. search needs)
-    (λ c. struck-last _ _ _ _ _ _ (c .before .before .before .before .before .pre .1) refl (c .before .before .before .if1 .left) (c .before .one .ensures) (c .less .ensures)))
+    (λ c. search struck-last))
