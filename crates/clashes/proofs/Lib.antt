@@ -1,3 +1,6 @@
 -- The root of the crate's proofs.
-pub mod Links
+pub mod Senses
 pub mod Bytes
+pub mod Groups
+pub mod Passes
+pub mod Rules

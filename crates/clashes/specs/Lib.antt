@@ -1,4 +1,4 @@
 -- The root of the crate's specs.
 pub mod Clash
 pub mod Pairs
-pub mod Chains
+pub mod Groups

@@ -1,0 +1,11 @@
+-- `clashes::meets` meets its contract. Assumes nothing.
+use mathlib.Core.Path.{refl}
+use Rattle.clashes.specs.Groups.{meets}
+use Rattle.clashes.proofs.meets.Statement.{statement}
+use Rattle.clashes.proofs.meets.Tie as tie
+
+pub meets-spec : {M : Type 1} → statement M
+meets-spec =
+    tie.close
+    (tie.spec
+    (λ c. unfold meets in refl))
