@@ -1,25 +1,31 @@
 -- What the loop that gathers the stages with a search of their own keeps, and what the loop over the stages keeps. Assumes nothing.
 use mathlib.Core.Path.{_≡_, refl, sym, ap, _∙_}
-use mathlib.Core.Bool.{Bool, true, false, _&&_, _||_, or-false}
+use mathlib.Core.Bool.{Bool, true, false, not, _&&_, _||_, or-false}
 use mathlib.Core.List.{List}
-use Prim.Native.Nat.{ℕ, _+_, _≤_, _<_}
+use Prim.Native.Nat.{ℕ, _+_, _*_, _≤_, _<_}
 use native.Mathlib.Omega.{arith}
 use lib.Dec.{eqb, leb, ltb}
 use lib.ListN.{length}
-use borrow.Author.Tests.{eqb-true, eqb-false, eq-eqb, ne-eqb, le-leb, lt-leb, ltb-false}
+use borrow.Author.Tests.{eqb-true, eqb-false, eq-eqb, ne-eqb, le-leb, lt-leb, ltb-false, not-true}
 use Rattle.paper.specs.Limits.{maxEvents}
 use Rattle.general.specs.Cases.{cases, not-so}
 use Rattle.general.specs.Below.{some, some-step}
-use Rattle.sets.specs.Set.{has, union, minus, only, collect}
+use Rattle.sets.specs.Set.{has, union, only, collect}
 use Rattle.sets.specs.Laws.{has-empty, has-union, has-only, has-collect, ext}
 use Rattle.book.specs.Book.{ruleOf}
 use Rattle.book.specs.Image.{stagesIn, marksIn, rulesIn, rulePlace, triggerFrom, senseFrom, ruleFrom, bookOf, kindAt, senseAt, numberAt, conditionAt}
 use Rattle.book.specs.Read.{rules-count, rule-read}
+use Rattle.book.specs.Marks.{markWords}
 use Rattle.book.specs.WellFormed.{WellFormed}
+use Rattle.book.specs.WellRead.{Opened}
+use Rattle.book.specs.declared.Counts.{Counts}
+use Rattle.texts.specs.Noted.{References}
 use Rattle.loops.specs.Linked.{withStage}
 use Rattle.loops.specs.Places.{stagePlace, lesser, loopPlace}
-use Rattle.loops.specs.Searching.{completes, asks, searchRule, searches, searching, searching-has, searches-below, alone, completable, targets-exist}
-use Rattle.loops.specs.Searching.{placeSoFar, so-far-first, so-far-searched, so-far-common, so-far-last, no-stages}
+use Rattle.loops.specs.Searching.{completes, asks, searchRule, searches, searching, searching-has, searches-below, none-search, one-searches, completable, targets-exist}
+use Rattle.loops.specs.Searching.{searchedBelow, searched-on, searched-past, searched-last, common-last, no-stages}
+use Rattle.loops.specs.Chances.{mayLoop, no-chance}
+use Rattle.loops.proofs.Rows.{marks-many}
 
 -- ---- one rule
 
@@ -40,7 +46,7 @@ module _ (s : List ℕ) (r : ℕ) where
     unfolding withStage
     stage-taken n o next k h e f g = rw (eq-eqb (kindAt s (rulePlace r)) 1 k, le-leb 1 (senseAt s (rulePlace r)) h) (g ∙ rw (f, e))
 
-asks-byte : (k c : ℕ) → asks (senseFrom k c) ≡ leb 1 k
+pub asks-byte : (k c : ℕ) → asks (senseFrom k c) ≡ leb 1 k
 unfolding senseFrom asks
 asks-byte k c =
     cases (eqb k 0) (λ e. rw (e, lt-leb 1 k (omega (arith, eqb-true k 0 e))))
@@ -96,40 +102,82 @@ gathered-last s n set r w m g h =
     ∙ sym (has-collect (b .stages) (searches b) e ∙ cases (ltb e (b .stages)) (λ t. rw t)
     (λ t. rw t (sym (not-so (λ y. absurd (omega (arith, searches-below b (completable s w) e y, ltb-false e (b .stages) t))))))))
 
-pub alone-read : (set stage o r : ℕ) → o ≡ only stage → r ≡ minus set o → eqb r 0 ≡ alone set stage
-unfolding alone
-alone-read set stage o r e f = rw (f, e)
-
 -- ---- the loop over the stages
 
-pub record Placed (s : List ℕ) (least stage : ℕ) : Type 0 where
+pub record Placed (s : List ℕ) (h : Counts) (refs entry rows : List ℕ) (set least stage : ℕ) : Type 0 where
+  pub opened : Opened s h
+  pub references : References s refs
+  pub room : marksIn s * markWords ≤ length rows
+  pub long : length rows ≡ length entry
+  pub gathered : set ≡ searching (bookOf s)
   pub within : stage ≤ stagesIn s
-  pub place : least ≡ placeSoFar (bookOf s) stage
+  pub place : least ≡ searchedBelow (bookOf s) stage
 
-module _ (s : List ℕ) (w : WellFormed s) where
-  pub placed-none : (marks stages : ℕ) → marks ≡ marksIn s → stages ≡ stagesIn s → stages ≡ 0 → marks ≡ loopPlace (bookOf s)
-  unfolding bookOf
-  placed-none marks stages e f z = e ∙ no-stages (bookOf s) (sym f ∙ z)
+stages-many : (s : List ℕ) (h : Counts) → Opened s h → h .stages ≡ stagesIn s
+stages-many s h o = ap (λ (c : Counts). c .stages) (o .counts)
 
-  pub placed-first : (stages least : ℕ) → stages ≡ stagesIn s → least ≡ stagePlace (bookOf s) stages → Placed s least 0
-  unfolding bookOf
-  placed-first stages least e f = record { within = omega arith; place = f ∙ rw e (so-far-first (bookOf s)) }
+module _ (s : List ℕ) (h : Counts) (refs entry rows : List ℕ) (set : ℕ) where
+  pub placed-first : Opened s h → References s refs → marksIn s * markWords ≤ length rows → set ≡ searching (bookOf s) → Placed s h refs rows rows set (h .marks) 0
+  unfolding bookOf searchedBelow
+  placed-first o f l e = record { opened = o; references = f; room = l; long = refl; gathered = e; within = omega arith; place = marks-many s h o }
 
-  module _ (stages set least stage : ℕ) (x : Bool) (m : stages ≡ stagesIn s) (e : set ≡ searching (bookOf s)) (g : Placed s least stage) (h : stage < stages) (f : x ≡ has set stage) where
-    pub placed-searched : (place next out : ℕ) → place ≡ stagePlace (bookOf s) stage → next ≡ lesser least place → out ≡ next → Placed s out (stage + 1)
-    placed-searched place next out p n o = record { within = omega arith; place = o ∙ n ∙ rw (p, g .place) (so-far-searched (bookOf s) stage) }
+  module _ (least stage : ℕ) (g : Placed s h refs entry rows set least stage) (i : stage < h .stages) (x : Bool) (f : x ≡ has set stage) where
+    below-stages : stage < stagesIn s
+    below-stages = omega (arith, stages-many s h (g .opened))
 
-    pub placed-common : (out : ℕ) → x ≡ false → out ≡ least → Placed s out (stage + 1)
+    searched : searches (bookOf s) stage ≡ x
     unfolding bookOf
-    placed-common out t o =
+    searched = sym (searching-has (bookOf s) stage below-stages) ∙ rw (← g .gathered) (sym f)
+
+    pub placed-searched : (place next out : ℕ) (last new : List ℕ) → x ≡ true → place ≡ stagePlace (bookOf s) stage → next ≡ lesser least place → out ≡ next
+        → length last ≡ length rows → new ≡ last → Placed s h refs entry new set out (stage + 1)
+    placed-searched place next out last new t p n q k z =
+        let b = below-stages in
         record {
+          opened = g .opened;
+          references = g .references;
+          room = rw (z, k) (g .room);
+          long = ap length z ∙ k ∙ g .long;
+          gathered = g .gathered;
           within = omega arith;
-          place = o ∙ g .place ∙ so-far-common (bookOf s) (completable s w) stage (sym (searching-has (bookOf s) stage (omega arith)) ∙ rw (← e) (sym f ∙ t));
+          place = q ∙ n ∙ rw (p, g .place) (searched-on (bookOf s) stage (searched ∙ t));
         }
 
-  pub placed-last : (stages least stage : ℕ) → stages ≡ stagesIn s → (stages ≡ 0 → ⊥) → Placed s least stage → stages ≤ stage → least ≡ loopPlace (bookOf s)
+    pub placed-past : (out : ℕ) (new : List ℕ) → x ≡ false → out ≡ least → new ≡ rows → Placed s h refs entry new set out (stage + 1)
+    placed-past out new t q z =
+        let b = below-stages in
+        record {
+          opened = g .opened;
+          references = g .references;
+          room = rw z (g .room);
+          long = rw z (g .long);
+          gathered = g .gathered;
+          within = omega arith;
+          place = q ∙ g .place ∙ searched-past (bookOf s) stage (searched ∙ t);
+        }
+
+  pub placed-last : (least stage : ℕ) → (set ≡ 0 → ⊥) → Placed s h refs entry rows set least stage → h .stages ≤ stage → least ≡ loopPlace (bookOf s)
   unfolding bookOf
-  placed-last stages least stage m n g h =
+  placed-last least stage n g l =
       let i = g .within in
-      let z : stage ≡ stagesIn s = omega arith in
-      g .place ∙ rw z (so-far-last (bookOf s) (completable s w) (targets-exist s w) (omega arith))
+      let w = g .opened .formed in
+      let z : stage ≡ stagesIn s = omega (arith, stages-many s h (g .opened)) in
+      let (k, j, e) = one-searches (bookOf s) (λ y. n (g .gathered ∙ y)) in
+      g .place ∙ rw z (searched-last (bookOf s) (completable s w) (targets-exist s w) k j e)
+
+-- ---- the returns of the whole
+
+module _ (s : List ℕ) (h : Counts) (o : Opened s h) where
+  pub place-none : h .stages ≡ 0 → h .marks ≡ loopPlace (bookOf s)
+  unfolding bookOf
+  place-none z = marks-many s h o ∙ no-stages (bookOf s) (sym (stages-many s h o) ∙ z)
+
+  pub place-calm : (x : Bool) → x ≡ mayLoop (bookOf s) → not x ≡ true → h .marks ≡ loopPlace (bookOf s)
+  unfolding bookOf
+  place-calm x e t = marks-many s h o ∙ sym (no-chance (bookOf s) (o .formed .headed .counted .marks) (targets-exist s (o .formed)) (sym e ∙ not-true x t))
+
+  pub place-common : (set p : ℕ) → (h .stages ≡ 0 → ⊥) → set ≡ searching (bookOf s) → set ≡ 0 → p ≡ stagePlace (bookOf s) (h .stages) → p ≡ loopPlace (bookOf s)
+  unfolding bookOf
+  place-common set p n e z q =
+      let m = stages-many s h o in
+      q ∙ rw m (common-last (bookOf s) (completable s (o .formed)) (omega arith) (none-search (bookOf s) (sym e ∙ z)))

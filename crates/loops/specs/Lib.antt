@@ -2,3 +2,5 @@
 pub mod Places
 pub mod Linked
 pub mod Searching
+pub mod Chances
+pub mod Sorts

@@ -2,20 +2,16 @@
 use mathlib.Core.Bool.{cond, _&&_}
 use mathlib.Core.Path.{_≡_}
 use mathlib.Core.List.{List}
-use Prim.Native.Nat.{ℕ, _*_, _<_}
+use Prim.Native.Nat.{ℕ, _*_, _≤_, _<_}
 use lib.Dec.{eqb, leb}
 use lib.ListN.{length}
 use Rattle.paper.specs.Limits.{maxMarks}
 use Rattle.sets.specs.Set.{union, only}
 use Rattle.closure.specs.BitRows.{bit, putBit, takeRow}
 use Rattle.order_theory.specs.Loops.{leads}
-use Rattle.book.specs.Image.{rulePlace, bookOf, kindAt, senseAt, numberAt, conditionAt, targetAt}
+use Rattle.book.specs.Image.{marksIn, rulePlace, bookOf, kindAt, senseAt, numberAt, conditionAt, targetAt}
 use Rattle.book.specs.Marks.{markWords}
 use Rattle.rule_order.specs.Rules.{netOf}
-
--- 256 rows of four words
-abbrev pub linkWords : ℕ
-linkWords = maxMarks * markWords
 
 -- the row of rule r's target takes in the row of its condition, and then the mark of its become trigger
 unfoldable pub withCondition : List ℕ → List ℕ → List ℕ → ℕ → List ℕ
@@ -26,8 +22,8 @@ withTrigger s rows r = cond (leb 2 (kindAt s (rulePlace r))) (putBit rows markWo
 
 -- row b has a exactly if some rule that counts for the stage refers to a and targets b
 pub record LinkedMarks (s : List ℕ) (stage : ℕ) (rows : List ℕ) : Type 0 where
-  pub size : length rows ≡ linkWords
-  pub holds : (a b : ℕ) → a < maxMarks → b < maxMarks → bit rows markWords b a ≡ leads (netOf (bookOf s) stage) a b
+  pub room : marksIn s * markWords ≤ length rows
+  pub holds : (a b : ℕ) → a < maxMarks → b < marksIn s → bit rows markWords b a ≡ leads (netOf (bookOf s) stage) a b
 
 -- a set of stages takes in the stage of rule r where its completion triggers the rule and the rule has a condition
 unfoldable pub withStage : List ℕ → ℕ → ℕ → ℕ

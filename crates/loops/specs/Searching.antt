@@ -1,23 +1,23 @@
 -- Which stages need a search for loops of their own: those that have a completion rule with a condition. Assumes nothing.
 use mathlib.Core.Path.{_≡_, refl, sym, ap, _∙_, fun-ext}
-use mathlib.Core.Bool.{Bool, true, false, _&&_, _||_, and-true}
+use mathlib.Core.Bool.{Bool, true, false, cond, _&&_, _||_, and-true}
 use mathlib.Core.List.{List}
-use Prim.Native.Nat.{ℕ, _+_, _≤_, _<_}
+use Prim.Native.Nat.{ℕ, zero, suc, _+_, _≤_, _<_}
 use native.Mathlib.Numerals.{add-one}
+use native.Mathlib.Nat.{le-antisymm}
 use native.Mathlib.Omega.{arith}
 use lib.Dec.{eqb, ltb}
 use lib.ListN.{length, List·getD-eq-default}
-use borrow.Author.Tests.{eqb-true, eqb-false, ltb-true, ltb-false, lt-ltb}
-use Rattle.general.specs.Cases.{contra, cases, both, not-so}
-use Rattle.general.specs.Below.{some, some-of, some-at, first}
-use Rattle.sets.specs.Set.{has, minus, only, collect}
-use Rattle.sets.specs.Laws.{has-collect, has-only, minus-none}
+use borrow.Author.Tests.{eqb-true, ltb-true, ltb-false, lt-ltb}
+use Rattle.general.specs.Cases.{contra, cases, both, not-so, lt-suc}
+use Rattle.general.specs.Below.{some, some-of, some-at, first, find}
+use Rattle.sets.specs.Set.{has, collect}
+use Rattle.sets.specs.Laws.{has-collect, has-empty, none-zero}
 use Rattle.closure.specs.Closure.{within}
-use Rattle.order_theory.specs.Order.{NoLoop}
-use Rattle.order_theory.specs.Fewer.{Fewer, RefersToNothing, fewer-marks, fewer-loops, nothing-leads, nothing-loops}
+use Rattle.order_theory.specs.Fewer.{Fewer, RefersToNothing, fewer-marks, nothing-leads}
 use Rattle.book.specs.Book.{Book, noRule, ruleOf, textOf}
 use Rattle.book.specs.Firing.{awaits, reads, refers}
-use Rattle.book.specs.Image.{marksIn, bookOf}
+use Rattle.book.specs.Image.{bookOf}
 use Rattle.book.specs.Read.{rules-count}
 use Rattle.book.specs.WellFormed.{WellFormed}
 use Rattle.book.specs.WellRead.{triggerExists, rule-exists}
@@ -27,7 +27,7 @@ use Rattle.book.specs.declared.Trigger.the-variants.{None, Completed, BecomeYes
 use Rattle.book.specs.declared.Sense.{Sense}
 use Rattle.book.specs.declared.Sense.the-variants.{NoCondition, AsWritten, Negated}
 use Rattle.rule_order.specs.Rules.{counted, netOf}
-use Rattle.loops.specs.Places.{stagePlace, lesser, lesser-one, lesser-fits, lesser-left, lesser-right, placeBelow, loopPlace, stage-fits, below-least, stage-place, loop-place}
+use Rattle.loops.specs.Places.{stagePlace, lesser, lesser-one, lesser-fits, placeBelow, loopPlace, stage-fits, below-least, stage-place}
 
 -- the stage's completion triggers the rule
 unfoldable pub completes : ℕ → Trigger → Bool
@@ -53,18 +53,20 @@ searches b stage = some (length (b .rules)) (λ r. searchRule (ruleOf b r) stage
 unfoldable pub searching : Book → ℕ
 searching b = collect (b .stages) (searches b)
 
--- no stage but this one is in the set
-unfoldable pub alone : ℕ → ℕ → Bool
-alone set stage = eqb (minus set (only stage)) 0
-
 pub searching-has : (b : Book) (stage : ℕ) → stage < b .stages → has (searching b) stage ≡ searches b stage
 unfolding searching
 searching-has b stage h = has-collect (b .stages) (searches b) stage ∙ rw (lt-ltb stage (b .stages) h)
 
-pub alone-has : (set stage t : ℕ) → alone set stage ≡ true → (t ≡ stage → ⊥) → has set t ≡ false
-unfolding alone
-alone-has set stage t e n =
-    not-so (λ h. n (sym (eqb-true stage t (sym (has-only stage t) ∙ minus-none set (only stage) (eqb-true (minus set (only stage)) 0 e) t h))))
+-- the set is empty, or it has a stage of the book
+pub none-search : (b : Book) → searching b ≡ 0 → (stage : ℕ) → stage < b .stages → searches b stage ≡ false
+none-search b e stage h = sym (searching-has b stage h) ∙ rw e (has-empty stage)
+
+pub one-searches : (b : Book) → (searching b ≡ 0 → ⊥) → (stage : ℕ) × (stage < b .stages) × (searches b stage ≡ true)
+unfolding searching
+one-searches b n =
+    find (b .stages) (searches b) (λ stage h e. (stage, h, e))
+    (λ f. absurd (n (none-zero (collect (b .stages) (searches b)) (λ e. has-collect (b .stages) (searches b) e
+    ∙ cases (ltb e (b .stages)) (λ t. rw t (f e (ltb-true e (b .stages) t))) (λ t. rw t)))))
 
 -- ---- the rules that count for every stage are those that count for S, a stage that no rule names
 
@@ -141,45 +143,75 @@ module _ (b : Book) (known : Completable b) where
         absurd (stage-place b small stage .0 .1 C h (fewer-marks (common-fewer stage) C (stage-place b small (b .stages) .0 .0 (omega arith)))))
         (λ e. ltb-false C (stagePlace b stage) e)
 
-    -- where one stage has no loop and no other stage has a search of its own, no stage has a loop
-    pub alone-passes : (stage : ℕ) → NoLoop (netOf b stage) → alone (searching b) stage ≡ true → loopPlace b ≡ b .marks
-    alone-passes stage n a =
-        loop-place b small .1 .0 (λ t i. cases (eqb t stage) (λ e. rw (eqb-true t stage e) n)
-        (λ e. let s : searches b t ≡ false = sym (searching-has b t i) ∙ alone-has (searching b) stage t a (eqb-false t stage e) in
-        nothing-loops (common-fewer t) (common-only t s) .0 (fewer-loops (common-fewer stage) n)))
+-- ---- the least place of the stages below k that have a search of their own, or M
 
--- ---- the least place, stage by stage, from that of the rules that count for every stage on
+unfoldable pub searchedBelow : Book → ℕ → ℕ
+searchedBelow b zero = b .marks
+searchedBelow b (suc k) = cond (searches b k) (lesser (searchedBelow b k) (stagePlace b k)) (searchedBelow b k)
 
-unfoldable pub placeSoFar : Book → ℕ → ℕ
-placeSoFar b k = lesser (stagePlace b (b .stages)) (placeBelow b k)
+module _ (b : Book) where
+  pub searched-on : (k : ℕ) → searches b k ≡ true → lesser (searchedBelow b k) (stagePlace b k) ≡ searchedBelow b (k + 1)
+  unfolding searchedBelow
+  searched-on k e = rw (add-one, e)
 
-pub so-far-first : (b : Book) → stagePlace b (b .stages) ≡ placeSoFar b 0
-unfolding placeSoFar placeBelow
-so-far-first b = sym (lesser-left (stagePlace b (b .stages)) (b .marks) (stage-fits b (b .stages)))
+  pub searched-past : (k : ℕ) → searches b k ≡ false → searchedBelow b k ≡ searchedBelow b (k + 1)
+  unfolding searchedBelow
+  searched-past k e = rw (add-one, e)
 
-lesser-over : (x y z : ℕ) → lesser (lesser x y) z ≡ lesser x (lesser y z)
-lesser-over x y z =
-    lesser-one (λ p. lesser p z ≡ lesser x (lesser y z)) x y
-    (λ i. lesser-one (λ q. lesser x z ≡ lesser x q) y z (λ j. lesser-left x z (omega arith) ∙ sym (lesser-left x y i)) (λ j. refl))
-    (λ i. sym (lesser-right x (lesser y z) (omega (arith, lesser-fits y z .0))))
+  -- it stands between the least place of all these stages and the place of each that is searched
+  searched-above : (k : ℕ) → placeBelow b k ≤ searchedBelow b k
+  unfolding searchedBelow placeBelow
+  searched-above zero = omega arith
+  searched-above (suc k) =
+      let i = searched-above k in
+      let (p, q) = lesser-fits (placeBelow b k) (stagePlace b k) in
+      cases (searches b k)
+      (λ e. rw e (lesser-one (λ x. lesser (placeBelow b k) (stagePlace b k) ≤ x) (searchedBelow b k) (stagePlace b k) (λ j. omega arith) (λ j. q)))
+      (λ e. rw e (omega arith))
 
-pub so-far-searched : (b : Book) (k : ℕ) → lesser (placeSoFar b k) (stagePlace b k) ≡ placeSoFar b (k + 1)
-unfolding placeSoFar placeBelow
-so-far-searched b k = rw add-one (lesser-over (stagePlace b (b .stages)) (placeBelow b k) (stagePlace b k))
+  searched-fits : (k : ℕ) → searchedBelow b k ≤ b .marks
+  unfolding searchedBelow
+  searched-fits zero = omega arith
+  searched-fits (suc k) =
+      let i = searched-fits k in
+      cases (searches b k) (λ e. rw e (omega (arith, lesser-fits (searchedBelow b k) (stagePlace b k) .0))) (λ e. rw e i)
 
-module _ (b : Book) (known : Completable b) where
-  pub so-far-common : (k : ℕ) → searches b k ≡ false → placeSoFar b k ≡ placeSoFar b (k + 1)
-  unfolding placeSoFar placeBelow
-  so-far-common k n =
-      let C : ℕ = stagePlace b (b .stages) in
-      rw (add-one, common-place b known k n)
-      (lesser-one (λ q. lesser C (placeBelow b k) ≡ lesser C q) (placeBelow b k) C (λ i. refl) (λ i. lesser-left C (placeBelow b k) i ∙ sym (lesser-left C C (omega arith))))
+  searched-least : (k stage : ℕ) → stage < k → searches b stage ≡ true → searchedBelow b k ≤ stagePlace b stage
+  unfolding searchedBelow
+  searched-least zero stage h t = absurd (omega arith)
+  searched-least (suc k) stage h t =
+      let (p, q) = lesser-fits (searchedBelow b k) (stagePlace b k) in
+      lt-suc h (λ x. rw (← x, t) (rw (← x) at q))
+      (λ i. let j = searched-least k stage i t in cases (searches b k) (λ e. rw e (omega arith)) (λ e. rw e j))
 
-  pub so-far-last : ((r : ℕ) → r < length (b .rules) → ruleOf b r .target < b .marks) → 0 < b .stages → placeSoFar b (b .stages) ≡ loopPlace b
-  unfolding placeSoFar loopPlace
-  so-far-last small h =
-      lesser-right (stagePlace b (b .stages)) (placeBelow b (b .stages))
-      (omega (arith, below-least b (b .stages) 0 h, common-above b known small 0))
+  -- what is above no place is not above the least one
+  all-above : (x k : ℕ) → x ≤ b .marks → ((stage : ℕ) → stage < k → x ≤ stagePlace b stage) → x ≤ placeBelow b k
+  unfolding placeBelow
+  all-above x zero m h = m
+  all-above x (suc k) m h =
+      let i = all-above x k m (λ stage l. h stage (omega arith)) in
+      lesser-one (λ y. x ≤ y) (placeBelow b k) (stagePlace b k) (λ j. i) (λ j. h k (omega arith))
+
+  module _ (known : Completable b) where
+    -- where no stage has a search of its own, the rules that count for every stage have the loops of each
+    pub common-last : 0 < b .stages → ((stage : ℕ) → stage < b .stages → searches b stage ≡ false) → stagePlace b (b .stages) ≡ loopPlace b
+    unfolding loopPlace
+    common-last h n =
+        let C : ℕ = stagePlace b (b .stages) in
+        le-antisymm (all-above C (b .stages) (stage-fits b (b .stages)) (λ stage l. rw (common-place b known stage (n stage l)) (omega arith)))
+        (rw (common-place b known 0 (n 0 h)) at (below-least b (b .stages) 0 h))
+
+    -- and where one has, its rules are those and more: the searches of such stages serve the others too
+    pub searched-last : ((r : ℕ) → r < length (b .rules) → ruleOf b r .target < b .marks) → (stage : ℕ) → stage < b .stages → searches b stage ≡ true
+        → searchedBelow b (b .stages) ≡ loopPlace b
+    unfolding loopPlace
+    searched-last small stage h t =
+        let L : ℕ = searchedBelow b (b .stages) in
+        let i = searched-least (b .stages) stage h t in
+        let j = common-above b known small stage in
+        le-antisymm
+        (all-above L (b .stages) (searched-fits (b .stages)) (λ k l. cases (searches b k) (λ e. searched-least (b .stages) k l e) (λ e. rw (common-place b known k e) (omega arith))))
+        (searched-above (b .stages))
 
 pub no-stages : (b : Book) → b .stages ≡ 0 → b .marks ≡ loopPlace b
 unfolding loopPlace placeBelow
@@ -195,8 +227,3 @@ module _ (s : List ℕ) (w : WellFormed s) where
   pub targets-exist : (r : ℕ) → r < length (bookOf s .rules) → ruleOf (bookOf s) r .target < bookOf s .marks
   unfolding bookOf
   targets-exist r h = rule-exists s w r (rw (rules-count s) at h) .target
-
-  -- for code that has made the set and one stage's order
-  pub no-search : (set stage : ℕ) (r : Bool) → set ≡ searching (bookOf s) → r ≡ alone set stage → r ≡ true → NoLoop (netOf (bookOf s) stage) → loopPlace (bookOf s) ≡ marksIn s
-  unfolding bookOf
-  no-search set stage r e f t n = alone-passes (bookOf s) completable targets-exist stage n (rw (← e) (sym f ∙ t))

@@ -1,86 +1,27 @@
 // The lowest mark targeted by a rule on a loop among the rules that count for some stage.
+pub mod chances;
+pub mod searches;
+
 ghost use mathlib.Core.Path.{_≡_};
-ghost use Prim.Native.Nat.{_<_};
-ghost use lib.ListN.{length, replicate};
-ghost use Rattle.paper.specs.Limits.{maxEvents};
-ghost use Rattle.book.specs.Image.{stagesIn, rulesIn, marksIn, bookOf};
+ghost use Prim.Native.Nat.{_*_, _≤_, _<_};
+ghost use lib.ListN.{length};
+ghost use Rattle.book.specs.Image.{marksIn, rulesIn, bookOf};
+ghost use Rattle.book.specs.Marks.{markWords};
 ghost use Rattle.book.specs.WellFormed.{WellFormed};
-ghost use Rattle.rule_order.specs.References.{References};
-ghost use Rattle.loops.specs.Linked.{linkWords, withCondition, withTrigger, LinkedMarks, withStage};
-ghost use Rattle.loops.specs.Places.{stagePlace, lesser, loopPlace};
-ghost use Rattle.loops.specs.Searching.{searching, alone};
-use book::rules::CONDITION_AT;
+ghost use Rattle.book.specs.WellRead.{Opened};
+ghost use Rattle.texts.specs.Noted.{References};
+ghost use Rattle.loops.specs.Linked.{withStage};
+ghost use Rattle.loops.specs.Places.{lesser, loopPlace};
+ghost use Rattle.loops.specs.Searching.{searching};
+use crate::chances::may_loop;
+use crate::searches::stage_place;
+use book::Counts;
 use book::rules::NUMBER_AT;
 use book::rules::SENSE_AS_WRITTEN;
 use book::rules::SENSE_AT;
-use book::rules::TARGET_AT;
-use book::rules::TRIGGER_BECOME_YES;
 use book::rules::TRIGGER_COMPLETED;
 use paper::BOOK_HEADER;
-use paper::MAX_MARKS;
 use paper::RULE_SIZE;
-use rule_order::counted::is_counted;
-use rule_order::references::REFS;
-use texts::references::MARK_WORDS;
-
-// Row b is the set of marks that the counted rules which target b refer to: 8 KiB.
-const LINKS: usize = MAX_MARKS * MARK_WORDS;
-
-// The row of rule r's target takes in what its condition names.
-fn link_condition(image: &[u8], r: usize, refs: &[u64; REFS], rows: &mut [u64])
-    requires { ⌜ (WellFormed (now image)) × (References (now image) (now refs)) × (r < rulesIn (now image)) × (length (now rows) ≡ linkWords) ⌝ }
-    ensures { λ _. ⌜ now (rows .exit) ≡ withCondition (now (image .entry)) (now (refs .entry)) (now (rows .entry)) r ⌝ }
-{
-    let at = BOOK_HEADER + RULE_SIZE * r;
-    if SENSE_AS_WRITTEN <= image[at + SENSE_AT] {
-        let target = wire::u16_at(image, at + TARGET_AT) as usize;
-        let condition = wire::u16_at(image, at + CONDITION_AT) as usize;
-        closure::take_row(rows, MARK_WORDS, target, refs, condition);
-    }
-}
-
-// And the mark that its trigger waits for.
-fn link_trigger(image: &[u8], r: usize, rows: &mut [u64])
-    requires { ⌜ (WellFormed (now image)) × (r < rulesIn (now image)) × (length (now rows) ≡ linkWords) ⌝ }
-    ensures { λ _. ⌜ now (rows .exit) ≡ withTrigger (now (image .entry)) (now (rows .entry)) r ⌝ }
-{
-    let at = BOOK_HEADER + RULE_SIZE * r;
-    if TRIGGER_BECOME_YES <= image[at] {
-        let target = wire::u16_at(image, at + TARGET_AT) as usize;
-        let mark = wire::u16_at(image, at + NUMBER_AT) as usize;
-        closure::put_bit(rows, MARK_WORDS, target, mark);
-    }
-}
-
-fn link(image: &[u8], rules: usize, stage: u32, refs: &[u64; REFS], rows: &mut [u64])
-    requires { ⌜ (WellFormed (now image)) × (References (now image) (now refs)) × (rules ≡ rulesIn (now image)) × (now rows ≡ replicate linkWords 0) ⌝ }
-    ensures { λ _. ⌜ LinkedMarks (now (image .entry)) stage (now (rows .exit)) ⌝ }
-{
-    for r in 0..rules {
-        if is_counted(image, r, stage) {
-            link_condition(image, r, refs, rows);
-            link_trigger(image, r, rows);
-        }
-    }
-}
-
-// Among the rules that count for one stage, which need not be one that the book has.
-// One pass over the rules, and one closure over the marks: at most 65,536 rows of four words taken in. Stack: 8 KiB.
-pub fn stage_place(
-    image: &[u8],
-    rules: usize,
-    marks: usize,
-    stage: u32,
-    refs: &[u64; REFS],
-) -> usize
-    requires { ⌜ (WellFormed (now image)) × (References (now image) (now refs)) × (rules ≡ rulesIn (now image)) × (marks ≡ marksIn (now image)) ⌝ }
-    ensures { λ r. ⌜ r ≡ stagePlace (bookOf (now (image .entry))) stage ⌝ }
-{
-    let mut rows = [0u64; LINKS];
-    link(image, rules, stage, refs, &mut rows);
-    closure::close(&mut rows, marks, MARK_WORDS);
-    closure::lowest_on_diagonal(&rows, marks, MARK_WORDS)
-}
 
 // The set with the stage whose completion triggers rule r, if that rule has a condition.
 fn with_stage(image: &[u8], r: usize, set: u64) -> u64
@@ -98,7 +39,7 @@ fn with_stage(image: &[u8], r: usize, set: u64) -> u64
 }
 
 // The stages that have a completion rule with a condition: one pass over the rules.
-pub fn searching(image: &[u8], rules: usize) -> u64
+fn searching(image: &[u8], rules: usize) -> u64
     requires { ⌜ (WellFormed (now image)) × (rules ≡ rulesIn (now image)) ⌝ }
     ensures { λ set. ⌜ set ≡ searching (bookOf (now (image .entry))) ⌝ }
 {
@@ -109,45 +50,48 @@ pub fn searching(image: &[u8], rules: usize) -> u64
     set
 }
 
-// Whether no stage but this one is in the set. If so, and the rules that count for this one form no loop, no stage has a loop.
-pub fn alone(set: u64, stage: u32) -> bool
-    requires { ⌜ stage < maxEvents ⌝ }
-    ensures { λ r. ⌜ r ≡ alone set stage ⌝ }
-{
-    sets::less(set, sets::one(stage as usize)) == 0
-}
-
 fn lesser(x: usize, y: usize) -> usize
     ensures { λ r. ⌜ r ≡ lesser x y ⌝ }
 {
     if x <= y { x } else { y }
 }
 
-// Over all stages. A completion rule without a condition refers to nothing and is on no loop, so one search among the rules that count
-// for every stage serves each stage whose completion rules have none; for these rules the search is asked for `stages`, which no rule names.
-// A derived book takes two passes over the rules and one closure. The worst book has 64 stages with a condition each: 65 searches, so
-// 66 passes over at most 8,384 rules and at most 65 closures of 65,536 rows of four words. Stack: 8 KiB.
-pub fn loop_place(
-    image: &[u8],
-    rules: usize,
-    marks: usize,
-    stages: u32,
-    refs: &[u64; REFS],
-) -> usize
-    requires { ⌜ (WellFormed (now image)) × (References (now image) (now refs)) × (rules ≡ rulesIn (now image)) × (marks ≡ marksIn (now image)) × (stages ≡ stagesIn (now image)) ⌝ }
+// The lowest place of the stages in the set, which has one.
+fn searched_place(image: &[u8], counts: Counts, set: u64, refs: &[u64], rows: &mut [u64]) -> usize
+    requires { ⌜ (Opened (now image) counts) × (References (now image) (now refs)) × (marksIn (now image) * markWords ≤ length (now rows)) × (set ≡ searching (bookOf (now image))) × (set ≡ 0 → ⊥) ⌝ }
     ensures { λ r. ⌜ r ≡ loopPlace (bookOf (now (image .entry))) ⌝ }
 {
-    if stages == 0 {
-        return marks;
-    }
-    let set = searching(image, rules);
-    let common = stage_place(image, rules, marks, stages, refs);
-    let mut least = common;
+    let mut least = counts.marks as usize;
+    let stages = counts.stages;
     for stage in 0..stages {
         if sets::member(set, stage as usize) {
-            let place = stage_place(image, rules, marks, stage, refs);
+            let place = stage_place(image, counts, stage, refs, rows);
             least = lesser(least, place);
         }
     }
     least
+}
+
+// Over all stages. `refs` has the marks of the texts; `rows`, whose content does not matter, is overwritten: four words for each mark.
+// A book where no loop is possible, as a derived one, takes one pass over the rules and one over the condition rows, and no search. Else a
+// completion rule without a condition refers to nothing and is on no loop: where no stage has one with a condition, one search among the rules
+// that count for every stage serves all; it is asked for `stages`, which no rule names. Where some stages have, these rules count for each
+// of them too, and the searches for those stages serve all.
+// The worst book has 64 stages with a condition each: 64 searches, so 66 passes over at most 8,384 rules and 64 closures of 65,536 rows of
+// four words.
+pub fn loop_place(image: &[u8], counts: Counts, refs: &[u64], rows: &mut [u64]) -> usize
+    requires { ⌜ (Opened (now image) counts) × (References (now image) (now refs)) × (marksIn (now image) * markWords ≤ length (now rows)) ⌝ }
+    ensures { λ r. ⌜ r ≡ loopPlace (bookOf (now (image .entry))) ⌝ }
+{
+    if counts.stages == 0 {
+        return counts.marks as usize;
+    }
+    if !may_loop(image, counts, refs) {
+        return counts.marks as usize;
+    }
+    let set = searching(image, counts.rules as usize);
+    if set == 0 {
+        return stage_place(image, counts, counts.stages, refs, rows);
+    }
+    searched_place(image, counts, set, refs, rows)
 }

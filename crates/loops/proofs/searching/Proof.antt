@@ -18,8 +18,6 @@ searching-spec =
     Inv-loop
     μ-loop
     (λ c. search gathered-first)
-    (λ c κs. search needs)
-    (λ c. search needs)
-    (λ c. search needs)
+    (λ c κs. search needs) (λ c. search needs) (λ c. search needs)
     (λ c. search gathered-more)
     (λ c. search gathered-last))
