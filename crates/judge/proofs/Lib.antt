@@ -1,3 +1,2 @@
 -- The root of the crate's shared laws for proofs.
 pub mod Returns
-pub mod Whole

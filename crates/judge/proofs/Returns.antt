@@ -1,51 +1,99 @@
--- A law for each return of the check. Assumes nothing.
+-- A law for each return of the functions that judge an image, its rules and a check. Assumes nothing.
 use mathlib.Core.Path.{_≡_, sym, ap, _∙_}
-use mathlib.Core.Bool.{Bool, true, cond, _&&_}
-use mathlib.Core.List.{List, _++_}
-use Prim.Native.Nat.{ℕ, suc, _+_, _≤_, _<_}
-use native.Mathlib.Numerals.{add-one}
+use mathlib.Core.Bool.{Bool, true, false, not, cond}
+use mathlib.Core.List.{List}
+use Prim.Native.Nat.{ℕ, _+_, _*_, _≤_, _<_}
 use native.Mathlib.Omega.{arith}
 use lib.Dec.{ltb, leb}
-use lib.ListN.{length, getD, set, take, drop}
-use lib.Seq.{length-take-le, take-suc, drop-cons, append-snoc, set-at, take-at}
-use borrow.Author.Tests.{ne-eqb, ltb-true, leb-true, lt-ltb, le-ltb}
-use Rattle.paper.specs.Limits.{maxMarks, loopFound, clash, noSuchStage, orderRoom}
+use lib.ListN.{length, replicate}
+use borrow.Author.Tests.{ne-eqb, lt-ltb, le-ltb, le-leb, lt-leb, leb-true, not-true, not-false}
+use Rattle.paper.specs.Limits.{maxMarks, maxConditions, bookHeader, ruleSize, bookShort, bookCount, bookLength, badRule, badCondition, loopFound, clash, noSuchStage, orderRoom}
 use Rattle.paper.specs.Answers.{answer, granted, refusal}
 use Rattle.paper.specs.declared.Answer.{Answer}
 use Rattle.general.specs.Cases.{both}
+use Rattle.general.specs.Below.{first-is}
 use Rattle.order_theory.specs.Order.{countedRules, NoLoop}
-use Rattle.order_theory.specs.Running.{runningOrder}
-use Rattle.book.specs.Image.{stagesIn, bookOf}
+use Rattle.book.specs.Image.{stagesIn, marksIn, rulesIn, conditionsIn, conditionPlace, wordPlace, bookOf}
 use Rattle.book.specs.Read.{rules-count}
-use Rattle.book.specs.Judging.{countsOf, imageAnswer}
-use Rattle.book.specs.WellFormed.{WellFormed, granted-well}
+use Rattle.book.specs.Judging.{countsOf, countsFit, layoutFits, firstBadRule, conditionFits, firstBadCondition, bodyAnswer, imageAnswer}
+use Rattle.book.specs.Marks.{markWords}
+use Rattle.book.specs.WellFormed.{WellFormed, Headed, granted-well}
 use Rattle.book.specs.WellRead.{Opened}
 use Rattle.book.specs.declared.Counts.{Counts}
+use Rattle.texts.specs.Noted.{References, Named}
+use Rattle.texts.proofs.Rows.{named-references}
 use Rattle.rule_order.specs.Nets.{rulesOf}
-use Rattle.judge.proofs.Whole.{running-few, running-full}
+use Rattle.rule_order.specs.Scanning.{orderedRoom}
 use Rattle.loops.specs.Places.{loopPlace, loop-fits}
-use Rattle.loops.specs.Searching.{searching, alone, no-search}
 use Rattle.clashes.specs.Pairs.{clashFirst, clashSecond}
-use Rattle.judge.specs.Checking.{rulesAnswer, bookAnswer, stageAnswer, checking, checkedRoom, marks-many, targets-in, book-answer, granted-room, refused-room}
+use Rattle.judge.specs.Head.{headAnswer, head-refused, head-passed, passed-body, Begun, smallMarks, smallConditions, isSmall}
+use Rattle.judge.specs.Checking.{rulesAnswer, bookAnswer, stageAnswer, checking, checkedRoom, marks-many, acyclic-at, book-answer, book-passes, granted-room, refused-room}
 
--- ---- a run copied to the front of a room
+-- ---- 20 to 22
 
-module _ (from room : List ℕ) (n i : ℕ) (f : n ≤ length from) (g : n ≤ length room) (now : List ℕ) (e : now ≡ take i from ++ drop i room) where
-  pub copied-on : i < n → set now i (getD from i 0) ≡ take (i + 1) from ++ drop (i + 1) room
-  copied-on h =
-      rw (e, drop-cons room i 0 (omega arith), set-at (take i from) (getD room i 0) (drop (suc i) room) (getD from i 0) i (length-take-le i from (omega arith)), add-one, take-suc from i 0 (omega arith))
-      (sym (append-snoc (take i from) (getD from i 0) (drop (suc i) room)))
+pub head-short : (s : List ℕ) (a : Answer) → length s < bookHeader → a ≡ refusal bookShort → a ≡ headAnswer s
+unfolding headAnswer
+head-short s a l e = rw (lt-ltb (length s) bookHeader l) e
 
-  pub copied-end : i ≤ n → n ≤ i → now ≡ take n from ++ drop n room
-  copied-end h l = let z : i ≡ n = omega arith in rw (← z) e
+module _ (s : List ℕ) (a : Answer) (h : Counts) (l : bookHeader ≤ length s) (p : h ≡ countsOf s) (t : Bool) (q : t ≡ countsFit h) where
+  pub head-counts : not t ≡ true → a ≡ refusal bookCount → a ≡ headAnswer s
+  unfolding headAnswer
+  head-counts n e = rw (le-ltb (length s) bookHeader l, sym (q ∙ ap countsFit p), not-true t n) e
+
+  module _ (n : not t ≡ false) (u : Bool) (v : u ≡ layoutFits s h) where
+    pub head-layout : not u ≡ true → a ≡ refusal bookLength → a ≡ headAnswer s
+    unfolding headAnswer
+    head-layout m e = rw (le-ltb (length s) bookHeader l, sym (q ∙ ap countsFit p), not-false t n, sym (v ∙ ap (layoutFits s) p), not-true u m) e
+
+    pub head-granted : not u ≡ false → a ≡ granted → a ≡ headAnswer s
+    unfolding headAnswer
+    head-granted m e = rw (le-ltb (length s) bookHeader l, sym (q ∙ ap countsFit p), not-false t n, sym (v ∙ ap (layoutFits s) p), not-false u m) e
+
+-- ---- 23 and 24
+
+abbrev pub Noting : List ℕ → List ℕ → Answer → Type 0
+Noting s after a = (a ≡ imageAnswer s) × (a .code ≡ 0 → References s after)
+
+module _ (s : List ℕ) (h : Counts) (rows : List ℕ) (b : Begun s h rows) where
+  -- the bytes that are read lie in the image, and there is a row for each condition
+  pub rules-inside : bookHeader + ruleSize * h .rules ≤ length s
+  rules-inside = rw (b .counts) (let e = b .headed .laidOut .whole in omega arith)
+
+  pub words-inside : (wordPlace (h .rules) (h .conditions) (h .words) ≤ length s) × (h .conditions * markWords ≤ length rows) × (rows ≡ replicate (length rows) 0)
+  words-inside = rw (b .counts) (let e = b .headed .laidOut .whole in omega arith, b .room, b .blank)
+
+  body : bodyAnswer s h ≡ imageAnswer s
+  body = rw (b .counts) (sym (passed-body s (b .headed)))
+
+  module _ (a : Answer) (after : List ℕ) (r : ℕ) (p : r ≡ firstBadRule s h) where
+    pub body-rule : r < h .rules → a ≡ answer badRule r 0 → Noting s after a
+    unfolding bodyAnswer
+    body-rule l e = (
+      rw (← body, ← p, lt-ltb r (h .rules) l) e,
+      λ z. absurd (omega (arith, ap (λ (x : Answer). x .code) e)),
+    )
+
+    module _ (i : h .rules ≤ r) (c : ℕ) (q : c ≡ firstBadCondition s h) where
+      pub body-condition : c < h .conditions → a ≡ answer badCondition c 0 → Noting s after a
+      unfolding bodyAnswer
+      body-condition l e = (
+        rw (← body, ← p, le-ltb r (h .rules) i, ← q, lt-ltb c (h .conditions) l) e,
+        λ z. absurd (omega (arith, ap (λ (x : Answer). x .code) e)),
+      )
+
+      passed : h .conditions ≤ c → a ≡ granted → a ≡ imageAnswer s
+      unfolding bodyAnswer
+      passed l e = rw (← body, ← p, le-ltb r (h .rules) i, ← q, le-ltb c (h .conditions) l) e
+
+      pub body-granted : h .conditions ≤ c → a ≡ granted → (c ≡ h .conditions → Named s (h .rules) (h .conditions) (h .conditions) after) → Noting s after a
+      unfolding firstBadCondition
+      body-granted l e n =
+          let f = first-is (h .conditions) (λ x. not (conditionFits (h .marks) (h .words) (conditionPlace (h .rules) (h .conditions)) s (conditionPlace (h .rules) x))) .fits in
+          (passed l e, λ z. named-references s after (granted-well s a (passed l e) z) (rw (b .counts) at (n (omega arith))))
 
 -- ---- 25 and 26
 
 module _ (s : List ℕ) (h : Counts) (o : Opened s h) where
-  -- where the set has no other stage, the stage's own rules decide
-  pub no-place : (set stage : ℕ) (r : Bool) → set ≡ searching (bookOf s) → r ≡ alone set stage → r ≡ true → NoLoop (rulesOf s stage) → h .marks ≡ loopPlace (bookOf s)
-  no-place set stage r e f t n = ap (λ (c : Counts). c .marks) (o .counts) ∙ sym (no-search s (o .formed) set stage r e f t n)
-
   module _ (m : ℕ) (p : m ≡ loopPlace (bookOf s)) where
     all-marks : h .marks ≡ bookOf s .marks
     all-marks = ap (λ (c : Counts). c .marks) (o .counts) ∙ sym (marks-many s)
@@ -70,70 +118,85 @@ module _ (s : List ℕ) (h : Counts) (o : Opened s h) where
       pub rules-pass : (r : Answer) → h .rules ≤ x → r ≡ granted → r ≡ rulesAnswer (bookOf s)
       rules-pass r k f = f ∙ sym (none-loops ∙ rw (le-ltb x (h .rules) k))
 
--- ---- the check
+-- ---- 23 to 26
 
--- the stage is one of the book's, and as many rules are written as count: it has no loop
-pub clear-so : (s : List ℕ) (stage : ℕ) → WellFormed s → (h : Counts) → h ≡ countsOf s → (counted written : ℕ) → counted ≡ countedRules (rulesOf s stage)
-    → written ≡ length (runningOrder (rulesOf s stage)) → (ltb stage (h .stages) && leb counted written) ≡ true → (stage < stagesIn s) × NoLoop (rulesOf s stage)
-clear-so s stage w h e counted written c n t =
-    let (x, y) = both (ltb stage (h .stages)) (leb counted written) t in
-    let i = ltb-true stage (h .stages) x in
-    let j = leb-true counted written y in
-    let f = running-few (rulesOf s stage) in
-    (rw e at i, running-full (rulesOf s stage) (bookOf s .marks) (targets-in s w stage) .1 (omega arith))
+module _ (s : List ℕ) (a : Answer) (e : a ≡ imageAnswer s) where
+  pub book-refused : (a .code ≡ 0 → ⊥) → a ≡ bookAnswer s
+  unfolding bookAnswer
+  book-refused n = rw (← e, ne-eqb (a .code) 0 n)
+
+  pub book-judged : a .code ≡ 0 → (b : Answer) → b ≡ rulesAnswer (bookOf s) → b ≡ bookAnswer s
+  book-judged z b f = f ∙ sym (book-answer s (granted-well s a e z))
+
+  pub book-opened : a .code ≡ 0 → (h : Counts) → h ≡ countsOf s → Opened s h
+  book-opened z h f = record { formed = granted-well s a e z; counts = f }
+
+-- ---- the check
 
 abbrev pub Result : List ℕ → ℕ → List ℕ → List ℕ → Answer → Type 0
 Result s stage entry exit r = (r ≡ checking s stage (length entry)) × (exit ≡ checkedRoom s stage entry)
+
+-- what the running order asks of a book that passes
+pub orders : (s : List ℕ) (stage : ℕ) (b : Answer) → b ≡ bookAnswer s → b .code ≡ 0 → (h : Counts) → h ≡ countsOf s → stage < h .stages → (refs : List ℕ) → References s refs
+    → (WellFormed s) × (h .rules ≡ rulesIn s) × (References s refs) × (NoLoop (rulesOf s stage))
+orders s stage b f i h c known refs w =
+    let p = book-passes s (sym (ap (λ (x : Answer). x .code) f) ∙ i) in
+    (p .formed, ap (λ (x : Counts). x .rules) c, w, acyclic-at s stage (p .acyclic) (rw c at known))
 
 module _ (s : List ℕ) (stage : ℕ) (room : List ℕ) where
   refusing : (a : Answer) → a ≡ checking s stage (length room) → (a .code ≡ 0 → ⊥) → Result s stage room room a
   refusing a e n = (e, sym (refused-room s stage room (λ z. n (ap (λ (x : Answer). x .code) e ∙ z))))
 
-  pub check-image : (a : Answer) → a ≡ imageAnswer s → (a .code ≡ 0 → ⊥) → Result s stage room room a
-  unfolding checking bookAnswer
-  check-image a e n =
-      let z : bookAnswer s ≡ a = rw (← e, ne-eqb (a .code) 0 n) in
-      refusing a (rw (z, ne-eqb (a .code) 0 n)) n
+  pub check-book : (a : Answer) → a ≡ bookAnswer s → (a .code ≡ 0 → ⊥) → Result s stage room room a
+  unfolding checking
+  check-book a e n = refusing a (rw (← e, ne-eqb (a .code) 0 n)) n
 
-  module _ (a : Answer) (e : a ≡ imageAnswer s) (z : a .code ≡ 0) where
-    pub formed : WellFormed s
-    formed = granted-well s a e z
+  pub check-head : (a : Answer) → a ≡ headAnswer s → (a .code ≡ 0 → ⊥) → Result s stage room room a
+  check-head a e n = check-book a (book-refused s a (head-refused s a e n) n) n
 
-    pub opened : (h : Counts) → h ≡ countsOf s → Opened s h
-    opened h f = record { formed = formed; counts = f }
+  module _ (b : Answer) (f : b ≡ bookAnswer s) (i : b .code ≡ 0) (h : Counts) (c : h ≡ countsOf s) where
+    then : checking s stage (length room) ≡ stageAnswer s stage (length room)
+    unfolding checking
+    then = rw (← f, i)
 
-    module _ (b : Answer) (f : b ≡ rulesAnswer (bookOf s)) where
-      judged : bookAnswer s ≡ b
-      judged = book-answer s formed ∙ sym f
+    pub check-nowhere : (r : Answer) → h .stages ≤ stage → r ≡ refusal noSuchStage → Result s stage room room r
+    unfolding stageAnswer
+    check-nowhere r l g = refusing r (g ∙ sym (then ∙ rw (le-ltb stage (stagesIn s) (rw c at l)))) (λ x. absurd (omega (arith, ap (λ (y : Answer). y .code) g)))
 
-      pub check-rules : (b .code ≡ 0 → ⊥) → Result s stage room room b
-      unfolding checking
-      check-rules n = refusing b (rw (judged, ne-eqb (b .code) 0 n)) n
+    module _ (known : stage < h .stages) (counted : ℕ) (many : counted ≡ countedRules (rulesOf s stage)) (exit : List ℕ) (w : exit ≡ orderedRoom (rulesOf s stage) room) where
+      pub check-room : (r : Answer) → length room < counted → r ≡ answer orderRoom counted 0 → Result s stage room exit r
+      unfolding stageAnswer orderedRoom
+      check-room r l g =
+          let k : exit ≡ room = w ∙ rw (lt-leb (countedRules (rulesOf s stage)) (length room) (rw (← many) l)) in
+          rw k (refusing r (g ∙ sym (then ∙ rw (lt-ltb stage (stagesIn s) (rw c at known), ← many, lt-ltb (length room) counted l)))
+          (λ x. absurd (omega (arith, ap (λ (y : Answer). y .code) g))))
 
-      module _ (i : b .code ≡ 0) (h : Counts) (c : h ≡ countsOf s) where
-        then : checking s stage (length room) ≡ stageAnswer s stage (length room)
-        unfolding checking
-        then = rw (judged, i)
+      pub check-granted : (r : Answer) → counted ≤ length room → r ≡ granted → Result s stage room exit r
+      unfolding stageAnswer orderedRoom
+      check-granted r l g =
+          let y : checking s stage (length room) ≡ granted = then ∙ rw (lt-ltb stage (stagesIn s) (rw c at known), ← many, le-ltb (length room) counted l) in
+          (g ∙ sym y, w ∙ rw (le-leb (countedRules (rulesOf s stage)) (length room) (rw (← many) l)) (sym (granted-room s stage room (ap (λ (v : Answer). v .code) y) .0)))
 
-        pub check-nowhere : (r : Answer) → h .stages ≤ stage → r ≡ refusal noSuchStage → Result s stage room room r
-        unfolding stageAnswer
-        check-nowhere r l g =
-            refusing r (g ∙ sym (then ∙ rw (le-ltb stage (stagesIn s) (rw c at l)))) (λ x. absurd (omega (arith, ap (λ (y : Answer). y .code) g)))
+-- ---- the arrays by size
 
-        module _ (known : stage < h .stages) (counted : ℕ) (many : counted ≡ countedRules (rulesOf s stage)) where
-          pub check-room : (r : Answer) → length room < counted → r ≡ answer orderRoom counted 0 → Result s stage room room r
-          unfolding stageAnswer
-          check-room r l g =
-              refusing r (g ∙ sym (then ∙ rw (lt-ltb stage (stagesIn s) (rw c at known), ← many, lt-ltb (length room) counted l)))
-              (λ x. absurd (omega (arith, ap (λ (y : Answer). y .code) g)))
+pub headed-so : (s : List ℕ) (a : Answer) → a ≡ headAnswer s → a .code ≡ 0 → Headed s
+headed-so s a e z = head-passed s (sym (ap (λ (x : Answer). x .code) e) ∙ z)
 
-          pub check-granted : (order exit rest : List ℕ) (r : Answer) → counted ≤ length room → r ≡ granted
-              → order ≡ runningOrder (rulesOf s stage) ++ drop (length (runningOrder (rulesOf s stage))) rest
-              → exit ≡ take counted order ++ drop counted room → Result s stage room exit r
-          unfolding stageAnswer
-          check-granted order exit rest r l g o x =
-              let y : checking s stage (length room) ≡ granted = then ∙ rw (lt-ltb stage (stagesIn s) (rw c at known), ← many, le-ltb (length room) counted l) in
-              let (d, t, k) = granted-room s stage room (ap (λ (v : Answer). v .code) y) in (
-                g ∙ sym y,
-                x ∙ rw (o, many, take-at (runningOrder (rulesOf s stage)) (drop (length (runningOrder (rulesOf s stage))) rest) (countedRules (rulesOf s stage)) k) (sym d),
-              )
+module _ (s : List ℕ) (h : Counts) (rows : List ℕ) (e : rows ≡ replicate (length rows) 0) (g : Headed s) (c : h ≡ countsOf s) where
+  pub small-ready : marksIn s ≤ smallMarks → conditionsIn s ≤ smallConditions → length rows ≡ smallConditions * markWords
+      → (Begun s h rows) × (marksIn s * markWords ≤ smallMarks * markWords)
+  small-ready m q r = (record { headed = g; counts = c; room = omega arith; blank = e }, omega arith)
+
+  pub large-ready : length rows ≡ maxConditions * markWords → (Begun s h rows) × (marksIn s * markWords ≤ maxMarks * markWords)
+  large-ready r =
+      let m = g .counted .marks in
+      let q = g .counted .conditions in
+      (record { headed = g; counts = c; room = omega arith; blank = e }, omega arith)
+
+pub small-so : (s : List ℕ) (h : Counts) (t : Bool) → h ≡ countsOf s → t ≡ isSmall h → t ≡ true → (marksIn s ≤ smallMarks) × (conditionsIn s ≤ smallConditions)
+unfolding isSmall
+small-so s h t c e f =
+    let (m, q) = both (leb (h .marks) smallMarks) (leb (h .conditions) smallConditions) (sym e ∙ f) in
+    let x = leb-true (h .marks) smallMarks m in
+    let y = leb-true (h .conditions) smallConditions q in
+    (rw c at x, rw c at y)

@@ -1,6 +1,9 @@
-// The whole image, judged for 20 to 24.
+// The whole image, judged for 20 to 24: its head, and behind a head that passes its records and texts.
 ghost use mathlib.Core.Path.{_≡_};
 ghost use Rattle.book.specs.Judging.{imageAnswer};
+ghost use Rattle.texts.specs.Noted.{References};
+ghost use Rattle.judge.specs.Head.{headAnswer, Begun};
+use book::Counts;
 use book::header::counts_at;
 use book::header::counts_fit;
 use book::header::layout_fits;
@@ -14,9 +17,9 @@ use paper::BOOK_LENGTH;
 use paper::BOOK_SHORT;
 use texts::first_bad_condition;
 
-// 0 where the image is a book, and else the first of 20 to 24 with its place.
-pub fn judge_image(image: &[u8]) -> Answer
-    ensures { λ r. ⌜ r ≡ imageAnswer (now (image .entry)) ⌝ }
+// 20 to 22.
+pub fn judge_head(image: &[u8]) -> Answer
+    ensures { λ r. ⌜ r ≡ headAnswer (now (image .entry)) ⌝ }
 {
     if image.len() < BOOK_HEADER {
         return paper::refused(BOOK_SHORT, 0, 0);
@@ -28,12 +31,33 @@ pub fn judge_image(image: &[u8]) -> Answer
     if !layout_fits(image, h) {
         return paper::refused(BOOK_LENGTH, 0, 0);
     }
-    let r = first_bad_rule(image, h.rules, h.stages, h.marks, h.conditions);
-    if r < h.rules {
+    paper::granted()
+}
+
+// 23 and 24. Where it gives 0 the image is a book, and row c of the references has the marks that condition c names.
+pub fn judge_body(image: &[u8], counts: Counts, refs: &mut [u64]) -> Answer
+    requires { ⌜ Begun (now image) counts (now refs) ⌝ }
+    ensures { λ r. ⌜ (r ≡ imageAnswer (now (image .entry))) × (r .code ≡ 0 → References (now (image .entry)) (now (refs .exit))) ⌝ }
+{
+    let r = first_bad_rule(
+        image,
+        counts.rules,
+        counts.stages,
+        counts.marks,
+        counts.conditions,
+    );
+    if r < counts.rules {
         return paper::refused(BAD_RULE, r, 0);
     }
-    let c = first_bad_condition(image, h.rules, h.conditions, h.words, h.marks);
-    if c < h.conditions {
+    let c = first_bad_condition(
+        image,
+        counts.rules,
+        counts.conditions,
+        counts.words,
+        counts.marks,
+        refs,
+    );
+    if c < counts.conditions {
         return paper::refused(BAD_CONDITION, c, 0);
     }
     paper::granted()

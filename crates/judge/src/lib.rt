@@ -1,66 +1,106 @@
 // The check of a book for a stage: loops, clashes and the stage's running order.
 pub mod image;
 pub mod rules;
+pub mod sizes;
 
 ghost use mathlib.Core.Path.{_≡_};
-ghost use mathlib.Core.List.{_++_};
-ghost use Prim.Native.Nat.{_≤_};
-ghost use lib.ListN.{length, take, drop};
-ghost use Rattle.judge.specs.Checking.{checking, checkedRoom};
-use crate::image::judge_image;
+ghost use Prim.Native.Nat.{_*_, _≤_};
+ghost use lib.ListN.{length};
+ghost use Rattle.book.specs.Image.{marksIn, conditionsIn};
+ghost use Rattle.book.specs.Judging.{countsOf};
+ghost use Rattle.book.specs.Marks.{markWords};
+ghost use Rattle.book.specs.WellFormed.{Headed};
+ghost use Rattle.texts.specs.Noted.{References};
+ghost use Rattle.judge.specs.Head.{Begun, smallMarks, smallConditions};
+ghost use Rattle.judge.specs.Checking.{bookAnswer, checking, checkedRoom};
+use crate::image::judge_body;
+use crate::image::judge_head;
 use crate::rules::judge_rules;
+use crate::sizes::SMALL_REFS;
+use crate::sizes::SMALL_WORK;
+use crate::sizes::WORK;
+use crate::sizes::is_small;
+use book::Counts;
 use book::header::counts_at;
 use paper::Answer;
-use paper::MAX_RULES;
 use paper::NO_SUCH_STAGE;
 use paper::ORDER_ROOM;
-use rule_order::counted::counted_rules;
 use rule_order::references::REFS;
-use rule_order::references::references;
 use rule_order::running::running_order;
 
-fn copy(from: &[u16], n: usize, room: &mut [u16])
-    requires { ⌜ (n ≤ length (now from)) × (n ≤ length (now room)) ⌝ }
-    ensures { λ _. ⌜ now (room .exit) ≡ take n (now (from .entry)) ++ drop n (now (room .entry)) ⌝ }
+// 23 to 26, behind a head that passed. Where it gives 0 the rows have the marks that the conditions name.
+pub fn judge_book(book: &[u8], counts: Counts, refs: &mut [u64], work: &mut [u64]) -> Answer
+    requires { ⌜ (Begun (now book) counts (now refs)) × (marksIn (now book) * markWords ≤ length (now work)) ⌝ }
+    ensures { λ r. ⌜ (r ≡ bookAnswer (now (book .entry))) × (r .code ≡ 0 → References (now (book .entry)) (now (refs .exit))) ⌝ }
 {
-    for i in 0..n {
-        room[i] = from[i];
+    let answer = judge_body(book, counts, refs);
+    if answer.code != 0 {
+        return answer;
     }
+    judge_rules(book, counts, refs, work)
+}
+
+// 23 to 26, 29 and 31, or 0 and the stage's running order in the room.
+fn check_in(
+    book: &[u8],
+    counts: Counts,
+    stage: u32,
+    refs: &mut [u64],
+    work: &mut [u64],
+    room: &mut [u16],
+) -> Answer
+    requires { ⌜ (Begun (now book) counts (now refs)) × (marksIn (now book) * markWords ≤ length (now work)) ⌝ }
+    ensures { λ r. ⌜ (r ≡ checking (now (book .entry)) stage (length (now (room .entry)))) × (now (room .exit) ≡ checkedRoom (now (book .entry)) stage (now (room .entry))) ⌝ }
+{
+    let answer = judge_book(book, counts, refs, work);
+    if answer.code != 0 {
+        return answer;
+    }
+    if counts.stages <= stage {
+        return paper::refused(NO_SUCH_STAGE, 0, 0);
+    }
+    let rules = counts.rules as usize;
+    let counted = running_order(book, rules, stage, refs, room);
+    if room.len() < counted {
+        return paper::refused(ORDER_ROOM, counted as u32, 0);
+    }
+    paper::granted()
+}
+
+fn check_small(book: &[u8], counts: Counts, stage: u32, room: &mut [u16]) -> Answer
+    requires { ⌜ (Headed (now book)) × (counts ≡ countsOf (now book)) × (marksIn (now book) ≤ smallMarks) × (conditionsIn (now book) ≤ smallConditions) ⌝ }
+    ensures { λ r. ⌜ (r ≡ checking (now (book .entry)) stage (length (now (room .entry)))) × (now (room .exit) ≡ checkedRoom (now (book .entry)) stage (now (room .entry))) ⌝ }
+{
+    let mut refs = [0u64; SMALL_REFS];
+    let mut work = [0u64; SMALL_WORK];
+    check_in(book, counts, stage, &mut refs, &mut work, room)
+}
+
+fn check_large(book: &[u8], counts: Counts, stage: u32, room: &mut [u16]) -> Answer
+    requires { ⌜ (Headed (now book)) × (counts ≡ countsOf (now book)) ⌝ }
+    ensures { λ r. ⌜ (r ≡ checking (now (book .entry)) stage (length (now (room .entry)))) × (now (room .exit) ≡ checkedRoom (now (book .entry)) stage (now (room .entry))) ⌝ }
+{
+    let mut refs = [0u64; REFS];
+    let mut work = [0u64; WORK];
+    check_in(book, counts, stage, &mut refs, &mut work, room)
 }
 
 // The check for a stage: 20 to 26, 29 and 31, or 0 and the stage's running order in the room.
-// The running order of the asked stage is made first, since it lists every counted rule exactly if the stage has no loop: in a book
-// where no other stage has a completion rule with a condition, as in a derived one, no search over the marks is made.
-// Cost: two passes over the book for 20 to 24, one over the texts for the references, the running order, two passes over the rules for
-// what counts and for the stages with conditions, one for the chains, the pairs of rules that set and clear one mark, and one copy of the
-// order; for a book with other such stages also the searches of `loops::loop_place`, whose comment has the bound for the worst book.
-// Stack: about 80 KiB: 34 here, with the running order compiled in (references 8, order 17, flags of the written rules 8), 38 in the
-// search for clashes (the two chains 33, their heads 1, their stages 4), and 8 in the search for loops, which is called from there.
+// Cost: one pass over the rules for 23, one over the condition records and their texts for 24, in which the marks that they name are noted,
+// one over the rules and the noted rows for loops, one over the rules for clashes, one for what counts, and the scan of the running order.
+// A book where some mark may lie on a loop or have a clash takes more: `loops::loop_place` and `clashes::first_clash` say how much.
+// Stack: 16 KiB for the two arrays, of a small book too, since both sizes stand in one frame, and 3 in the search for clashes and the running
+// order.
 pub fn check(book: &[u8], stage: u32, room: &mut [u16]) -> Answer
     ensures { λ r. ⌜ (r ≡ checking (now (book .entry)) stage (length (now (room .entry)))) × (now (room .exit) ≡ checkedRoom (now (book .entry)) stage (now (room .entry))) ⌝ }
 {
-    let judged = judge_image(book);
+    let judged = judge_head(book);
     if judged.code != 0 {
         return judged;
     }
     let h = counts_at(book);
-    let rules = h.rules as usize;
-    let mut refs = [0u64; REFS];
-    references(book, h, &mut refs);
-    let mut order = [0u16; MAX_RULES];
-    let counted = counted_rules(book, rules, stage);
-    let written = running_order(book, rules, stage, &refs, &mut order);
-    let clear = (stage < h.stages) & (counted <= written);
-    let answer = judge_rules(book, h, stage, &refs, clear);
-    if answer.code != 0 {
-        return answer;
+    if is_small(h) {
+        return check_small(book, h, stage, room);
     }
-    if h.stages <= stage {
-        return paper::refused(NO_SUCH_STAGE, 0, 0);
-    }
-    if room.len() < counted {
-        return paper::refused(ORDER_ROOM, counted as u32, 0);
-    }
-    copy(&order, counted, room);
-    paper::granted()
+    check_large(book, h, stage, room)
 }
