@@ -6,24 +6,20 @@ use Prim.Native.Nat.{ℕ, _+_, _≤_, _<_}
 use native.Mathlib.Omega.{arith}
 use lib.Dec.{eqb, ltb, leb}
 use lib.ListN.{length, getD}
-use borrow.Author.Tests.{eqb-true, eqb-false, eq-eqb, ne-eqb, ltb-true, lt-ltb, le-ltb, le-leb, leb-true, not-true, not-false}
+use borrow.Author.Tests.{eqb-true, eqb-false, eq-eqb, ne-eqb, ltb-true, le-leb, leb-true, not-true, not-false}
 use Rattle.paper.specs.Limits.{maxMarks, orderUnfit, markAbove, noSuchStage, stageClosed}
 use Rattle.paper.specs.Answers.{granted, refusal}
 use Rattle.paper.specs.declared.Answer.{Answer}
-use Rattle.general.specs.Cases.{cases, both}
+use Rattle.general.specs.Cases.{cases}
 use Rattle.general.specs.Below.{some-of, some-none}
-use Rattle.order_theory.specs.Order.{Fit, NoLoop}
-use Rattle.order_theory.specs.Running.{fit-no-loop}
+use Rattle.order_theory.specs.Order.{Fit}
 use Rattle.order_theory.specs.Pass.{fitPass, fit-pass}
 use Rattle.order_theory.specs.Index.{fit-at}
 use Rattle.book.specs.Text.{snapOf}
-use Rattle.book.specs.Image.{stagesIn, marksIn, rulesIn, bookOf}
-use Rattle.book.specs.Judging.{countsOf, imageAnswer}
-use Rattle.book.specs.WellFormed.{WellFormed, well-granted}
-use Rattle.book.specs.declared.Counts.{Counts}
+use Rattle.book.specs.Image.{stagesIn, marksIn, rulesIn}
 use Rattle.book.specs.declared.Snapshot.{Snapshot}
 use Rattle.rule_order.specs.Nets.{rulesOf, count-is}
-use Rattle.judge.specs.Checking.{rulesAnswer, bookAnswer, BookPasses, book-passes}
+use Rattle.judge.specs.Checking.{bookAnswer, BookPasses, book-passes}
 use Rattle.runner.specs.Completing.{fitted, orderAnswer, anyFrom, snapshotAnswer, completionAnswer, through, completing}
 
 -- ---- the book and the order
@@ -59,45 +55,6 @@ module _ (s : List ℕ) (stage : ℕ) where
 
   pub entries-below : (order : List ℕ) → Fit (rulesOf s stage) order → (j : ℕ) → j < length order → getD order j 0 < rulesIn s
   entries-below order f j h = let i = fit-at (rulesOf s stage) order .0 f .below j h in omega (arith, i .0, count-is s stage)
-
-  -- ---- 25 to 27 and 29
-
-  -- a fit order of a stage that the book has leaves that stage no loop
-  pub fit-clear : (order : List ℕ) (h : Counts) (fits : Bool) → h ≡ countsOf s → fits ≡ fitPass (rulesOf s stage) order → (ltb stage (h .stages) && fits) ≡ true
-      → (stage < stagesIn s) × NoLoop (rulesOf s stage)
-  fit-clear order h fits e f t =
-      let (x, y) = both (ltb stage (h .stages)) fits t in
-      let i = ltb-true stage (h .stages) x in
-      (rw e at i, fit-no-loop (rulesOf s stage) order (fit-pass (rulesOf s stage) order .1 (sym f ∙ y)))
-
-  module _ (order : List ℕ) (fits : Bool) (f : fits ≡ fitPass (rulesOf s stage) order) (b : Answer) (e : b ≡ rulesAnswer (bookOf s)) where
-    pub refused-answer : (b .code ≡ 0 → ⊥) → b ≡ fitted (rulesAnswer (bookOf s)) (ltb stage (stagesIn s)) (fitPass (rulesOf s stage) order)
-    refused-answer n = rw (← e) (sym (fitted-refused b (ltb stage (stagesIn s)) (fitPass (rulesOf s stage) order) n))
-
-    module _ (z : b .code ≡ 0) (h : Counts) (c : h ≡ countsOf s) where
-      pub nowhere-answer : (a : Answer) → h .stages ≤ stage → a ≡ refusal noSuchStage → a ≡ fitted (rulesAnswer (bookOf s)) (ltb stage (stagesIn s)) (fitPass (rulesOf s stage) order)
-      unfolding fitted
-      nowhere-answer a l q = q ∙ rw (← e, eq-eqb (b .code) 0 z, le-ltb stage (stagesIn s) (rw c at l))
-
-      pub unfit-answer : (a : Answer) → stage < h .stages → fits ≡ false → a ≡ refusal orderUnfit → a ≡ fitted (rulesAnswer (bookOf s)) (ltb stage (stagesIn s)) (fitPass (rulesOf s stage) order)
-      unfolding fitted
-      unfit-answer a l x q = q ∙ rw (← e, eq-eqb (b .code) 0 z, lt-ltb stage (stagesIn s) (rw c at l), ← f, x)
-
-      pub fit-answer : (a : Answer) → stage < h .stages → fits ≡ true → a ≡ granted → a ≡ fitted (rulesAnswer (bookOf s)) (ltb stage (stagesIn s)) (fitPass (rulesOf s stage) order)
-      unfolding fitted
-      fit-answer a l x q = q ∙ rw (← e, eq-eqb (b .code) 0 z, lt-ltb stage (stagesIn s) (rw c at l), ← f, x)
-
-  -- ---- 20 to 27 and 29
-
-  pub image-refused : (order : List ℕ) (a : Answer) → a ≡ imageAnswer s → (a .code ≡ 0 → ⊥) → a ≡ orderAnswer s order stage
-  unfolding orderAnswer bookAnswer
-  image-refused order a e n =
-      let z : bookAnswer s ≡ a = rw (← e, ne-eqb (a .code) 0 n) in
-      rw z (sym (fitted-refused a (ltb stage (stagesIn s)) (fitPass (rulesOf s stage) order) n))
-
-  pub rules-judged : (order : List ℕ) (a : Answer) → WellFormed s → a ≡ fitted (rulesAnswer (bookOf s)) (ltb stage (stagesIn s)) (fitPass (rulesOf s stage) order) → a ≡ orderAnswer s order stage
-  unfolding orderAnswer bookAnswer
-  rules-judged order a w e = e ∙ rw (← well-granted s w)
 
 -- ---- 28 and 30
 

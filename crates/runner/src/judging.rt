@@ -1,18 +1,22 @@
 // What is refused before a rule has its turn: 20 to 26, 29 and 27 of the book, the stage and the order, 28 and 30 of the snapshot.
 ghost use mathlib.Core.Path.{_≡_};
-ghost use Prim.Native.Nat.{_<_};
-ghost use lib.Dec.{ltb};
+ghost use Prim.Native.Nat.{_*_, _≤_, _<_};
+ghost use lib.ListN.{length};
 ghost use Rattle.paper.specs.Limits.{maxMarks};
-ghost use Rattle.order_theory.specs.Pass.{fitPass};
-ghost use Rattle.book.specs.Image.{stagesIn, bookOf};
-ghost use Rattle.book.specs.WellRead.{Opened};
-ghost use Rattle.rule_order.specs.Nets.{rulesOf};
-ghost use Rattle.rule_order.specs.References.{References};
-ghost use Rattle.judge.specs.Checking.{rulesAnswer};
-ghost use Rattle.runner.specs.Completing.{fitted, orderAnswer, anyFrom, snapshotAnswer};
+ghost use Rattle.book.specs.Image.{marksIn, conditionsIn};
+ghost use Rattle.book.specs.Judging.{countsOf};
+ghost use Rattle.book.specs.Marks.{markWords};
+ghost use Rattle.book.specs.WellFormed.{Headed};
+ghost use Rattle.judge.specs.Head.{Begun, smallMarks, smallConditions};
+ghost use Rattle.runner.specs.Completing.{orderAnswer, anyFrom, snapshotAnswer};
 use book::Counts;
 use book::header::counts_at;
-use judge::image::judge_image;
+use judge::image::judge_head;
+use judge::judge_book;
+use judge::sizes::SMALL_REFS;
+use judge::sizes::SMALL_WORK;
+use judge::sizes::WORK;
+use judge::sizes::is_small;
 use paper::Answer;
 use paper::MARK_ABOVE;
 use paper::MAX_MARKS;
@@ -21,47 +25,63 @@ use paper::ORDER_UNFIT;
 use paper::STAGE_CLOSED;
 use rule_order::fit::order_fits;
 use rule_order::references::REFS;
-use rule_order::references::references;
 
-// 25, 26, 29 and 27, of a well-formed book. A fit order leaves its stage no loop, so that no search over the marks is made where no
-// other stage has a completion rule with a condition.
-fn judge_rules_and_order(
+// 23 to 26, 29 and 27, behind a head that passed.
+fn judge_order_in(
     book: &[u8],
     counts: Counts,
-    stage: u32,
-    refs: &[u64; REFS],
     order: &[u16],
+    stage: u32,
+    refs: &mut [u64],
+    work: &mut [u64],
 ) -> Answer
-    requires { ⌜ (Opened (now book) counts) × (References (now book) (now refs)) ⌝ }
-    ensures { λ r. ⌜ r ≡ fitted (rulesAnswer (bookOf (now (book .entry)))) (ltb stage (stagesIn (now (book .entry)))) (fitPass (rulesOf (now (book .entry)) stage) (now (order .entry))) ⌝ }
+    requires { ⌜ (Begun (now book) counts (now refs)) × (marksIn (now book) * markWords ≤ length (now work)) ⌝ }
+    ensures { λ r. ⌜ r ≡ orderAnswer (now (book .entry)) (now (order .entry)) stage ⌝ }
 {
-    let fits = order_fits(book, counts.rules as usize, stage, refs, order);
-    let clear = (stage < counts.stages) & fits;
-    let answer = judge::rules::judge_rules(book, counts, stage, refs, clear);
+    let answer = judge_book(book, counts, refs, work);
     if answer.code != 0 {
         return answer;
     }
     if counts.stages <= stage {
         return paper::refused(NO_SUCH_STAGE, 0, 0);
     }
-    if fits {
+    if order_fits(book, counts.rules as usize, stage, refs, order) {
         return paper::granted();
     }
     paper::refused(ORDER_UNFIT, 0, 0)
+}
+
+fn judge_order_small(book: &[u8], counts: Counts, order: &[u16], stage: u32) -> Answer
+    requires { ⌜ (Headed (now book)) × (counts ≡ countsOf (now book)) × (marksIn (now book) ≤ smallMarks) × (conditionsIn (now book) ≤ smallConditions) ⌝ }
+    ensures { λ r. ⌜ r ≡ orderAnswer (now (book .entry)) (now (order .entry)) stage ⌝ }
+{
+    let mut refs = [0u64; SMALL_REFS];
+    let mut work = [0u64; SMALL_WORK];
+    judge_order_in(book, counts, order, stage, &mut refs, &mut work)
+}
+
+fn judge_order_large(book: &[u8], counts: Counts, order: &[u16], stage: u32) -> Answer
+    requires { ⌜ (Headed (now book)) × (counts ≡ countsOf (now book)) ⌝ }
+    ensures { λ r. ⌜ r ≡ orderAnswer (now (book .entry)) (now (order .entry)) stage ⌝ }
+{
+    let mut refs = [0u64; REFS];
+    let mut work = [0u64; WORK];
+    judge_order_in(book, counts, order, stage, &mut refs, &mut work)
 }
 
 // 20 to 26, 29 and 27.
 pub fn judge_order(book: &[u8], order: &[u16], stage: u32) -> Answer
     ensures { λ r. ⌜ r ≡ orderAnswer (now (book .entry)) (now (order .entry)) stage ⌝ }
 {
-    let judged = judge_image(book);
+    let judged = judge_head(book);
     if judged.code != 0 {
         return judged;
     }
     let h = counts_at(book);
-    let mut refs = [0u64; REFS];
-    references(book, h, &mut refs);
-    judge_rules_and_order(book, h, stage, &refs, order)
+    if is_small(h) {
+        return judge_order_small(book, h, order, stage);
+    }
+    judge_order_large(book, h, order, stage)
 }
 
 // Whether a mark from m on is yes.

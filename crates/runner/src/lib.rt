@@ -16,10 +16,10 @@ pub struct Completion {
 }
 
 // 20 to 30 (29 before 27) and the snapshot that was given, or 0 and the snapshot after every rule of the order had its turn.
-// Cost for a fit order: the image's judgement, one pass over the texts, four passes over the rules, one over the order, the search for a
-// clash, and one turn for each entry; for a book in which another stage has a completion rule with a condition also the searches of
-// `loops::loop_place`, whose comment has the bound for the worst book. Stack: about 63 KiB: 17 here, with the fit test compiled in
-// (references 8, flags of the written rules 8), 38 in the search for a clash, and 8 in the search for loops, which is called from there.
+// Cost for a fit order: the passes of `judge::judge_book` (two over the rules and one over the texts for 23 to 25, one over the rules for 26,
+// and more where some mark may lie on a loop or have a clash), one over the rules for what counts, one over the order for 27, and one turn
+// for each entry. Stack: 16 KiB for the arrays that the book is judged in, of a small one too, since both sizes stand in one frame, and 3 in
+// the search for clashes and the fit test.
 pub fn complete(book: &[u8], order: &[u16], snapshot: Snapshot, stage: u32) -> Completion
     ensures { λ r. ⌜ r ≡ completing (now (book .entry)) (now (order .entry)) snapshot stage ⌝ }
 {

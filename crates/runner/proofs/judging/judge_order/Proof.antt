@@ -1,7 +1,6 @@
 -- `runner::judging::judge_order` meets its contract. Assumes nothing.
-use Rattle.book.specs.WellFormed.{granted-well}
-use mathlib.Core.Path.{refl}
-use Rattle.runner.specs.Ordered.{image-refused, rules-judged}
+use Rattle.judge.proofs.Returns.{headed-so, small-so}
+use Rattle.runner.proofs.Orders.{order-head}
 use borrow.Author.Needs.{needs}
 use Rattle.runner.proofs.judging.judge_order.Statement.{statement}
 use Rattle.runner.proofs.judging.judge_order.Tie as tie
@@ -11,23 +10,11 @@ judge-order-spec =
     tie.close
     (tie.spec
     (λ c κs. search needs)
-    (λ c. image-refused _ _ _ _ (c .before .before .judge-image .ensures) (c .if1 .taken))
-    (λ c κs. granted-well _ _ (c .before .before .judge-image .ensures) (c .if1 .left) .headed .long)
-    (λ c κs. (
-      record {
-        formed = granted-well _ _ (c .before .before .before .before .judge-image .ensures)
-            (c .before .before .if1 .left);
-        counts = c .before .counts-at .ensures;
-      },
-      refl,
-    ))
-    (λ c κs. (
-      record {
-        formed = granted-well _ _ (c .before .before .before .before .before .before .judge-image .ensures)
-            (c .before .before .before .before .if1 .left);
-        counts = c .before .before .before .counts-at .ensures;
-      },
-      c .before .references .ensures,
-    ))
-    (λ c. rules-judged _ _ _ _ (granted-well _ _ (c .before .before .before .before .before .before .before .judge-image .ensures)
-    (c .before .before .before .before .before .if1 .left)) (c .judge-rules-and-order .ensures)))
+    (λ c. order-head _ _ _ _ (c .before .before .judge-head .ensures) (c .if1 .taken))
+    (λ c κs. headed-so _ _ (c .before .before .judge-head .ensures) (c .if1 .left) .long)
+    (λ c κs. search needs)
+    (λ c κs. let m = small-so _ _ _ (c .before .before .counts-at .ensures) (c .before .is-small .ensures) (c .if2 .taken) in
+    (headed-so _ _ (c .before .before .before .before .before .judge-head .ensures) (c .before .before .before .if1 .left), c .before .before .counts-at .ensures, m .0, m .1))
+    (λ c. search needs)
+    (λ c κs. (headed-so _ _ (c .before .before .before .before .before .judge-head .ensures) (c .before .before .before .if1 .left), c .before .before .counts-at .ensures))
+    (λ c. search needs))
