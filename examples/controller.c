@@ -50,13 +50,13 @@ static bool read_file(const char *name)
 static bool load(void)
 {
     struct ozhimka_reading reading = ozhimka_read_chart(image, image_length);
-    if (!granted(stderr, "read", reading.answer) || !granted(stderr, "derive", ozhimka_derive(reading.chart, book, sizeof book)))
+    if (!granted(stderr, "read", reading.answer) || !granted(stderr, "derive", ozhimka_derive(&reading.chart, book, sizeof book)))
         return false;
     counts = ozhimka_book_counts(book);
     book_length = ozhimka_book_length(book);
     if (!granted(stderr, "check", ozhimka_check(book, book_length, 0, order, OZHIMKA_MAX_RULES))) // passes for all stages or for none
         return false;
-    struct ozhimka_settled start = ozhimka_matching(reading.chart, reading.marking);
+    struct ozhimka_settled start = ozhimka_matching(&reading.chart, reading.marking);
     chart = reading.chart;
     marking = reading.marking;
     now = start.snapshot;
@@ -161,7 +161,7 @@ static void say_no_step(const struct line *line, const char *wrong)
 static void take(uint32_t event, uint32_t role)
 {
     char call[64];
-    struct ozhimka_step step = ozhimka_execute(chart, marking, event, role);
+    struct ozhimka_step step = ozhimka_execute(&chart, marking, event, role);
     snprintf(call, sizeof call, "execute %" PRIu32 " by %" PRIu32, event, role);
     if (step.answer.code == OZHIMKA_NOT_PERMITTED) {
         granted(stdout, call, step.answer);

@@ -5,13 +5,13 @@
 // once.
 //
 // The caller's duties. A slice goes in as a pointer and a count of elements. The pointer may be null where the count is 0; else it is valid
-// for as many elements as the count says, and nobody else writes them during the call. A pointer to uint16_t is even. Room that is lent
-// to be written overlaps nothing else that the call is given. A `bool` is 0 or 1.
+// for as many elements as the count says, and nobody else writes them during the call. A pointer to uint16_t is even. A chart goes in by a
+// pointer that is never null, and nobody writes the chart during the call. Room that is lent to be written overlaps nothing else that the
+// call is given. A `bool` is 0 or 1.
 //
-// Stack, at most, with the copies that the caller's code makes there of structs that go in or come back by value (ozhimka_chart takes 2,632
-// bytes, ozhimka_reading 2,672), and without what the C library and the dynamic linker take: ozhimka_check 80 KiB, ozhimka_complete
-// 64 KiB (8 less each where no other stage than the one asked for has a completion rule with a condition, as in a derived book),
-// ozhimka_read_chart 17 KiB, every other call 6 KiB.
+// Stack, at most, with the copies that the caller's code makes there of structs that go in or come back by value (ozhimka_reading takes
+// 2,672 bytes), and without what the C library and the dynamic linker take: ozhimka_check 20 KiB, ozhimka_complete 21 KiB,
+// ozhimka_read_chart 17 KiB, ozhimka_matching 2 KiB, every other call 1 KiB.
 //
 // Every answer is a code, a place and an other. Code 0 is granted; any other refuses, and then
 //   - a marking or a snapshot that was handed in is handed back as it was;
@@ -67,9 +67,9 @@
 #include <stdint.h>
 
 // The header's version. A new major number changes what a program written for the one before relies on; a new minor number adds to it.
-#define OZHIMKA_VERSION_MAJOR 2
+#define OZHIMKA_VERSION_MAJOR 3
 #define OZHIMKA_VERSION_MINOR 0
-#define OZHIMKA_VERSION "2.0"
+#define OZHIMKA_VERSION "3.0"
 
 #ifdef __cplusplus
 extern "C" {
@@ -257,28 +257,67 @@ struct ozhimka_counts {
 // with every set empty and no roles, and an empty marking.
 struct ozhimka_reading ozhimka_read_chart(const uint8_t *image, size_t length);
 
+// What the archive has for the calls on a chart: each takes the count and the tables of one, of OZHIMKA_MAX_EVENTS entries each, where they
+// stand. The calls below that take a chart are these.
+struct ozhimka_step ozhimka_execute_in(uint32_t count, const uint64_t *conditions, const uint64_t *responses, const uint64_t *milestones,
+                                       const uint64_t *includes, const uint64_t *excludes, const uint8_t *roles,
+                                       struct ozhimka_marking marking, uint32_t event, uint32_t role);
+struct ozhimka_open_count ozhimka_count_open_in(uint32_t count, const uint64_t *conditions, const uint64_t *responses,
+                                                const uint64_t *milestones, const uint64_t *includes, const uint64_t *excludes,
+                                                const uint8_t *roles, struct ozhimka_marking marking);
+struct ozhimka_finish ozhimka_finished_in(uint32_t count, const uint64_t *conditions, const uint64_t *responses, const uint64_t *milestones,
+                                          const uint64_t *includes, const uint64_t *excludes, const uint8_t *roles,
+                                          struct ozhimka_marking marking);
+struct ozhimka_settled ozhimka_matching_in(uint32_t count, const uint64_t *conditions, const uint64_t *responses,
+                                           const uint64_t *milestones, const uint64_t *includes, const uint64_t *excludes,
+                                           const uint8_t *roles, struct ozhimka_marking marking);
+struct ozhimka_answer ozhimka_derive_in(uint32_t count, const uint64_t *conditions, const uint64_t *responses, const uint64_t *milestones,
+                                        const uint64_t *includes, const uint64_t *excludes, const uint8_t *roles, uint8_t *room,
+                                        size_t length);
+
 // The marking after an event is executed by a role. The role has to be permitted: 0 to 7, and one of roles[event] unless that is 0; for a
 // chart that names no roles any of 0 to 7 will do. The event has to be open: included, each included condition of it executed, no included
 // milestone of it pending. It is then executed and, unless it is its own response, pending no more; its responses are pending, what it
 // excludes is excluded, what it includes included. Refuses with the first that holds of 14 (unfit chart or marking), 10 (no such event), 32
 // (role not permitted), 11 (not included), 12 (condition wanting), 13 (milestone wanting), and then hands the marking back.
 // No other call takes a role, and a rule book carries none: a controller that runs the book asks here whether the role is permitted.
-struct ozhimka_step ozhimka_execute(struct ozhimka_chart chart, struct ozhimka_marking marking, uint32_t event, uint32_t role);
+static inline struct ozhimka_step ozhimka_execute(const struct ozhimka_chart *chart, struct ozhimka_marking marking, uint32_t event,
+                                                  uint32_t role)
+{
+    return ozhimka_execute_in(chart->count, chart->conditions, chart->responses, chart->milestones, chart->includes, chart->excludes,
+                              chart->roles, marking, event, role);
+}
 
 // How many events are open, and the lowest of them, OZHIMKA_NO_EVENT if none is. Refuses with 14, and then gives 0 and OZHIMKA_NO_EVENT.
-struct ozhimka_open_count ozhimka_count_open(struct ozhimka_chart chart, struct ozhimka_marking marking);
+static inline struct ozhimka_open_count ozhimka_count_open(const struct ozhimka_chart *chart, struct ozhimka_marking marking)
+{
+    return ozhimka_count_open_in(chart->count, chart->conditions, chart->responses, chart->milestones, chart->includes, chart->excludes,
+                                 chart->roles, marking);
+}
 
 // Whether no event is both included and pending. Refuses with 14, and then says no.
-struct ozhimka_finish ozhimka_finished(struct ozhimka_chart chart, struct ozhimka_marking marking);
+static inline struct ozhimka_finish ozhimka_finished(const struct ozhimka_chart *chart, struct ozhimka_marking marking)
+{
+    return ozhimka_finished_in(chart->count, chart->conditions, chart->responses, chart->milestones, chart->includes, chart->excludes,
+                               chart->roles, marking);
+}
 
 // The snapshot of the derived book that stands for a marking of the chart. Refuses with 14, and then gives every mark no.
-struct ozhimka_settled ozhimka_matching(struct ozhimka_chart chart, struct ozhimka_marking marking);
+static inline struct ozhimka_settled ozhimka_matching(const struct ozhimka_chart *chart, struct ozhimka_marking marking)
+{
+    return ozhimka_matching_in(chart->count, chart->conditions, chart->responses, chart->milestones, chart->includes, chart->excludes,
+                               chart->roles, marking);
+}
 
 // Writes the chart's rule book to the start of the room, which has `length` bytes; OZHIMKA_MAX_DERIVED are enough for any chart.
 // ozhimka_book_length tells its length. What lies behind it stays as it was.
 // From the matching snapshot of a marking, completing its stage e gives the matching snapshot of the marking after event e is executed.
 // Refuses with 14 and 15.
-struct ozhimka_answer ozhimka_derive(struct ozhimka_chart chart, uint8_t *room, size_t length);
+static inline struct ozhimka_answer ozhimka_derive(const struct ozhimka_chart *chart, uint8_t *room, size_t length)
+{
+    return ozhimka_derive_in(chart->count, chart->conditions, chart->responses, chart->milestones, chart->includes, chart->excludes,
+                             chart->roles, room, length);
+}
 
 // Checks a book of `length` bytes, for all of its stages, and writes the running order of one stage to the start of the room, which has
 // place for `count` numbers; OZHIMKA_MAX_RULES are enough for any book. It writes one number for each rule that counts for the stage, as

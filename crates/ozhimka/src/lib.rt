@@ -1,7 +1,8 @@
-// The controller's C interface: the public calls under C names, and nothing else. The chart's tables are lent on, so that it is
-// copied once.
+// The controller's C interface: the public calls under C names, and nothing else. A chart comes as its count and its tables, lent, so that
+// no call copies it.
 ghost use mathlib.Core.Path.{_≡_};
 ghost use lib.ListN.{length};
+ghost use Rattle.graph.specs.Chart.{chartOf};
 ghost use Rattle.graph.specs.Steps.{executing, counting, finishing};
 ghost use Rattle.chart.specs.Reading.{reading};
 ghost use Rattle.deriver.specs.Deriving.{derivingAnswer, derivedRoom};
@@ -11,12 +12,12 @@ ghost use Rattle.runner.specs.Completing.{completing};
 use book::Snapshot;
 use chart::Reading;
 use deriver::Matched;
-use graph::FlatChart;
 use graph::Marking;
 use graph::steps::Finished;
 use graph::steps::OpenCount;
 use graph::steps::Step;
 use paper::Answer;
+use paper::MAX_EVENTS;
 use runner::Completion;
 
 #[no_mangle]
@@ -27,80 +28,127 @@ pub extern "C" fn ozhimka_read_chart(image: &[u8]) -> Reading
 }
 
 #[no_mangle]
-pub extern "C" fn ozhimka_execute(chart: FlatChart, marking: Marking, event: u32, role: u32) -> Step
-    ensures { λ r. ⌜ r ≡ executing chart marking event role ⌝ }
+pub extern "C" fn ozhimka_execute_in<'a>(
+    count: u32,
+    conditions: &'a [u64; MAX_EVENTS],
+    responses: &'a [u64; MAX_EVENTS],
+    milestones: &'a [u64; MAX_EVENTS],
+    includes: &'a [u64; MAX_EVENTS],
+    excludes: &'a [u64; MAX_EVENTS],
+    roles: &'a [u8; MAX_EVENTS],
+    marking: Marking,
+    event: u32,
+    role: u32,
+) -> Step
+    ensures { λ r. ⌜ r ≡ executing (chartOf count (now (conditions .entry)) (now (responses .entry)) (now (milestones .entry)) (now (includes .entry)) (now (excludes .entry)) (now (roles .entry))) marking event role ⌝ }
 {
     marking.execute_in(
-        chart.count,
-        &chart.conditions,
-        &chart.responses,
-        &chart.milestones,
-        &chart.includes,
-        &chart.excludes,
-        &chart.roles,
+        count,
+        conditions,
+        responses,
+        milestones,
+        includes,
+        excludes,
+        roles,
         event,
         role,
     )
 }
 
 #[no_mangle]
-pub extern "C" fn ozhimka_count_open(chart: FlatChart, marking: Marking) -> OpenCount
-    ensures { λ r. ⌜ r ≡ counting chart marking ⌝ }
+pub extern "C" fn ozhimka_count_open_in<'a>(
+    count: u32,
+    conditions: &'a [u64; MAX_EVENTS],
+    responses: &'a [u64; MAX_EVENTS],
+    milestones: &'a [u64; MAX_EVENTS],
+    includes: &'a [u64; MAX_EVENTS],
+    excludes: &'a [u64; MAX_EVENTS],
+    roles: &'a [u8; MAX_EVENTS],
+    marking: Marking,
+) -> OpenCount
+    ensures { λ r. ⌜ r ≡ counting (chartOf count (now (conditions .entry)) (now (responses .entry)) (now (milestones .entry)) (now (includes .entry)) (now (excludes .entry)) (now (roles .entry))) marking ⌝ }
 {
     marking.count_in(
-        chart.count,
-        &chart.conditions,
-        &chart.responses,
-        &chart.milestones,
-        &chart.includes,
-        &chart.excludes,
-        &chart.roles,
+        count,
+        conditions,
+        responses,
+        milestones,
+        includes,
+        excludes,
+        roles,
     )
 }
 
 #[no_mangle]
-pub extern "C" fn ozhimka_finished(chart: FlatChart, marking: Marking) -> Finished
-    ensures { λ r. ⌜ r ≡ finishing chart marking ⌝ }
+pub extern "C" fn ozhimka_finished_in<'a>(
+    count: u32,
+    conditions: &'a [u64; MAX_EVENTS],
+    responses: &'a [u64; MAX_EVENTS],
+    milestones: &'a [u64; MAX_EVENTS],
+    includes: &'a [u64; MAX_EVENTS],
+    excludes: &'a [u64; MAX_EVENTS],
+    roles: &'a [u8; MAX_EVENTS],
+    marking: Marking,
+) -> Finished
+    ensures { λ r. ⌜ r ≡ finishing (chartOf count (now (conditions .entry)) (now (responses .entry)) (now (milestones .entry)) (now (includes .entry)) (now (excludes .entry)) (now (roles .entry))) marking ⌝ }
 {
     marking.finished_in(
-        chart.count,
-        &chart.conditions,
-        &chart.responses,
-        &chart.milestones,
-        &chart.includes,
-        &chart.excludes,
-        &chart.roles,
+        count,
+        conditions,
+        responses,
+        milestones,
+        includes,
+        excludes,
+        roles,
     )
 }
 
 #[no_mangle]
-pub extern "C" fn ozhimka_matching(chart: FlatChart, marking: Marking) -> Matched
-    ensures { λ r. ⌜ r ≡ matchingOf chart marking ⌝ }
+pub extern "C" fn ozhimka_matching_in<'a>(
+    count: u32,
+    conditions: &'a [u64; MAX_EVENTS],
+    responses: &'a [u64; MAX_EVENTS],
+    milestones: &'a [u64; MAX_EVENTS],
+    includes: &'a [u64; MAX_EVENTS],
+    excludes: &'a [u64; MAX_EVENTS],
+    roles: &'a [u8; MAX_EVENTS],
+    marking: Marking,
+) -> Matched
+    ensures { λ r. ⌜ r ≡ matchingOf (chartOf count (now (conditions .entry)) (now (responses .entry)) (now (milestones .entry)) (now (includes .entry)) (now (excludes .entry)) (now (roles .entry))) marking ⌝ }
 {
     deriver::marks::matching_in(
         marking,
-        chart.count,
-        &chart.conditions,
-        &chart.responses,
-        &chart.milestones,
-        &chart.includes,
-        &chart.excludes,
-        &chart.roles,
+        count,
+        conditions,
+        responses,
+        milestones,
+        includes,
+        excludes,
+        roles,
     )
 }
 
 #[no_mangle]
-pub extern "C" fn ozhimka_derive(chart: FlatChart, room: &mut [u8]) -> Answer
-    ensures { λ r. ⌜ (r ≡ derivingAnswer chart (length (now (room .entry)))) × (now (room .exit) ≡ derivedRoom chart (now (room .entry))) ⌝ }
+pub extern "C" fn ozhimka_derive_in<'a>(
+    count: u32,
+    conditions: &'a [u64; MAX_EVENTS],
+    responses: &'a [u64; MAX_EVENTS],
+    milestones: &'a [u64; MAX_EVENTS],
+    includes: &'a [u64; MAX_EVENTS],
+    excludes: &'a [u64; MAX_EVENTS],
+    roles: &'a [u8; MAX_EVENTS],
+    room: &mut [u8],
+) -> Answer
+    ensures { λ r. ⌜ (r ≡ derivingAnswer (chartOf count (now (conditions .entry)) (now (responses .entry)) (now (milestones .entry)) (now (includes .entry)) (now (excludes .entry)) (now (roles .entry))) (length (now (room .entry)))) × (now (room .exit) ≡ derivedRoom (chartOf count (now (conditions .entry)) (now (responses .entry)) (now (milestones .entry)) (now (includes .entry)) (now (excludes .entry)) (now (roles .entry))) (now (room .entry))) ⌝ }
 {
     deriver::derive_in(
-        chart.count,
-        &chart.conditions,
-        &chart.responses,
-        &chart.milestones,
-        &chart.includes,
-        &chart.excludes,
-        &chart.roles,
+        count,
+        conditions,
+        responses,
+        milestones,
+        includes,
+        excludes,
+        roles,
         room,
     )
 }
