@@ -1,8 +1,8 @@
-// Times each call of the library and of the plain C on the same buffers, and prints a table.
+// Times each call of the library, of the plain C and of the leaner plain C on the same buffers, and prints two tables.
 #define _POSIX_C_SOURCE 199309L
 #include "inputs.h"
+#include "lean.h"
 #include "ozhimka.h"
-#include "plain.h"
 
 #include <stdio.h>
 #include <stdlib.h>
@@ -69,19 +69,21 @@ static union {
 
 static void plain_1(void) { plain_out.reading = plain_read_chart(image, image_length); }
 static void own_1(void) { own_out.reading = ozhimka_read_chart(image, image_length); }
-static void plain_2(void) { plain_out.step = plain_execute(chart, marking, event, role); }
-static void own_2(void) { own_out.step = ozhimka_execute(own_chart, own_marking, event, role); }
-static void plain_3(void) { plain_out.open_count = plain_count_open(chart, marking); }
-static void own_3(void) { own_out.open_count = ozhimka_count_open(own_chart, own_marking); }
-static void plain_4(void) { plain_out.finish = plain_finished(chart, marking); }
-static void own_4(void) { own_out.finish = ozhimka_finished(own_chart, own_marking); }
-static void plain_5(void) { plain_out.settled = plain_matching(chart, marking); }
-static void own_5(void) { own_out.settled = ozhimka_matching(own_chart, own_marking); }
-static void plain_6(void) { plain_out.answer = plain_derive(chart, room, sizeof room); }
-static void own_6(void) { own_out.answer = ozhimka_derive(own_chart, room, sizeof room); }
+static void plain_2(void) { plain_out.step = plain_execute(&chart, marking, event, role); }
+static void own_2(void) { own_out.step = ozhimka_execute(&own_chart, own_marking, event, role); }
+static void plain_3(void) { plain_out.open_count = plain_count_open(&chart, marking); }
+static void own_3(void) { own_out.open_count = ozhimka_count_open(&own_chart, own_marking); }
+static void plain_4(void) { plain_out.finish = plain_finished(&chart, marking); }
+static void own_4(void) { own_out.finish = ozhimka_finished(&own_chart, own_marking); }
+static void plain_5(void) { plain_out.settled = plain_matching(&chart, marking); }
+static void own_5(void) { own_out.settled = ozhimka_matching(&own_chart, own_marking); }
+static void plain_6(void) { plain_out.answer = plain_derive(&chart, room, sizeof room); }
+static void own_6(void) { own_out.answer = ozhimka_derive(&own_chart, room, sizeof room); }
 static void plain_7(void) { plain_out.answer = plain_check(book, book_length, event, numbers, ORDER_NUMBERS); }
+static void lean_7(void) { plain_out.answer = lean_check(book, book_length, event, numbers, ORDER_NUMBERS); }
 static void own_7(void) { own_out.answer = ozhimka_check(book, book_length, event, numbers, ORDER_NUMBERS); }
 static void plain_8(void) { plain_out.settled = plain_complete(book, book_length, order, ordered, snapshot, event); }
+static void lean_8(void) { plain_out.settled = lean_complete(book, book_length, order, ordered, snapshot, event); }
 static void own_8(void) { own_out.settled = ozhimka_complete(book, book_length, order, ordered, own_snapshot, event); }
 
 // ---- whether both results are the same, field by field, since the bytes between fields may be any
@@ -127,19 +129,19 @@ static bool same_snapshot(void)
 
 struct call {
     const char *name;
-    void (*plain)(void), (*own)(void);
+    void (*plain)(void), (*lean)(void), (*own)(void); // lean is null where plain C has no shortcut to take
     bool (*same)(void);
 };
 
 static const struct call calls[] = {
-    {"read_chart", plain_1, own_1, same_reading},
-    {"execute", plain_2, own_2, same_step},
-    {"count_open", plain_3, own_3, same_open_count},
-    {"finished", plain_4, own_4, same_finish},
-    {"matching", plain_5, own_5, same_snapshot},
-    {"derive", plain_6, own_6, same_answer},
-    {"check", plain_7, own_7, same_answer},
-    {"complete", plain_8, own_8, same_snapshot},
+    {"read_chart", plain_1, NULL, own_1, same_reading},
+    {"execute", plain_2, NULL, own_2, same_step},
+    {"count_open", plain_3, NULL, own_3, same_open_count},
+    {"finished", plain_4, NULL, own_4, same_finish},
+    {"matching", plain_5, NULL, own_5, same_snapshot},
+    {"derive", plain_6, NULL, own_6, same_answer},
+    {"check", plain_7, lean_7, own_7, same_answer},
+    {"complete", plain_8, lean_8, own_8, same_snapshot},
 };
 
 enum { CALLS = sizeof calls / sizeof calls[0], CHECK = 6, COMPLETE = 7 };
@@ -171,31 +173,38 @@ static long enough(void (*side)(void))
 }
 
 struct times {
-    double plain, own;
+    double plain, lean, own;
 };
 
-// The best of several rounds, the two sides by turns.
+static double best_of(double before, void (*side)(void), long times)
+{
+    double now = run(side, times);
+    return now < before ? now : before;
+}
+
+// The best of several rounds, the sides by turns.
 static struct times measure(const struct call *call)
 {
-    long plain_times = enough(call->plain), own_times = enough(call->own);
-    struct times best = {1e9, 1e9};
+    long plain = enough(call->plain), lean = call->lean ? enough(call->lean) : 0, own = enough(call->own);
+    struct times best = {1e9, call->lean ? 1e9 : 0, 1e9};
     for (int round = 0; round < ROUNDS; round++) {
-        double plain = run(call->plain, plain_times), own = run(call->own, own_times);
-        best.plain = plain < best.plain ? plain : best.plain;
-        best.own = own < best.own ? own : best.own;
+        best.plain = best_of(best.plain, call->plain, plain);
+        if (call->lean)
+            best.lean = best_of(best.lean, call->lean, lean);
+        best.own = best_of(best.own, call->own, own);
     }
     return best;
 }
 
-// Both sides have to grant, and to give and write the same. The lent room is filled before each call, so that what one side does not
-// write is seen, and what lies behind what it writes too.
-static void compare(const struct call *call)
+// A side of plain C and the library have to grant, and to give and write the same. The lent room is filled before each call, so that what
+// one side does not write is seen, and what lies behind what it writes too.
+static void compare(const struct call *call, void (*plain)(void))
 {
     static uint8_t plain_room[sizeof room];
     static uint16_t plain_numbers[ORDER_NUMBERS];
     memset(room, 0xA5, sizeof room);
     memset(numbers, 0xA5, sizeof numbers);
-    call->plain();
+    plain();
     memcpy(plain_room, room, sizeof room);
     memcpy(plain_numbers, numbers, sizeof numbers);
     memset(room, 0xA5, sizeof room);
@@ -211,9 +220,12 @@ static void compare(const struct call *call)
 
 // ---- the table
 
+// A time of 0 is none.
 static void print_time(double time)
 {
-    if (time < 1e-6)
+    if (time <= 0)
+        printf(" – |");
+    else if (time < 1e-6)
         printf(" %.0f ns |", 1e9 * time);
     else if (time < 1e-3)
         printf(" %.1f us |", 1e6 * time);
@@ -221,19 +233,37 @@ static void print_time(double time)
         printf(" %.2f ms |", 1e3 * time);
 }
 
-// `before` is the time at half the events, 0 where there is none.
-static struct times print_row(const struct call *call, const char *input, const char *size, struct times before)
+static void print_ratio(double time, double to, const char *end)
 {
-    compare(call);
-    struct times now = measure(call);
-    printf("| %s | %s | %s |", call->name, input, size);
-    print_time(now.plain);
-    print_time(now.own);
-    printf(" %.2f |", now.own / now.plain);
-    if (before.own > 0)
-        printf(" %.1f, %.1f |\n", now.plain / before.plain, now.own / before.own);
+    if (time > 0 && to > 0)
+        printf(" %.2f%s", time / to, end);
     else
-        printf(" |\n");
+        printf(" –%s", end);
+}
+
+static void print_header(const char *size)
+{
+    printf("| call | input | %s | plain C | leaner C | ozhimka | to plain C | to leaner C |", size);
+    printf(" growth from half the %s: plain C, leaner C, ozhimka |\n", size);
+    printf("|---|---|---|---:|---:|---:|---:|---:|---|\n");
+}
+
+// `before` has the times at half the size, 0 where there are none.
+static struct times print_row(const struct call *call, const char *input, unsigned size, struct times before)
+{
+    compare(call, call->plain);
+    if (call->lean)
+        compare(call, call->lean);
+    struct times now = measure(call);
+    printf("| %s | %s | %u |", call->name, input, size);
+    print_time(now.plain);
+    print_time(now.lean);
+    print_time(now.own);
+    print_ratio(now.own, now.plain, " |");
+    print_ratio(now.own, now.lean, " |");
+    print_ratio(now.plain, before.plain, ",");
+    print_ratio(now.lean, before.lean, ",");
+    print_ratio(now.own, before.own, " |\n");
     fflush(stdout);
     return now;
 }
@@ -256,48 +286,51 @@ static void load_chart(size_t (*write)(uint8_t *, uint32_t), uint32_t n)
     uint64_t all = n == 64 ? ~(uint64_t)0 : ((uint64_t)1 << n) - 1;
     chart = reading.chart;
     marking = (struct marking){all, 0, all};
-    snapshot = plain_matching(chart, marking).snapshot;
-    plain_derive(chart, book, sizeof book);
+    snapshot = plain_matching(&chart, marking).snapshot;
+    plain_derive(&chart, book, sizeof book);
     size_t rules = book[8] | (size_t)book[9] << 8;
     book_length = 32 + 10 * rules + 8 * n + 2 * (book[16] | (size_t)book[17] << 8);
     load_order();
 }
 
-static void load_book(size_t (*write)(uint8_t *))
+static void load_book(size_t (*write)(uint8_t *, uint32_t), uint32_t rules)
 {
-    book_length = write(book);
+    book_length = write(book, rules);
     memset(&snapshot, 1, sizeof snapshot);
     load_order();
 }
 
 static void print_charts(const char *input, size_t (*write)(uint8_t *, uint32_t))
 {
-    struct times before[CALLS] = {{0, 0}};
+    struct times before[CALLS] = {{0, 0, 0}};
     for (uint32_t n = 8; n <= 64; n *= 2) {
-        char size[16];
-        snprintf(size, sizeof size, "%u events", (unsigned)n);
         load_chart(write, n);
         for (int i = 0; i < CALLS; i++)
-            before[i] = print_row(&calls[i], input, size, before[i]);
+            before[i] = print_row(&calls[i], input, (unsigned)n, before[i]);
     }
 }
 
-static void print_books(const char *input, size_t (*write)(uint8_t *))
+static void print_books(const char *input, size_t (*write)(uint8_t *, uint32_t))
 {
-    struct times none = {0, 0};
-    load_book(write);
-    print_row(&calls[CHECK], input, "8384 rules", none);
-    print_row(&calls[COMPLETE], input, "8384 rules", none);
+    struct times before[CALLS] = {{0, 0, 0}};
+    for (uint32_t rules = ORDER_NUMBERS / 8; rules <= ORDER_NUMBERS; rules *= 2) {
+        load_book(write, rules);
+        for (int i = CHECK; i <= COMPLETE; i++)
+            before[i] = print_row(&calls[i], input, (unsigned)rules, before[i]);
+    }
 }
 
 int main(void)
 {
-    printf("| call | input | size | plain C | ozhimka | ratio | growth from half the events, plain C and ozhimka |\n");
-    printf("|---|---|---|---:|---:|---:|---|\n");
+    print_header("events");
     print_charts("all relations", full_chart);
     print_charts("sparse", sparse_chart);
-    print_books("largest book, layered", layered_book);
-    print_books("largest book, one mark", paired_book);
-    print_books("largest book, completions", staged_book);
+    printf("\n");
+    print_header("rules");
+    print_books("layered", layered_book);
+    print_books("one mark", one_mark_book);
+    print_books("one mark, one condition", one_condition_book);
+    print_books("one stage", one_stage_book);
+    print_books("every stage", staged_book);
     return 0;
 }

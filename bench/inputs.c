@@ -3,7 +3,7 @@
 
 enum { CONDITION, RESPONSE, MILESTONE, INCLUDE, EXCLUDE };
 enum { NO_PARENT = 65535, INCLUDED = 4, FLAGS_BYTE = 256, MAX_ROLES = 8 };
-enum { STAGES = 64, MARKS = 256, RULES = 8384, CONDITIONS = 256, WORDS = 41024, OR = 65534, NOT = 65535 };
+enum { STAGES = 64, MARKS = 256, CONDITIONS = 256, WORDS = 41024, OR = 65534, NOT = 65535 };
 
 static uint8_t *put16(uint8_t *at, uint32_t number)
 {
@@ -90,9 +90,9 @@ size_t sparse_chart(uint8_t *image, uint32_t n)
 
 // ---- books
 
-static uint8_t *put_book_header(uint8_t *at)
+static uint8_t *put_book_header(uint8_t *at, uint32_t rules)
 {
-    const uint32_t header[8] = {STAGES, MARKS, RULES, CONDITIONS, WORDS, 32, 32 + 10 * RULES, 32 + 10 * RULES + 8 * CONDITIONS};
+    const uint32_t header[8] = {STAGES, MARKS, rules, CONDITIONS, WORDS, 32, 32 + 10 * rules, 32 + 10 * rules + 8 * CONDITIONS};
     for (int i = 0; i < 8; i++)
         at = put32(at, header[i]);
     return at;
@@ -117,7 +117,7 @@ static uint8_t *put_completion(uint8_t *at, uint32_t stage, uint32_t set, uint32
     return end;
 }
 
-// Words of condition c: the whole text divided as evenly as it goes.
+// Words before those of condition c: the whole text divided as evenly as it goes.
 static uint32_t words_before(uint32_t c)
 {
     return WORDS / CONDITIONS * c + (c < WORDS % CONDITIONS ? c : WORDS % CONDITIONS);
@@ -146,29 +146,49 @@ static uint8_t *put_conditions(uint8_t *at)
     return at;
 }
 
-size_t layered_book(uint8_t *book)
+// The target of rule p in layers: never mark 255, which condition 254 names.
+static uint32_t layer(uint32_t p, uint32_t rules)
 {
-    uint8_t *at = put_book_header(book);
-    for (uint32_t p = 0; p < RULES; p++) {
-        uint32_t target = p * (MARKS - 1) / RULES; // never mark 255, which condition 254 names
-        at = put_rule(at, p % 2, target, target);
-    }
+    return p * (MARKS - 1) / rules;
+}
+
+size_t layered_book(uint8_t *book, uint32_t rules)
+{
+    uint8_t *at = put_book_header(book, rules);
+    for (uint32_t p = 0; p < rules; p++)
+        at = put_rule(at, p % 2, layer(p, rules), layer(p, rules));
     return (size_t)(put_conditions(at) - book);
 }
 
-size_t paired_book(uint8_t *book)
+size_t one_mark_book(uint8_t *book, uint32_t rules)
 {
-    uint8_t *at = put_book_header(book);
-    for (uint32_t p = 0; p < RULES; p++)
+    uint8_t *at = put_book_header(book, rules);
+    for (uint32_t p = 0; p < rules; p++)
+        at = put_completion(at, p % STAGES, p / STAGES % 2, p % STAGES, 0);
+    return (size_t)(put_conditions(at) - book);
+}
+
+size_t one_condition_book(uint8_t *book, uint32_t rules)
+{
+    uint8_t *at = put_book_header(book, rules);
+    for (uint32_t p = 0; p < rules; p++)
         at = put_rule(at, p % 2, 0, 0);
     return (size_t)(put_conditions(at) - book);
 }
 
-size_t staged_book(uint8_t *book)
+size_t one_stage_book(uint8_t *book, uint32_t rules)
 {
-    uint8_t *at = put_book_header(book);
-    for (uint32_t p = 0; p < RULES; p++) {
-        uint32_t stage = p % STAGES, target = p / STAGES * (MARKS - 1) / (RULES / STAGES); // never mark 255, as above
+    uint8_t *at = put_book_header(book, rules);
+    for (uint32_t p = 0; p < rules; p++)
+        at = put_completion(at, 1, p % 2, layer(p, rules), layer(p, rules));
+    return (size_t)(put_conditions(at) - book);
+}
+
+size_t staged_book(uint8_t *book, uint32_t rules)
+{
+    uint8_t *at = put_book_header(book, rules);
+    for (uint32_t p = 0; p < rules; p++) {
+        uint32_t stage = p % STAGES, target = layer(p / STAGES, rules / STAGES + 1);
         at = put_completion(at, stage, stage % 2, target, target);
     }
     return (size_t)(put_conditions(at) - book);

@@ -1,4 +1,4 @@
-// What the calls are timed on: chart images by size and kind, and the largest hand-made books.
+// What the calls are timed on: chart images by size and kind, and large hand-made books.
 #ifndef INPUTS_H
 #define INPUTS_H
 
@@ -14,15 +14,25 @@ size_t full_chart(uint8_t *image, uint32_t n);
 // A chart of n events, four to a group, with two or three relations to an event. Every node names a role, event 1 role 1. Gives its length.
 size_t sparse_chart(uint8_t *image, uint32_t n);
 
-// The largest book, 64 stages, 256 marks, 8,384 rules, 256 conditions and 41,024 words. Every mark is set and cleared under a condition
-// that names the 80 marks above it, and the rules of the lower marks come first, so that each has to wait. Gives its length.
-size_t layered_book(uint8_t *book);
+// Books of some rules, up to 8,384, that have the largest size in all else: 64 stages, 256 marks, 256 conditions and 41,024 words. Each gives
+// its length.
 
-// The largest book again, where all rules set and clear one mark, so that every pair has to be compared. Gives its length.
-size_t paired_book(uint8_t *book);
+// Every mark is set and cleared under a condition that names the 80 marks above it, and the rules of the lower marks come first, so that
+// each has to wait.
+size_t layered_book(uint8_t *book, uint32_t rules);
 
-// The worst book for the search for loops: the largest again, every rule on a completion and with a condition, 131 rules to each of the 64
-// stages. A stage's rules come in an order in which each has to wait for the next ones. Gives its length.
-size_t staged_book(uint8_t *book);
+// All rules set and clear one mark, each on a completion and under the condition that all rules of its stage share: of no two opposed rules
+// it shows but by comparing that they are apart, here by their stages, there by their senses.
+size_t one_mark_book(uint8_t *book, uint32_t rules);
+
+// All rules set and clear one mark, under one condition that all of them share.
+size_t one_condition_book(uint8_t *book, uint32_t rules);
+
+// As layered_book, and every rule on the completion of stage 1.
+size_t one_stage_book(uint8_t *book, uint32_t rules);
+
+// The worst book for the search for loops: every rule on a completion and with a condition, as many for each of the 64 stages. A stage's
+// rules come in an order in which each has to wait for the next ones.
+size_t staged_book(uint8_t *book, uint32_t rules);
 
 #endif

@@ -1,59 +1,9 @@
 // The paper's eight calls in plain C: bit sets, one pass over each table, no memory but the stack.
-#include "plain.h"
+#include "book.h"
 
 #include <string.h>
 
-enum { NO_PARENT = 65535, NO_RULE = 65535 };
-enum { MAX_NODES = 128, MAX_RELATIONS = 4096, MAX_EVENTS = 64, MAX_ROLES = 8, FLAGS_BYTE = 256 };
-enum { MAX_STAGES = 64, MAX_MARKS = 256, MAX_RULES = 8384, MAX_CONDITIONS = 256, MAX_WORDS = 41024, MAX_HELD = 16 };
-enum { AND = 65533, OR = 65534, NOT = 65535 };
-enum { NO_TRIGGER, COMPLETED, BECOME_YES, BECOME_NO };
-enum { NO_CONDITION, AS_WRITTEN, NEGATED };
-enum { CLEAR, SET };
-
-static const struct answer granted = {0, 0, 0};
-
-static struct answer refused(uint32_t code, uint32_t place, uint32_t other)
-{
-    return (struct answer){code, place, other};
-}
-
-static uint32_t get16(const uint8_t *at)
-{
-    return at[0] | (uint32_t)at[1] << 8;
-}
-
-static uint32_t get32(const uint8_t *at)
-{
-    return get16(at) | get16(at + 2) << 16;
-}
-
-static uint8_t *put16(uint8_t *at, uint32_t number)
-{
-    at[0] = (uint8_t)number;
-    at[1] = (uint8_t)(number >> 8);
-    return at + 2;
-}
-
-static uint8_t *put32(uint8_t *at, uint32_t number)
-{
-    return put16(put16(at, number), number >> 16);
-}
-
-static uint64_t only(uint32_t e)
-{
-    return (uint64_t)1 << e;
-}
-
-static uint32_t lowest(uint64_t set)
-{
-    return (uint32_t)__builtin_ctzll(set);
-}
-
-static uint32_t size(uint64_t set)
-{
-    return (uint32_t)__builtin_popcountll(set);
-}
+enum { NO_PARENT = 65535, MAX_NODES = 128, MAX_RELATIONS = 4096, MAX_EVENTS = 64, MAX_ROLES = 8, FLAGS_BYTE = 256 };
 
 // ---- reading a chart
 
@@ -199,9 +149,12 @@ static bool fit_chart(const struct flat_chart *chart)
         both |= chart->includes[e] & chart->excludes[e];
     }
     for (uint32_t e = count; e < MAX_EVENTS; e++)
-        past |= chart->conditions[e] | chart->responses[e] | chart->milestones[e] | chart->includes[e] | chart->excludes[e] | chart->roles[e];
+        past |= chart->conditions[e] | chart->responses[e] | chart->milestones[e] | chart->includes[e] | chart->excludes[e];
+    uint8_t named = 0; // in a loop of its own, so that the one over sets needs no bytes
+    for (uint32_t e = count; e < MAX_EVENTS; e++)
+        named |= chart->roles[e];
     uint64_t outside = count == 64 ? 0 : ~(uint64_t)0 << count;
-    return (within & outside) == 0 && past == 0 && both == 0;
+    return (within & outside) == 0 && past == 0 && named == 0 && both == 0;
 }
 
 static bool fit(const struct flat_chart *chart, struct marking marking)
@@ -227,18 +180,18 @@ static bool permitted(uint8_t roles, uint32_t role)
     return role < MAX_ROLES && (roles == 0 || (roles >> role & 1) != 0);
 }
 
-struct step plain_execute(struct flat_chart chart, struct marking marking, uint32_t event, uint32_t role)
+struct step plain_execute(const struct flat_chart *chart, struct marking marking, uint32_t event, uint32_t role)
 {
     struct step step = {granted, marking};
-    if (!fit(&chart, marking)) {
+    if (!fit(chart, marking)) {
         step.answer = refused(14, 0, 0);
         return step;
     }
-    if (event >= chart.count) {
+    if (event >= chart->count) {
         step.answer = refused(10, 0, 0);
         return step;
     }
-    if (!permitted(chart.roles[event], role)) {
+    if (!permitted(chart->roles[event], role)) {
         step.answer = refused(32, 0, 0);
         return step;
     }
@@ -246,46 +199,46 @@ struct step plain_execute(struct flat_chart chart, struct marking marking, uint3
         step.answer = refused(11, 0, 0);
         return step;
     }
-    uint64_t wanting = chart.conditions[event] & marking.included & ~marking.executed;
+    uint64_t wanting = chart->conditions[event] & marking.included & ~marking.executed;
     if (wanting != 0) {
         step.answer = refused(12, lowest(wanting), 0);
         return step;
     }
-    wanting = chart.milestones[event] & marking.included & marking.pending;
+    wanting = chart->milestones[event] & marking.included & marking.pending;
     if (wanting != 0) {
         step.answer = refused(13, lowest(wanting), 0);
         return step;
     }
     step.marking.executed = marking.executed | only(event);
-    step.marking.pending = (marking.pending & ~only(event)) | chart.responses[event];
-    step.marking.included = (marking.included & ~chart.excludes[event]) | chart.includes[event];
+    step.marking.pending = (marking.pending & ~only(event)) | chart->responses[event];
+    step.marking.included = (marking.included & ~chart->excludes[event]) | chart->includes[event];
     return step;
 }
 
-struct open_count plain_count_open(struct flat_chart chart, struct marking marking)
+struct open_count plain_count_open(const struct flat_chart *chart, struct marking marking)
 {
-    if (!fit(&chart, marking))
+    if (!fit(chart, marking))
         return (struct open_count){refused(14, 0, 0), 0, 64};
-    uint64_t open = open_set(&chart, marking);
+    uint64_t open = open_set(chart, marking);
     return (struct open_count){granted, size(open), open == 0 ? 64 : lowest(open)};
 }
 
-struct finish plain_finished(struct flat_chart chart, struct marking marking)
+struct finish plain_finished(const struct flat_chart *chart, struct marking marking)
 {
-    if (!fit(&chart, marking))
+    if (!fit(chart, marking))
         return (struct finish){refused(14, 0, 0), false};
     return (struct finish){granted, (marking.included & marking.pending) == 0};
 }
 
-struct settled plain_matching(struct flat_chart chart, struct marking marking)
+struct settled plain_matching(const struct flat_chart *chart, struct marking marking)
 {
     struct settled settled = {.answer = granted};
-    if (!fit(&chart, marking)) {
+    if (!fit(chart, marking)) {
         settled.answer = refused(14, 0, 0);
         return settled;
     }
-    uint32_t n = chart.count;
-    uint64_t open = open_set(&chart, marking);
+    uint32_t n = chart->count;
+    uint64_t open = open_set(chart, marking);
     bool *marks = settled.snapshot.marks;
     for (uint32_t e = 0; e < n; e++) {
         marks[e] = open >> e & 1;
@@ -297,6 +250,18 @@ struct settled plain_matching(struct flat_chart chart, struct marking marking)
 }
 
 // ---- deriving
+
+static uint8_t *put16(uint8_t *at, uint32_t number)
+{
+    at[0] = (uint8_t)number;
+    at[1] = (uint8_t)(number >> 8);
+    return at + 2;
+}
+
+static uint8_t *put32(uint8_t *at, uint32_t number)
+{
+    return put16(put16(at, number), number >> 16);
+}
 
 static uint8_t *put_rule(uint8_t *at, uint8_t trigger, uint8_t sense, uint8_t effect, uint32_t number, uint32_t condition,
                          uint32_t target)
@@ -333,14 +298,14 @@ static uint8_t *put_clauses(uint8_t *at, uint64_t set, uint32_t included, uint32
     return at;
 }
 
-struct answer plain_derive(struct flat_chart chart, uint8_t *room, size_t length)
+struct answer plain_derive(const struct flat_chart *chart, uint8_t *room, size_t length)
 {
-    if (!fit_chart(&chart))
+    if (!fit_chart(chart))
         return refused(14, 0, 0);
-    uint32_t n = chart.count, rules = 3 * n, words = n;
+    uint32_t n = chart->count, rules = 3 * n, words = n;
     for (uint32_t e = 0; e < n; e++) {
-        rules += size(chart.includes[e] | chart.excludes[e]) + size(chart.responses[e] | only(e));
-        words += 5 * (size(chart.conditions[e]) + size(chart.milestones[e]));
+        rules += size(chart->includes[e] | chart->excludes[e]) + size(chart->responses[e] | only(e));
+        words += 5 * (size(chart->conditions[e]) + size(chart->milestones[e]));
     }
     uint32_t conditions_at = 32 + 10 * rules, words_at = conditions_at + 8 * n, needed = words_at + 2 * words;
     if (length < needed)
@@ -350,134 +315,36 @@ struct answer plain_derive(struct flat_chart chart, uint8_t *room, size_t length
     for (uint32_t i = 0; i < 8; i++)
         at = put32(at, header[i]);
     for (uint32_t e = 0; e < n; e++)
-        at = put_completion(at, &chart, e);
+        at = put_completion(at, chart, e);
     for (uint32_t e = 0; e < n; e++) {
         at = put_rule(at, NO_TRIGGER, AS_WRITTEN, SET, 0, e, e);
         at = put_rule(at, NO_TRIGGER, NEGATED, CLEAR, 0, e, e);
     }
     for (uint32_t e = 0, start = 0; e < n; e++) {
-        uint32_t count = 1 + 5 * (size(chart.conditions[e]) + size(chart.milestones[e]));
+        uint32_t count = 1 + 5 * (size(chart->conditions[e]) + size(chart->milestones[e]));
         at = put32(put32(at, start), count);
         start += count;
     }
     for (uint32_t e = 0; e < n; e++) {
         at = put16(at, 2 * n + e);
-        at = put_clauses(at, chart.conditions[e], 2 * n, n);
-        at = put_clauses(at, chart.milestones[e], 2 * n, 3 * n);
+        at = put_clauses(at, chart->conditions[e], 2 * n, n);
+        at = put_clauses(at, chart->milestones[e], 2 * n, 3 * n);
     }
     return granted;
 }
 
 // ---- reading a book
 
-struct marks {
-    uint64_t word[4];
-};
-
-struct rule {
-    uint8_t trigger, sense, effect, zero;
-    uint32_t number, condition, target;
-};
-
-struct book {
-    uint32_t stages, marks, rules, conditions, words;
-    const uint8_t *rules_at, *conditions_at, *words_at;
-    struct marks refers[MAX_CONDITIONS]; // of a condition: the marks in its text
-};
-
-static inline struct rule rule_of(const struct book *book, uint32_t p)
-{
-    const uint8_t *at = book->rules_at + 10 * p;
-    return (struct rule){at[0], at[1], at[2], at[3], get16(at + 4), get16(at + 6), get16(at + 8)};
-}
-
-static bool has(const struct marks *set, uint32_t mark)
-{
-    return set->word[mark / 64] >> (mark % 64) & 1;
-}
-
-static void add(struct marks *set, uint32_t mark)
-{
-    set->word[mark / 64] |= only(mark % 64);
-}
-
-static void drop(struct marks *set, uint32_t mark)
-{
-    set->word[mark / 64] &= ~only(mark % 64);
-}
-
-static void join(struct marks *set, const struct marks *more)
-{
-    for (int i = 0; i < 4; i++)
-        set->word[i] |= more->word[i];
-}
-
-static bool meet(const struct marks *one, const struct marks *two)
-{
-    uint64_t common = 0;
-    for (int i = 0; i < 4; i++)
-        common |= one->word[i] & two->word[i];
-    return common != 0;
-}
-
-static bool good_rule(const struct book *book, struct rule rule)
-{
-    if (rule.trigger > BECOME_NO || rule.sense > NEGATED || rule.effect > SET || rule.zero != 0)
-        return false;
-    uint32_t numbers = rule.trigger == NO_TRIGGER ? 1 : rule.trigger == COMPLETED ? book->stages : book->marks;
-    uint32_t conditions = rule.sense == NO_CONDITION ? 1 : book->conditions;
-    return rule.number < numbers && rule.condition < conditions && rule.target < book->marks;
-}
-
-static bool good_condition(struct book *book, uint32_t c)
-{
-    uint32_t start = get32(book->conditions_at + 8 * c), count = get32(book->conditions_at + 8 * c + 4), held = 0;
-    if (count == 0 || start > book->words || count > book->words - start)
-        return false;
-    struct marks refers = {{0}};
-    const uint8_t *at = book->words_at + 2 * start;
-    for (uint32_t i = 0; i < count; i++, at += 2) {
-        uint32_t word = get16(at);
-        if (word < book->marks) {
-            if (++held > MAX_HELD)
-                return false;
-            add(&refers, word);
-        } else if (word < AND || held < (word == NOT ? 1u : 2u)) {
-            return false;
-        } else if (word != NOT) {
-            held--;
-        }
-    }
-    book->refers[c] = refers;
-    return held == 1;
-}
-
 // Refusals 20 to 24.
 static struct answer read_book(const uint8_t *image, size_t length, struct book *book)
 {
-    if (length < 32)
-        return refused(20, 0, 0);
-    uint32_t stages = get32(image), marks = get32(image + 4), rules = get32(image + 8), conditions = get32(image + 12),
-             words = get32(image + 16);
-    if (stages > MAX_STAGES || marks < stages || marks > MAX_MARKS || rules > MAX_RULES || conditions > MAX_CONDITIONS
-        || words > MAX_WORDS)
-        return refused(21, 0, 0);
-    uint32_t conditions_at = 32 + 10 * rules, words_at = conditions_at + 8 * conditions;
-    if (get32(image + 20) != 32 || get32(image + 24) != conditions_at || get32(image + 28) != words_at
-        || length != words_at + 2 * words)
-        return refused(22, 0, 0);
-    book->stages = stages;
-    book->marks = marks;
-    book->rules = rules;
-    book->conditions = conditions;
-    book->words = words;
-    book->rules_at = image + 32;
-    book->conditions_at = image + conditions_at;
-    book->words_at = image + words_at;
-    for (uint32_t p = 0; p < rules; p++)
+    struct answer answer = read_counts(image, length, book);
+    if (answer.code != 0)
+        return answer;
+    for (uint32_t p = 0; p < book->rules; p++)
         if (!good_rule(book, rule_of(book, p)))
             return refused(23, p, 0);
-    for (uint32_t c = 0; c < conditions; c++)
+    for (uint32_t c = 0; c < book->conditions; c++)
         if (!good_condition(book, c))
             return refused(24, c, 0);
     return granted;
@@ -586,7 +453,7 @@ static uint32_t stage_looping(const struct book *book, struct search *search, co
 
 // The lowest mark on a loop of any stage, or MAX_MARKS: one search for what counts for every stage, and one more for each stage that has a
 // completion rule with a condition.
-static uint32_t lowest_of_stages(const struct book *book)
+uint32_t lowest_of_stages(const struct book *book)
 {
     struct search search;
     struct chains chains;
@@ -603,14 +470,6 @@ static uint32_t lowest_of_stages(const struct book *book)
             best = mark < best ? mark : best;
         }
     return best;
-}
-
-// Of two rule records as they stand in the image: completions of different stages, or one condition in opposite senses.
-static inline bool apart(const uint8_t *one, const uint8_t *two)
-{
-    if (one[0] == COMPLETED && two[0] == COMPLETED && get16(one + 4) != get16(two + 4))
-        return true;
-    return one[1] != NO_CONDITION && two[1] != NO_CONDITION && one[1] != two[1] && get16(one + 6) == get16(two + 6);
 }
 
 // The lowest clashing pair. Chains lead from a rule to the next ones with its target and its effect, or the other effect.
@@ -654,11 +513,6 @@ struct progress {
     uint16_t left[MAX_MARKS], rules[MAX_RULES];
     uint32_t count;
 };
-
-static bool counts(struct rule rule, uint32_t stage)
-{
-    return rule.trigger != COMPLETED || rule.number == stage;
-}
 
 static void begin(const struct book *book, uint32_t stage, struct progress *progress)
 {
@@ -745,44 +599,6 @@ static bool fit_order(const struct book *book, uint32_t stage, const uint16_t *o
         settles(&progress, rule);
     }
     return true;
-}
-
-// The stack of values is a number, its top the lowest bit.
-static bool holds(const struct book *book, uint32_t condition, const bool *marks)
-{
-    const uint8_t *record = book->conditions_at + 8 * condition;
-    const uint8_t *at = book->words_at + 2 * get32(record), *end = at + 2 * get32(record + 4);
-    uint32_t stack = 0;
-    for (; at < end; at += 2) {
-        uint32_t word = get16(at);
-        switch (word) {
-        case AND:
-            stack = stack >> 1 & (stack | ~1u);
-            break;
-        case OR:
-            stack = stack >> 1 | (stack & 1);
-            break;
-        case NOT:
-            stack ^= 1;
-            break;
-        default:
-            stack = stack << 1 | marks[word];
-        }
-    }
-    return stack & 1;
-}
-
-// Of a rule that counts for the completed stage.
-static bool triggered(struct rule rule, const bool *start, const bool *now)
-{
-    switch (rule.trigger) {
-    case BECOME_YES:
-        return !start[rule.number] && now[rule.number];
-    case BECOME_NO:
-        return start[rule.number] && !now[rule.number];
-    default:
-        return true;
-    }
 }
 
 struct settled plain_complete(const uint8_t *image, size_t length, const uint16_t *order, size_t count, struct snapshot snapshot,

@@ -1,5 +1,5 @@
 // The paper's eight calls in plain C, as a controller's author would write them by hand: what the library is timed against.
-// They take and give what include/ozhimka.h does, by value too.
+// They take and give what include/ozhimka.h does: a chart by pointer, the other structs by value.
 #ifndef PLAIN_H
 #define PLAIN_H
 
@@ -54,11 +54,11 @@ struct settled {
 };
 
 struct reading plain_read_chart(const uint8_t *image, size_t length);
-struct step plain_execute(struct flat_chart chart, struct marking marking, uint32_t event, uint32_t role);
-struct open_count plain_count_open(struct flat_chart chart, struct marking marking);
-struct finish plain_finished(struct flat_chart chart, struct marking marking);
-struct settled plain_matching(struct flat_chart chart, struct marking marking);
-struct answer plain_derive(struct flat_chart chart, uint8_t *room, size_t length);
+struct step plain_execute(const struct flat_chart *chart, struct marking marking, uint32_t event, uint32_t role);
+struct open_count plain_count_open(const struct flat_chart *chart, struct marking marking);
+struct finish plain_finished(const struct flat_chart *chart, struct marking marking);
+struct settled plain_matching(const struct flat_chart *chart, struct marking marking);
+struct answer plain_derive(const struct flat_chart *chart, uint8_t *room, size_t length);
 struct answer plain_check(const uint8_t *image, size_t length, uint32_t stage, uint16_t *room, size_t count);
 struct settled plain_complete(const uint8_t *image, size_t length, const uint16_t *order, size_t count, struct snapshot snapshot,
                               uint32_t stage);

@@ -1,5 +1,6 @@
-// Speaks the protocol of the program `vectors` over the plain C calls, so that the model can check them.
-#include "plain.h"
+// Speaks the protocol of the program `vectors` over the plain C calls, so that the model can check them: those of plain.c, or, compiled with
+// -DLEAN, the check and the completion of lean.c.
+#include "lean.h"
 
 #include <inttypes.h>
 #include <stdarg.h>
@@ -9,6 +10,14 @@
 
 enum { MAX_BODY = 262144, MAX_BYTES = 200000, MAX_NUMBERS = 10000, FLAT = 4 + 5 * 64 * 8 + 64, MARKING = 24, FILL = 165 };
 enum { LISTING = 18, LISTED_CHART = 25097, LISTED_BOOK = 49152, AND = 65533, OR = 65534, NOT = 65535 };
+
+#ifdef LEAN
+#define CHECK lean_check
+#define COMPLETE lean_complete
+#else
+#define CHECK plain_check
+#define COMPLETE plain_complete
+#endif
 
 static uint8_t body[MAX_BODY];
 
@@ -96,19 +105,19 @@ static bool on_chart(int operation, const uint8_t *at, size_t length)
     struct marking marking = marking_at(at + FLAT);
     if (operation == 2) {
         const uint8_t *numbers = at + FLAT + MARKING;
-        struct step step = plain_execute(chart, marking, (uint32_t)number(numbers, 4), (uint32_t)number(numbers + 4, 4));
+        struct step step = plain_execute(&chart, marking, (uint32_t)number(numbers, 4), (uint32_t)number(numbers + 4, 4));
         say("execute", step.answer);
         say_marking(step.marking);
     } else if (operation == 3) {
-        struct open_count count = plain_count_open(chart, marking);
+        struct open_count count = plain_count_open(&chart, marking);
         say("count", count.answer);
         printf(" %" PRIu32 " %" PRIu32, count.open, count.lowest);
     } else if (operation == 4) {
-        struct finish finish = plain_finished(chart, marking);
+        struct finish finish = plain_finished(&chart, marking);
         say("finished", finish.answer);
         printf(finish.yes ? " yes" : " no");
     } else {
-        struct settled settled = plain_matching(chart, marking);
+        struct settled settled = plain_matching(&chart, marking);
         say("matching", settled.answer);
         say_snapshot(&settled.snapshot);
     }
@@ -122,7 +131,7 @@ static bool derive(const uint8_t *at, size_t length)
     size_t bytes = number(at, 4);
     struct flat_chart chart = flat_at(at + 4);
     uint8_t *room = filled(bytes);
-    say("derive", plain_derive(chart, room, bytes));
+    say("derive", plain_derive(&chart, room, bytes));
     printf(" %" PRIu32, adler(room, bytes, 1));
     free(room);
     return true;
@@ -134,7 +143,7 @@ static bool check(const uint8_t *at, size_t length)
         return false;
     size_t count = number(at, 4);
     uint16_t *numbers = filled(2 * count);
-    say("check", plain_check(at + 8, length - 8, (uint32_t)number(at + 4, 4), numbers, count));
+    say("check", CHECK(at + 8, length - 8, (uint32_t)number(at + 4, 4), numbers, count));
     uint32_t sum = 1;
     for (size_t i = 0; i < count; i++)
         sum = adler((const uint8_t[]){(uint8_t)numbers[i], (uint8_t)(numbers[i] >> 8)}, 2, sum);
@@ -155,7 +164,7 @@ static bool complete(const uint8_t *at, size_t length)
     for (size_t i = 0; i < count; i++)
         numbers[i] = (uint16_t)number(at + 40 + 2 * i, 2);
     size_t start = 40 + 2 * count;
-    struct settled settled = plain_complete(at + start, length - start, numbers, count, snapshot, (uint32_t)number(at, 4));
+    struct settled settled = COMPLETE(at + start, length - start, numbers, count, snapshot, (uint32_t)number(at, 4));
     say("complete", settled.answer);
     say_snapshot(&settled.snapshot);
     free(numbers);
@@ -214,7 +223,7 @@ static void listing(const uint8_t *image, size_t length)
 {
     static uint8_t book[LISTED_BOOK];
     struct reading reading = plain_read_chart(image, length < LISTED_CHART ? length : LISTED_CHART);
-    struct answer answer = reading.answer.code != 0 ? reading.answer : plain_derive(reading.chart, book, sizeof book);
+    struct answer answer = reading.answer.code != 0 ? reading.answer : plain_derive(&reading.chart, book, sizeof book);
     listed = 0;
     listed_sum = 1;
     if (answer.code == 0)

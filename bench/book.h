@@ -1,0 +1,207 @@
+// What both files of plain C read a book with: the paper's numbers, sets of marks, records and texts.
+#ifndef BOOK_H
+#define BOOK_H
+
+#include "plain.h"
+
+enum { MAX_STAGES = 64, MAX_MARKS = 256, MAX_RULES = 8384, MAX_CONDITIONS = 256, MAX_WORDS = 41024, MAX_HELD = 16, NO_RULE = 65535 };
+enum { AND = 65533, OR = 65534, NOT = 65535 };
+enum { NO_TRIGGER, COMPLETED, BECOME_YES, BECOME_NO };
+enum { NO_CONDITION, AS_WRITTEN, NEGATED };
+enum { CLEAR, SET };
+
+static const struct answer granted = {0, 0, 0};
+
+static inline struct answer refused(uint32_t code, uint32_t place, uint32_t other)
+{
+    return (struct answer){code, place, other};
+}
+
+static inline uint32_t get16(const uint8_t *at)
+{
+    return at[0] | (uint32_t)at[1] << 8;
+}
+
+static inline uint32_t get32(const uint8_t *at)
+{
+    return get16(at) | get16(at + 2) << 16;
+}
+
+static inline uint64_t only(uint32_t e)
+{
+    return (uint64_t)1 << e;
+}
+
+static inline uint32_t lowest(uint64_t set)
+{
+    return (uint32_t)__builtin_ctzll(set);
+}
+
+static inline uint32_t size(uint64_t set)
+{
+    return (uint32_t)__builtin_popcountll(set);
+}
+
+struct marks {
+    uint64_t word[4];
+};
+
+struct rule {
+    uint8_t trigger, sense, effect, zero;
+    uint32_t number, condition, target;
+};
+
+struct book {
+    uint32_t stages, marks, rules, conditions, words;
+    const uint8_t *rules_at, *conditions_at, *words_at;
+    struct marks refers[MAX_CONDITIONS]; // of a condition: the marks in its text
+};
+
+static inline struct rule rule_of(const struct book *book, uint32_t p)
+{
+    const uint8_t *at = book->rules_at + 10 * p;
+    return (struct rule){at[0], at[1], at[2], at[3], get16(at + 4), get16(at + 6), get16(at + 8)};
+}
+
+static inline bool has(const struct marks *set, uint32_t mark)
+{
+    return set->word[mark / 64] >> (mark % 64) & 1;
+}
+
+static inline void add(struct marks *set, uint32_t mark)
+{
+    set->word[mark / 64] |= only(mark % 64);
+}
+
+static inline void drop(struct marks *set, uint32_t mark)
+{
+    set->word[mark / 64] &= ~only(mark % 64);
+}
+
+static inline void join(struct marks *set, const struct marks *more)
+{
+    for (int i = 0; i < 4; i++)
+        set->word[i] |= more->word[i];
+}
+
+static inline bool meet(const struct marks *one, const struct marks *two)
+{
+    uint64_t common = 0;
+    for (int i = 0; i < 4; i++)
+        common |= one->word[i] & two->word[i];
+    return common != 0;
+}
+
+static inline bool good_rule(const struct book *book, struct rule rule)
+{
+    if (rule.trigger > BECOME_NO || rule.sense > NEGATED || rule.effect > SET || rule.zero != 0)
+        return false;
+    uint32_t numbers = rule.trigger == NO_TRIGGER ? 1 : rule.trigger == COMPLETED ? book->stages : book->marks;
+    uint32_t conditions = rule.sense == NO_CONDITION ? 1 : book->conditions;
+    return rule.number < numbers && rule.condition < conditions && rule.target < book->marks;
+}
+
+static inline bool good_condition(struct book *book, uint32_t c)
+{
+    uint32_t start = get32(book->conditions_at + 8 * c), count = get32(book->conditions_at + 8 * c + 4), held = 0;
+    if (count == 0 || start > book->words || count > book->words - start)
+        return false;
+    struct marks refers = {{0}};
+    const uint8_t *at = book->words_at + 2 * start;
+    for (uint32_t i = 0; i < count; i++, at += 2) {
+        uint32_t word = get16(at);
+        if (word < book->marks) {
+            if (++held > MAX_HELD)
+                return false;
+            add(&refers, word);
+        } else if (word < AND || held < (word == NOT ? 1u : 2u)) {
+            return false;
+        } else if (word != NOT) {
+            held--;
+        }
+    }
+    book->refers[c] = refers;
+    return held == 1;
+}
+
+// Refusals 20 to 22.
+static inline struct answer read_counts(const uint8_t *image, size_t length, struct book *book)
+{
+    if (length < 32)
+        return refused(20, 0, 0);
+    uint32_t stages = get32(image), marks = get32(image + 4), rules = get32(image + 8), conditions = get32(image + 12),
+             words = get32(image + 16);
+    if (stages > MAX_STAGES || marks < stages || marks > MAX_MARKS || rules > MAX_RULES || conditions > MAX_CONDITIONS
+        || words > MAX_WORDS)
+        return refused(21, 0, 0);
+    uint32_t conditions_at = 32 + 10 * rules, words_at = conditions_at + 8 * conditions;
+    if (get32(image + 20) != 32 || get32(image + 24) != conditions_at || get32(image + 28) != words_at
+        || length != words_at + 2 * words)
+        return refused(22, 0, 0);
+    book->stages = stages;
+    book->marks = marks;
+    book->rules = rules;
+    book->conditions = conditions;
+    book->words = words;
+    book->rules_at = image + 32;
+    book->conditions_at = image + conditions_at;
+    book->words_at = image + words_at;
+    return granted;
+}
+
+// Of two rule records as they stand in the image: completions of different stages, or one condition in opposite senses.
+static inline bool apart(const uint8_t *one, const uint8_t *two)
+{
+    if (one[0] == COMPLETED && two[0] == COMPLETED && get16(one + 4) != get16(two + 4))
+        return true;
+    return one[1] != NO_CONDITION && two[1] != NO_CONDITION && one[1] != two[1] && get16(one + 6) == get16(two + 6);
+}
+
+// Whether a rule counts for a stage.
+static inline bool counts(struct rule rule, uint32_t stage)
+{
+    return rule.trigger != COMPLETED || rule.number == stage;
+}
+
+// The stack of values is a number, its top the lowest bit.
+static inline bool holds(const struct book *book, uint32_t condition, const bool *marks)
+{
+    const uint8_t *record = book->conditions_at + 8 * condition;
+    const uint8_t *at = book->words_at + 2 * get32(record), *end = at + 2 * get32(record + 4);
+    uint32_t stack = 0;
+    for (; at < end; at += 2) {
+        uint32_t word = get16(at);
+        switch (word) {
+        case AND:
+            stack = stack >> 1 & (stack | ~1u);
+            break;
+        case OR:
+            stack = stack >> 1 | (stack & 1);
+            break;
+        case NOT:
+            stack ^= 1;
+            break;
+        default:
+            stack = stack << 1 | marks[word];
+        }
+    }
+    return stack & 1;
+}
+
+// Of a rule that counts for the completed stage.
+static inline bool triggered(struct rule rule, const bool *start, const bool *now)
+{
+    switch (rule.trigger) {
+    case BECOME_YES:
+        return !start[rule.number] && now[rule.number];
+    case BECOME_NO:
+        return start[rule.number] && !now[rule.number];
+    default:
+        return true;
+    }
+}
+
+// The lowest mark on a loop of any stage, or MAX_MARKS.
+uint32_t lowest_of_stages(const struct book *book);
+
+#endif
