@@ -215,6 +215,81 @@ def circle_of_completions(rng):
     return Book(stages, marks, rules, [(i, 1) for i in range(length)], ring)
 
 
+def opposed_pair(rng, conditions):
+    """The senses (sense, condition) of a mark's rules by effect: one record, as written for the one effect and negated for the other."""
+    sense, condition = rng.choice((1, 2)), rng.randrange(conditions)
+    return [[(3 - sense, condition)], [(sense, condition)]]
+
+
+def crowded_ways(rng, stages, conditions):
+    """A plan for a mark with many rules that do not clash: for each stage, and at None for rules on no completion, the senses that a rule
+    may have, by effect; an empty list where that effect has no rule."""
+    free = [(0, 0)] + [(sense, rng.randrange(conditions)) for sense in (1, 2, 1, 2)]
+    one_effect = lambda: rng.choice(([free, []], [[], free]))
+    plan = rng.choice(('one effect', 'one pair', 'stages apart', 'pair by stage', 'pair by stage', 'others', 'others'))
+    pair, effect = opposed_pair(rng, conditions), rng.randrange(2)
+    if plan == 'one effect':
+        way = one_effect()
+        return {at: way for at in (None, *range(stages))}
+    if plan == 'one pair':
+        return {at: pair for at in (None, *range(stages))}
+    if plan == 'stages apart':
+        return {stage: one_effect() for stage in range(stages)}
+    if plan == 'pair by stage':
+        return {stage: rng.choice((one_effect(), opposed_pair(rng, conditions))) for stage in range(stages)}
+    only = [pair[side] if side == effect else [] for side in (0, 1)]
+    same = [free if side == effect else [] for side in (0, 1)]
+    return {None: only, **{stage: rng.choice((pair, same)) for stage in range(stages)}}
+
+
+def crowded_rule(rng, ways, sources, target):
+    at = rng.choice(list(ways))
+    effect = rng.choice([side for side in (0, 1) if ways[at][side]])
+    trigger = rng.choice((0, 0, 2, 3)) if at is None else 1
+    number = at if trigger == 1 else rng.choice(sources) if trigger else 0
+    sense, condition = rng.choice(ways[at][effect])
+    return Rule(trigger, sense, effect, 0, number, condition, target)
+
+
+def turned(rng, rule, stages, sources, conditions):
+    """The rule with one thing changed, so that it may clash with others of its mark."""
+    way = rng.choice(('effect', 'sense', 'no sense', 'condition', 'stage', 'no trigger', 'become'))
+    if way == 'effect':
+        return rule._replace(effect=1 - rule.effect)
+    if way == 'no sense':
+        return rule._replace(sense=0, condition=0)
+    if way == 'sense':
+        return rule._replace(sense=3 - rule.sense if rule.sense else 1)
+    if way == 'condition':
+        return rule._replace(sense=rule.sense or 1, condition=rng.randrange(conditions))
+    if way == 'stage':
+        return rule._replace(trigger=1, number=rng.randrange(stages))
+    if way == 'no trigger':
+        return rule._replace(trigger=0, number=0)
+    return rule._replace(trigger=rng.choice((2, 3)), number=rng.choice(sources))
+
+
+def crowded_book(rng):
+    """Many rules on one or two marks, of few stages and shared conditions: no loop, and no clash or one that hangs on one or two rules.
+    Some records have one and the same text. The lowest marks may be the crowded ones, or stages, or the last."""
+    stages, conditions = rng.choice((1, 2, 2, 3, 4, 8)), rng.choice((1, 2, 3, 3, 5))
+    marks = stages + rng.choice((2, 3, 5))
+    row = rng.sample(range(marks), marks)
+    crowded, sources = row[:rng.choice((1, 1, 2))], row[2:]
+    spans, words = random_texts(rng, sources, conditions, 2)
+    if rng.random() < 0.5:
+        spans[rng.randrange(conditions)] = rng.choice(spans)
+    plans = {target: crowded_ways(rng, stages, conditions) for target in crowded}
+    rules = []
+    for _ in range(rng.choice((2, 3, 4, 6, 8, 12, 20, 40))):
+        target = rng.choice(crowded)
+        rules.append(crowded_rule(rng, plans[target], sources, target))
+    for _ in range(rng.choice((0, 0, 1, 1, 1, 2))):
+        p = rng.randrange(len(rules))
+        rules[p] = turned(rng, rules[p], stages, sources, conditions)
+    return Book(stages, marks, rules, spans, words)
+
+
 def a_trigger_less(rng, book):
     """The book with one rule's trigger taken away: the rule then counts for every stage."""
     rules = list(book.rules)
@@ -332,6 +407,18 @@ def circles(rng):
             rng.shuffle(order)
             snapshot = [mark < book.stages or mark < book.marks and rng.random() < 0.5 for mark in range(256)]
             yield complete_request(stage, snapshot, order, model.book_image(book))
+
+
+def crowded_books(rng):
+    """A book with many rules on one mark: its check for a stage, and completions in the stage's running order and in any other."""
+    book = crowded_book(rng)
+    image, stage = model.book_image(book), a_stage(rng, book.stages)
+    yield check_request(max(0, len(model.counted(book, stage)) + rng.choice((0, 0, 0, 1, -1))), stage, image)
+    stage = rng.randrange(book.stages)
+    for order in (model.running_order(book, stage), random_order(rng, book, stage)):
+        snapshot = random_snapshot(rng, book.marks)
+        snapshot[stage] = True
+        yield complete_request(stage, snapshot, order, image)
 
 
 def sound_books(rng):
@@ -476,5 +563,6 @@ def damaged_flats(rng):
     yield bytes(body) if body[0] == 2 else bytes(body[:-8])
 
 
-SMALL = (charts, wild_checks, wild_completions, circles, sound_books, sound_runs, damaged_charts, badly_flagged, damaged_books, listings)
+SMALL = (charts, wild_checks, wild_completions, circles, crowded_books, sound_books, sound_runs, damaged_charts, badly_flagged,
+         damaged_books, listings)
 WIDE = (steps, derivings, side_by_side, damaged_flats)  # their requests carry a flat chart of 2,628 bytes
