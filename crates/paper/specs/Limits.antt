@@ -77,6 +77,17 @@ orWord = 65534
 abbrev pub notWord : ℕ
 notWord = 65535
 
+-- ---- the index image: sizes in bytes of S and R, of what it says of a stage, and of a rule in an order
+
+abbrev pub indexHeader : ℕ
+indexHeader = 8
+
+abbrev pub indexStage : ℕ
+indexStage = 8
+
+abbrev pub indexRule : ℕ
+indexRule = 2
+
 -- ---- refusals
 
 abbrev pub chartShort : ℕ
@@ -162,3 +173,9 @@ orderRoom = 31
 
 abbrev pub notPermitted : ℕ
 notPermitted = 32
+
+abbrev pub indexUnfit : ℕ
+indexUnfit = 34
+
+abbrev pub indexRoom : ℕ
+indexRoom = 35

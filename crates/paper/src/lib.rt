@@ -52,6 +52,13 @@ pub const OR: u16 = 65534;
 
 pub const NOT: u16 = 65535;
 
+// ---- the index image: sizes in bytes of S and R, of what it says of a stage, and of a rule in an order
+pub const INDEX_HEADER: usize = 8;
+
+pub const INDEX_STAGE: usize = 8;
+
+pub const INDEX_RULE: usize = 2;
+
 // ---- refusals
 pub const CHART_SHORT: u32 = 1;
 
@@ -108,6 +115,10 @@ pub const STAGE_CLOSED: u32 = 30;
 pub const ORDER_ROOM: u32 = 31;
 
 pub const NOT_PERMITTED: u32 = 32;
+
+pub const INDEX_UNFIT: u32 = 34;
+
+pub const INDEX_ROOM: u32 = 35;
 
 #[repr(C)]
 pub struct Answer {
