@@ -7,3 +7,4 @@ pub mod Numbering
 pub mod Writing
 pub mod Scan
 pub mod Refusals
+pub mod Comparing

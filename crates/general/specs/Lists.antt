@@ -5,7 +5,7 @@ use mathlib.Core.List.{List, [], _∷_, _++_, append-assoc, append-nil}
 use native.Mathlib.Numerals.{add-one}
 use native.Mathlib.Omega.{arith}
 use lib.ListN.{length, getD, take, drop, length-append, List·getD-append}
-use lib.Seq.{getD-at}
+use lib.Seq.{getD-at, take-suc, take-length}
 use Rattle.general.specs.Cases.{lt-suc}
 use Rattle.general.specs.Tables.{tabulate}
 
@@ -32,6 +32,16 @@ total-le (suc k) b g h =
     let j : g k ≤ b = h k (omega arith) in
     omega arith
 
+pub total-one : (k c : ℕ) → total k (λ e. c) ≡ c * k
+unfolding total
+total-one zero c = omega arith
+total-one (suc k) c = rw (total-one k c) (omega arith)
+
+pub total-scaled : (k c : ℕ) (g : ℕ → ℕ) → total k (λ e. c * g e) ≡ c * total k g
+unfolding total
+total-scaled zero c g = omega arith
+total-scaled (suc k) c g = rw (total-scaled k c g) (omega arith)
+
 module _ {A : Type 0} where
   -- the parts of the numbers below k, in order
   unfoldable pub flat : ℕ → (ℕ → List A) → List A
@@ -57,6 +67,10 @@ module _ {A : Type 0} where
   length-flat zero g = refl
   length-flat (suc k) g = length-append (flat k g) (g k) ∙ rw (length-flat k g)
 
+  -- parts of one length
+  pub length-parts : (k w : ℕ) (g : ℕ → List A) → ((e : ℕ) → length (g e) ≡ w) → length (flat k g) ≡ w * k
+  length-parts k w g h = length-flat k g ∙ total-same k (λ e. length (g e)) (λ e. w) (λ e l. h e) ∙ total-one k w
+
   -- what stands before part e, and part e, lie in the whole
   pub flat-part : (k e : ℕ) (g : ℕ → List A) → e < k → length (flat e g) + length (g e) ≤ length (flat k g)
   unfolding flat
@@ -81,6 +95,15 @@ module _ {A : Type 0} where
       take-seam : (x y : List A) → take (length x) (x ++ y) ≡ x
       take-seam [] y = refl
       take-seam (a ∷ x) y = ap (λ (r : List A). a ∷ r) (take-seam x y)
+
+  -- part e, and what stands before it and behind it
+  pub flat-around : (k e : ℕ) (g : ℕ → List A) → e < k → (rest : List A) × (flat k g ≡ flat e g ++ (g e ++ rest))
+  unfolding flat
+  flat-around zero e g h = absurd (omega arith)
+  flat-around (suc k) e g h =
+      lt-suc h (λ q. ([], rw (q, append-nil (g k))))
+      (λ l. let (r, p) = flat-around k e g l in
+      (r ++ g k, ap (λ (x : List A). x ++ g k) p ∙ append-assoc (flat e g) (g e ++ r) (g k) ∙ ap (λ (x : List A). flat e g ++ x) (append-assoc (g e) r (g k))))
 
   -- ---- one element for each number
 
@@ -174,3 +197,12 @@ module _ {A B : Type 0} (f : A → List B) where
         let i : length (packed l) ≡ w * length l = length-packed l in
         let j : length (f x) ≡ w = same x in
         length-append (f x) (packed l) ∙ omega arith
+
+  -- element by element, by number
+  pub packed-flat : (d : A) (l : List A) → packed l ≡ flat (length l) (λ j. f (getD l j d))
+  unfolding packed flat
+  packed-flat d l = ap packed (sym (take-length l)) ∙ upto (length l) (omega arith)
+    where
+      upto : (k : ℕ) → k ≤ length l → packed (take k l) ≡ flat k (λ j. f (getD l j d))
+      upto zero h = refl
+      upto (suc k) h = rw (take-suc l k d (omega arith), packed-append (take k l) (getD l k d ∷ []), packed-one (getD l k d), upto k (omega arith))

@@ -1,11 +1,12 @@
 -- Bytes written into a room one run after another: where the next run goes, and what the room then holds. Assumes nothing.
-use Prim.Native.Nat.{ℕ, suc, _+_, _≤_}
+use Prim.Native.Nat.{ℕ, suc, _+_, _≤_, _<_}
 use mathlib.Core.Path.{_≡_, refl, sym, ap, _∙_}
 use mathlib.Core.List.{List, [], _∷_, _++_}
 use native.Mathlib.Nat.{add-suc, suc-add, add-zero, zero-add}
 use native.Mathlib.Omega.{arith}
 use lib.ListN.{length, set, drop, length-append}
 use lib.Seq.{sets, length-sets, sets-eq}
+use Rattle.general.specs.Lists.{flat, flat-step, flat-part}
 
 -- two runs are one
 pub sets-append : {A : Type 0} (k l room : List A) (at : ℕ) → sets room at (k ++ l) ≡ sets (sets room at k) (at + length k) l
@@ -83,3 +84,31 @@ module _ {room whole after rest : List ℕ} {at next : ℕ} (l : Left room at wh
 
   pub left-none : rest ≡ [] → Wrote room at whole next after
   left-none e = record { place = sym (ap (λ (r : List ℕ). next + length r) e ∙ rw add-zero) ∙ l .place; holds = ap (λ (r : List ℕ). sets after next r) (sym e) ∙ l .holds }
+
+-- ---- a loop over the numbers below n: the runs of those passed are written
+
+module _ (g : ℕ → List ℕ) (n : ℕ) (room₀ : List ℕ) (at : ℕ) where
+  pub record Runs (k next : ℕ) (room : List ℕ) : Type 0 where
+    pub few : k ≤ n
+    pub wrote : Wrote room₀ at (flat k g) next room
+
+  pub runs-start : Runs 0 at room₀
+  unfolding flat
+  runs-start = record { few = omega arith; wrote = wrote-none room₀ at }
+
+  module _ (k next : ℕ) (room : List ℕ) (inv : Runs k next room) where
+    pub runs-length : length room ≡ length room₀
+    runs-length = wrote-length (inv .wrote)
+
+    pub runs-fits : k < n → Fits room₀ at (flat n g) → Fits room next (g k)
+    runs-fits h l =
+        let a : length room ≡ length room₀ = runs-length in
+        let b : next ≡ at + length (flat k g) = inv .wrote .place in
+        let d : length (flat k g) + length (g k) ≤ length (flat n g) = flat-part n k g h in
+        omega arith
+
+    pub runs-more : (next′ : ℕ) (room′ : List ℕ) → k < n → Wrote room next (g k) next′ room′ → Runs (k + 1) next′ room′
+    runs-more next′ room′ h w = record { few = omega arith; wrote = rw (flat-step k g) (then (inv .wrote) w) }
+
+    pub runs-done : n ≤ k → Wrote room₀ at (flat n g) next room
+    runs-done h = let l : k ≤ n = inv .few in let q : k ≡ n = omega arith in rw (← q) (inv .wrote)
