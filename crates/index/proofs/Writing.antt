@@ -1,0 +1,146 @@
+-- What the functions that write the image need: a pair of numbers, the loop over the entries, the loop over the rules of an order. Assumes nothing.
+use mathlib.Core.Path.{_≡_, refl, sym, _∙_}
+use mathlib.Core.List.{List, _++_}
+use Prim.Native.Nat.{ℕ, suc, _+_, _*_, _≤_, _<_}
+use native.Mathlib.Numerals.{add-one}
+use native.Mathlib.Omega.{arith}
+use lib.ListN.{length, getD}
+use Rattle.paper.specs.Limits.{maxRules, indexHeader, indexStage, indexRule}
+use Rattle.general.specs.Lists.{flat}
+use Rattle.general.specs.Writing.{Fits, Wrote, then, fits-first, fits-then, Runs, runs-start, runs-length, runs-fits, runs-more, runs-done}
+use Rattle.wire.specs.Wire.{put16, put32, bytes16, bytes32}
+use Rattle.wire.specs.Laws.{length-bytes16}
+use Rattle.order_theory.specs.Order.{countedRules, NoLoop}
+use Rattle.order_theory.specs.Running.{runningOrder}
+use Rattle.book.specs.Image.{rulesIn, bookOf}
+use Rattle.book.specs.WellFormed.{WellFormed}
+use Rattle.book.specs.declared.Counts.{Counts}
+use Rattle.rule_order.specs.Nets.{rulesOf, rules-few}
+use Rattle.rule_order.specs.Counters.{Begun}
+use Rattle.rule_order.specs.Scanning.{Scanned, Turn, scanned-first, order-few}
+use Rattle.index.specs.Index.{orderBytes, indexImage, order-length}
+use Rattle.index.specs.Sizes.{orderSize, startFrom, entryFrom, Sized}
+use Rattle.index.specs.Runs.{pair-length, start-first, start-more, start-small, ruleAt, ordered, order-runs}
+use Rattle.index.specs.Ready.{IndexReady, image-runs}
+
+-- ---- a pair of numbers
+
+number-wrote : (room : List ℕ) (at n : ℕ) → Wrote room at (bytes32 n) (at + 4) (put32 room at n)
+unfolding put32 put16 bytes32 bytes16
+number-wrote room at n =
+    let a : at + 2 + 1 ≡ suc (suc (suc at)) = omega arith in
+    let b : at + 2 ≡ suc (suc at) = omega arith in
+    let d : at + 1 ≡ suc at = omega arith in
+    record { place = refl; holds = rw (a, b, d) }
+
+pub pair-wrote : (room mid after : List ℕ) (at x y : ℕ) → mid ≡ put32 room at x → after ≡ put32 mid (at + 4) y → Wrote room at (bytes32 x ++ bytes32 y) (at + 8) after
+pair-wrote room mid after at x y p q =
+    rw (q, p) (let w = then (number-wrote room at x) (number-wrote (put32 room at x) (at + 4) y) in record { place = omega (arith, pair-length x y); holds = w .holds })
+
+word-wrote : (room : List ℕ) (at n : ℕ) → Wrote room at (bytes16 n) (at + 2) (put16 room at n)
+unfolding put16 bytes16
+word-wrote room at n = record { place = refl; holds = rw add-one }
+
+-- ---- the entries
+
+module _ (stages : ℕ) (table : List ℕ) (common : ℕ) where
+  pub record Entered (room₀ : List ℕ) (at k next offset : ℕ) (room : List ℕ) : Type 0 where
+    pub runs : Runs (entryFrom stages table common) stages room₀ at k next room
+    pub start : offset ≡ startFrom stages table common k
+
+  pub entered-first : (room₀ : List ℕ) (at : ℕ) → Entered room₀ at 0 at (indexHeader + indexStage * stages) room₀
+  entered-first room₀ at = record { runs = runs-start (entryFrom stages table common) stages room₀ at; start = sym (start-first stages table common) }
+
+  module _ (room₀ : List ℕ) (at k next offset : ℕ) (room : List ℕ) (i : Entered room₀ at k next offset room) where
+    pub entered-length : length room ≡ length room₀
+    entered-length = runs-length _ _ _ _ _ _ _ (i .runs)
+
+    pub entered-small : Sized stages table common → offset < 2000000
+    entered-small z = let s = i .start in omega (arith, start-small stages table common k z (i .runs .few))
+
+    pub entered-fits : Fits room₀ at (flat stages (entryFrom stages table common)) → k < stages → next + 8 ≤ length room
+    unfolding entryFrom
+    entered-fits f h =
+        omega (arith, runs-fits _ _ _ _ _ _ _ (i .runs) h f, pair-length (startFrom stages table common k) (orderSize table common k))
+
+    pub entered-more : (n next′ : ℕ) (room′ : List ℕ) → k < stages → n ≡ orderSize table common k → Wrote room next (bytes32 offset ++ bytes32 n) next′ room′
+        → Entered room₀ at (k + 1) next′ (offset + indexRule * n) room′
+    unfolding entryFrom
+    entered-more n next′ room′ h e w =
+        record {
+          runs = runs-more _ _ _ _ _ _ _ (i .runs) next′ room′ h (rw (i .start, e) at w);
+          start = rw (start-more stages table common k, i .start, e);
+        }
+
+    pub entered-last : stages ≤ k → Wrote room₀ at (flat stages (entryFrom stages table common)) next room
+    entered-last h = runs-done _ _ _ _ _ _ _ (i .runs) h
+
+-- ---- the rules of an order
+
+module _ (s : List ℕ) (stage : ℕ) where
+  pub record Putting (room₀ : List ℕ) (from counted at passed : ℕ) (counts waits written : List ℕ) (j next : ℕ) (room : List ℕ) : Type 0 where
+    pub many : counted ≡ ordered s stage
+    pub runs : Runs (ruleAt s stage) (ordered s stage) room₀ from j next room
+    pub scan : Scanned s stage j at passed counts waits written
+
+  pub putting-first : (room : List ℕ) (from counted passed : ℕ) (counts waits written : List ℕ) → WellFormed s → NoLoop (rulesOf s stage)
+      → counted ≡ countedRules (rulesOf s stage) → Begun (rulesOf s stage) counts waits written → Putting room from counted 0 passed counts waits written 0 from room
+  putting-first room from counted passed counts waits written g l e b =
+      record { many = e ∙ sym (order-length s stage g l); runs = runs-start (ruleAt s stage) (ordered s stage) room from; scan = scanned-first s stage passed counts waits written b }
+
+  module _ (room₀ : List ℕ) (from counted at passed : ℕ) (counts waits written : List ℕ) (j next : ℕ) (room : List ℕ)
+      (i : Putting room₀ from counted at passed counts waits written j next room) where
+    pub putting-length : length room ≡ length room₀
+    putting-length = runs-length _ _ _ _ _ _ _ (i .runs)
+
+    pub putting-fits : Fits room₀ from (orderBytes (bookOf s) stage) → j < counted → next + 2 ≤ length room
+    putting-fits f h =
+        let e : counted ≡ ordered s stage = i .many in
+        omega (arith, runs-fits _ _ _ _ _ _ _ (i .runs) (omega arith) (rw (order-runs s stage) at f), length-bytes16 (getD (runningOrder (rulesOf s stage)) j (rulesIn s)))
+
+    pub putting-last : counted ≤ j → Wrote room₀ from (orderBytes (bookOf s) stage) next room
+    putting-last h = let e : counted ≡ ordered s stage = i .many in rw (order-runs s stage) (runs-done _ _ _ _ _ _ _ (i .runs) (omega arith))
+
+    module _ (rule at′ passed′ : ℕ) (counts′ waits′ written′ : List ℕ) (f : Turn s at passed counts waits written rule at′ passed′ counts′ waits′ written′) where
+      pub putting-small : WellFormed s → rule ≤ maxRules
+      putting-small g = let e = f .finds stage j (i .scan) .next in omega (arith, order-few s stage j, rules-few s g)
+
+      pub putting-more : (room′ : List ℕ) → j < counted → room′ ≡ put16 room next rule → Putting room₀ from counted at′ passed′ counts′ waits′ written′ (j + 1) (next + 2) room′
+      putting-more room′ h e =
+          let m : counted ≡ ordered s stage = i .many in
+          let l : j < ordered s stage = omega arith in
+          let d = f .finds stage j (i .scan) in
+          record {
+            many = m;
+            runs = runs-more _ _ _ _ _ _ _ (i .runs) (next + 2) room′ l (rw (e, d .next) (word-wrote room next (getD (runningOrder (rulesOf s stage)) j (rulesIn s))));
+            scan = d .goes l;
+          }
+
+-- ---- the whole
+
+module _ (s : List ℕ) (h : Counts) (refs table : List ℕ) (common : ℕ) (room : List ℕ) (g : IndexReady s h refs table common) (f : Fits room 0 (indexImage (bookOf s))) where
+  abbrev front : List ℕ
+  front = bytes32 (h .stages) ++ bytes32 (h .rules)
+
+  abbrev entries : List ℕ
+  entries = flat (h .stages) (entryFrom (h .stages) table common)
+
+  abbrev orders : List ℕ
+  orders = flat (h .stages) (orderBytes (bookOf s))
+
+  fits : Fits room 0 ((front ++ entries) ++ orders)
+  fits = rw (image-runs s h refs table common g) at f
+
+  pub index-fits-1 : 0 + 8 ≤ length room
+  index-fits-1 = omega (arith, fits-first room 0 front entries (fits-first room 0 (front ++ entries) orders fits), pair-length (h .stages) (h .rules))
+
+  module _ (a : ℕ) (r₁ : List ℕ) (w₁ : Wrote room 0 front a r₁) where
+    pub index-fits-2 : Fits r₁ a entries
+    index-fits-2 = fits-then w₁ entries (fits-first room 0 (front ++ entries) orders fits)
+
+    module _ (b : ℕ) (r₂ : List ℕ) (w₂ : Wrote r₁ a entries b r₂) where
+      pub index-fits-3 : Fits r₂ b orders
+      index-fits-3 = fits-then (then w₁ w₂) orders fits
+
+      pub index-wrote : (next : ℕ) (r₃ : List ℕ) → Wrote r₂ b orders next r₃ → Wrote room 0 (indexImage (bookOf s)) next r₃
+      index-wrote next r₃ w₃ = rw (image-runs s h refs table common g) (then (then w₁ w₂) w₃)

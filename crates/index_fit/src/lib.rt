@@ -1,0 +1,160 @@
+// Whether given bytes are the index image, compared run by run while the orders are made: no copy of the image is kept.
+ghost use mathlib.Core.Path.{_≡_};
+ghost use mathlib.Core.List.{_++_};
+ghost use Prim.Native.Nat.{_+_, _≤_};
+ghost use lib.ListN.{length};
+ghost use Rattle.general.specs.Comparing.{sameBytes, standsAt};
+ghost use Rattle.general.specs.Lists.{flat};
+ghost use Rattle.general.specs.Writing.{Fits};
+ghost use Rattle.wire.specs.Wire.{bytes16, bytes32};
+ghost use Rattle.order_theory.specs.Order.{NoLoop};
+ghost use Rattle.book.specs.Image.{rulesIn, bookOf};
+ghost use Rattle.book.specs.WellFormed.{WellFormed};
+ghost use Rattle.texts.specs.Noted.{References};
+ghost use Rattle.rule_order.specs.Nets.{rulesOf};
+ghost use Rattle.index.specs.Index.{orderBytes, indexImage};
+ghost use Rattle.index.specs.Sizes.{entryFrom, Sized};
+ghost use Rattle.index.specs.Ready.{IndexReady};
+use book::Counts;
+use index::sizes::index_size;
+use index::sizes::order_size;
+use paper::INDEX_HEADER;
+use paper::INDEX_RULE;
+use paper::INDEX_STAGE;
+use paper::MAX_EVENTS;
+use paper::MAX_MARKS;
+use rule_order::scan::next_rule;
+use rule_order::waiting::count_targets;
+use rule_order::written::RULE_WORDS;
+use texts::references::MARK_WORDS;
+
+// Two numbers of 32 bits.
+fn pair_same(index: &[u8], at: usize, first: u32, second: u32) -> bool
+    requires { ⌜ at + 8 ≤ length (now index) ⌝ }
+    ensures { λ r. ⌜ r ≡ standsAt (now (index .entry)) at (bytes32 first ++ bytes32 second) ⌝ }
+{
+    (wire::u32_at(index, at) == first) & (wire::u32_at(index, at + 4) == second)
+}
+
+// For each stage where its order begins and how many rules it has.
+fn entries_same(
+    stages: usize,
+    common: usize,
+    table: &[u32; MAX_EVENTS],
+    index: &[u8],
+    at: usize,
+) -> bool
+    requires { ⌜ Sized stages (now table) common × Fits (now index) at (flat stages (entryFrom stages (now table) common)) ⌝ }
+    ensures { λ r. ⌜ r ≡ standsAt (now (index .entry)) at (flat stages (entryFrom stages (now (table .entry)) common)) ⌝ }
+{
+    let mut next = at;
+    let mut offset = INDEX_HEADER + INDEX_STAGE * stages;
+    for s in 0..stages {
+        let size = order_size(table, common, s);
+        if !pair_same(index, next, offset as u32, size as u32) {
+            return false;
+        }
+        next += INDEX_STAGE;
+        offset += INDEX_RULE * size;
+    }
+    true
+}
+
+// A rule of an order.
+fn rule_same(index: &[u8], at: usize, rule: u16) -> bool
+    requires { ⌜ at + 2 ≤ length (now index) ⌝ }
+    ensures { λ r. ⌜ r ≡ standsAt (now (index .entry)) at (bytes16 rule) ⌝ }
+{
+    wire::u16_at(index, at) == rule
+}
+
+// The order of a stage, rule by rule, to the first that differs. One pass over the rules, and the scan. Stack: about 2 KiB.
+pub fn order_same(
+    image: &[u8],
+    rules: usize,
+    stage: u32,
+    refs: &[u64],
+    index: &[u8],
+    at: usize,
+) -> bool
+    requires { ⌜ (WellFormed (now image)) × (rules ≡ rulesIn (now image)) × (References (now image) (now refs)) × (NoLoop (rulesOf (now image) stage))
+        × Fits (now index) at (orderBytes (bookOf (now image)) stage) ⌝ }
+    ensures { λ r. ⌜ r ≡ standsAt (now (index .entry)) at (orderBytes (bookOf (now (image .entry))) stage) ⌝ }
+{
+    let mut counts = [0u16; MAX_MARKS];
+    let mut waits = [0u64; MARK_WORDS];
+    let mut written = [0u64; RULE_WORDS];
+    let counted = count_targets(image, rules, stage, &mut counts, &mut waits, &mut written);
+    let mut next = at;
+    let mut here: usize = 0;
+    let mut passed = rules;
+    for j in 0..counted {
+        let scan = next_rule(
+            image,
+            rules,
+            refs,
+            here,
+            passed,
+            &mut counts,
+            &mut waits,
+            &mut written,
+        );
+        if !rule_same(index, next, scan.rule as u16) {
+            return false;
+        }
+        next += INDEX_RULE;
+        here = scan.at;
+        passed = scan.passed;
+    }
+    true
+}
+
+fn orders_same(
+    image: &[u8],
+    counts: Counts,
+    refs: &[u64],
+    table: &[u32; MAX_EVENTS],
+    common: usize,
+    index: &[u8],
+    at: usize,
+) -> bool
+    requires { ⌜ IndexReady (now image) counts (now refs) (now table) common × Fits (now index) at (flat (counts .stages) (orderBytes (bookOf (now image)))) ⌝ }
+    ensures { λ r. ⌜ r ≡ standsAt (now (index .entry)) at (flat (counts .stages) (orderBytes (bookOf (now (image .entry))))) ⌝ }
+{
+    let rules = counts.rules as usize;
+    let stages = counts.stages as usize;
+    let mut next = at;
+    for stage in 0..stages {
+        if !order_same(image, rules, stage as u32, refs, index, next) {
+            return false;
+        }
+        next += INDEX_RULE * order_size(table, common, stage);
+    }
+    true
+}
+
+// Whether the index is the book's, byte for byte and in length.
+pub fn index_same(
+    image: &[u8],
+    counts: Counts,
+    refs: &[u64],
+    table: &[u32; MAX_EVENTS],
+    common: usize,
+    index: &[u8],
+) -> bool
+    requires { ⌜ IndexReady (now image) counts (now refs) (now table) common ⌝ }
+    ensures { λ r. ⌜ r ≡ sameBytes (now (index .entry)) (indexImage (bookOf (now (image .entry)))) ⌝ }
+{
+    let stages = counts.stages as usize;
+    if index.len() != index_size(stages, common, table) {
+        return false;
+    }
+    if !pair_same(index, 0, counts.stages, counts.rules) {
+        return false;
+    }
+    if !entries_same(stages, common, table, index, INDEX_HEADER) {
+        return false;
+    }
+    let at = INDEX_HEADER + INDEX_STAGE * stages;
+    orders_same(image, counts, refs, table, common, index, at)
+}
