@@ -58,7 +58,7 @@ module _ (s : List ℕ) where
       let (y, z) = both (leb (marksIn s) m) (snapOf marks m) x in
       (m, leb-true (marksIn s) m y, h, z)
 
-  above-some : (marks : List Bool) (m : ℕ) → marksIn s ≤ m → m < maxMarks → snapOf marks m ≡ true → anyFrom (marksIn s) marks ≡ true
+  pub above-some : (marks : List Bool) (m : ℕ) → marksIn s ≤ m → m < maxMarks → snapOf marks m ≡ true → anyFrom (marksIn s) marks ≡ true
   unfolding anyFrom
   above-some marks m l h x = some-of maxMarks (λ y. leb (marksIn s) y && snapOf marks y) m h (rw (le-leb (marksIn s) m l, x))
 

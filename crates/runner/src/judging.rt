@@ -85,7 +85,7 @@ pub fn judge_order(book: &[u8], order: &[u16], stage: u32) -> Answer
 }
 
 // Whether a mark from m on is yes.
-fn any_from(marks: &[bool; MAX_MARKS], m: usize) -> bool
+pub fn any_from(marks: &[bool; MAX_MARKS], m: usize) -> bool
     ensures { λ r. ⌜ r ≡ anyFrom m (now (marks .entry)) ⌝ }
 {
     let mut x = m;

@@ -1,0 +1,42 @@
+-- What completing a stage through the index gives, in the request's order of refusals: the answer, and the snapshot. Assumes nothing.
+use mathlib.Core.Bool.{Bool, cond}
+use mathlib.Core.List.{List}
+use Prim.Native.Nat.{ℕ}
+use lib.Dec.{eqb, ltb}
+use Rattle.paper.specs.Limits.{markAbove, noSuchStage, stageClosed, indexUnfit}
+use Rattle.paper.specs.Answers.{granted, refusal}
+use Rattle.paper.specs.declared.Answer.{Answer}
+use Rattle.book.specs.Text.{snapOf}
+use Rattle.book.specs.Image.{stagesIn, marksIn, bookOf}
+use Rattle.book.specs.declared.Snapshot.{Snapshot}
+use Rattle.judge.specs.Checking.{bookAnswer}
+use Rattle.runner.specs.Completing.{anyFrom, through}
+use Rattle.runner.specs.declared.Completion.{Completion}
+use Rattle.index.specs.Index.{orderOf}
+use Rattle.general.specs.Comparing.{sameBytes}
+use Rattle.indexed.specs.Building.{indexOf}
+
+-- "An index is fit exactly if it is what the builder writes for this book."; "34, unfit index, after 26"
+unfoldable pub indexAnswer : List ℕ → List ℕ → Answer
+indexAnswer s index = cond (eqb (bookAnswer s .code) 0) (cond (sameBytes index (indexOf s)) granted (refusal indexUnfit)) (bookAnswer s)
+
+-- 29 and 30
+unfoldable pub openAnswer : List ℕ → List Bool → ℕ → Answer
+openAnswer s marks stage = cond (ltb stage (stagesIn s)) (cond (snapOf marks stage) granted (refusal stageClosed)) (refusal noSuchStage)
+
+-- "and then 28, 29, 30"
+unfoldable pub marksAnswer : List ℕ → List Bool → ℕ → Answer
+marksAnswer s marks stage = cond (anyFrom (marksIn s) marks) (refusal markAbove) (openAnswer s marks stage)
+
+-- 20 to 26, 34, 28, 29, 30
+unfoldable pub indexedAnswer : List ℕ → List ℕ → List Bool → ℕ → Answer
+indexedAnswer s index marks stage = cond (eqb (indexAnswer s index .code) 0) (marksAnswer s marks stage) (indexAnswer s index)
+
+-- the snapshot after every rule of the stage's running order had its turn; a refusal hands back the snapshot that was given
+unfoldable pub completingIndexed : List ℕ → List ℕ → Snapshot → ℕ → Completion
+completingIndexed s index snapshot stage =
+    record {
+      answer = indexedAnswer s index (snapshot .marks) stage;
+      snapshot = cond (eqb (indexedAnswer s index (snapshot .marks) stage .code) 0)
+          (record { marks = through s (snapshot .marks) stage (snapshot .marks) (orderOf (bookOf s) stage) }) snapshot;
+    }

@@ -1,0 +1,4 @@
+-- The root of the crate's specs.
+pub mod Building
+pub mod Indexed
+pub mod IndexedTable

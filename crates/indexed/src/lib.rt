@@ -1,0 +1,58 @@
+// Building the index of a book, and completing a stage through it.
+pub mod building;
+pub mod judging;
+pub mod running;
+
+ghost use mathlib.Core.Path.{_≡_};
+ghost use lib.ListN.{length};
+ghost use Rattle.indexed.specs.Building.{building, builtRoom};
+ghost use Rattle.indexed.specs.Indexed.{completingIndexed};
+use book::Snapshot;
+use book::header::counts_at;
+use judge::image::judge_head;
+use judge::sizes::is_small;
+use paper::Answer;
+use runner::Completion;
+
+// The index of a book at the start of the room: 20 to 26 and 35, or 0 and the image.
+// Cost: the passes of `judge::judge_book`, one over the rules for what counts, and for each stage one over the rules and the scan of its running
+// order. Stack: the arrays that the book is judged in, 3 KiB for one of at most 64 marks and 32 conditions and 16 for any other, a table of 256
+// bytes, and 2 KiB in the running order.
+pub fn build(book: &[u8], room: &mut [u8]) -> Answer
+    ensures { λ r. ⌜ (r ≡ building (now (book .entry)) (length (now (room .entry)))) × (now (room .exit) ≡ builtRoom (now (book .entry)) (now (room .entry))) ⌝ }
+{
+    let judged = judge_head(book);
+    if judged.code != 0 {
+        return judged;
+    }
+    let h = counts_at(book);
+    if is_small(h) {
+        return building::build_small(book, h, room);
+    }
+    building::build_large(book, h, room)
+}
+
+// 20 to 26, 34, 28, 29, 30 and the snapshot that was given, or 0 and the snapshot after every rule of the stage's running order had its turn.
+// Cost: what building takes, with the index compared in place of written, and one turn for each rule in the stage's order. Stack: as for building.
+pub fn complete(book: &[u8], index: &[u8], snapshot: Snapshot, stage: u32) -> Completion
+    ensures { λ r. ⌜ r ≡ completingIndexed (now (book .entry)) (now (index .entry)) snapshot stage ⌝ }
+{
+    let fit = judging::judge_index(book, index);
+    if fit.code != 0 {
+        return Completion {
+            answer: fit,
+            snapshot,
+        };
+    }
+    let h = counts_at(book);
+    let answer = judging::judge_marks(&snapshot.marks, h, stage);
+    if answer.code != 0 {
+        return Completion { answer, snapshot };
+    }
+    let start = snapshot.marks;
+    let after = running::go_through_index(book, h, index, &start, snapshot, stage);
+    Completion {
+        answer,
+        snapshot: after,
+    }
+}
