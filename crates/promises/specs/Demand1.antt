@@ -35,6 +35,9 @@ use Rattle.deriver.specs.declared.Matched.{Matched}
 use Rattle.runner.specs.Table.{Answered, answered, answered-is}
 use Rattle.runner.specs.Completing.{completing}
 use Rattle.runner.specs.Completion.{refusal-hands-back}
+use Rattle.indexed.specs.Building.{indexOf, building, builtRoom, Builds, builds, builds-is, granted-index, refused-index}
+use Rattle.indexed.specs.Indexed.{completingIndexed}
+use Rattle.indexed.specs.IndexedTable.{Indexed, indexed, indexed-is, indexed-hands-back}
 use Rattle.promises.specs.Tables as table
 use Rattle.promises.specs.Tables.{Unfit, CountsOpen, counts-open, counts-only, Finishes, finishes, finishes-only, Derives, derives, derives-only}
 use Rattle.promises.specs.Matching as matching
@@ -123,9 +126,18 @@ pub record Demand1 : Type 0 where
   pub complete : (book order : List ℕ) (s : Snapshot) (stage : ℕ) → Answered book order (s .marks) stage (completing book order s stage .answer)
   pub completeOnly : (book order : List ℕ) (s : Snapshot) (stage : ℕ) (a : Answer) → Answered book order (s .marks) stage a → a ≡ completing book order s stage .answer
   pub completeRefused : (book order : List ℕ) (s : Snapshot) (stage : ℕ) → (completing book order s stage .answer .code ≡ 0 → ⊥) → completing book order s stage .snapshot ≡ s
+  -- building an index: 20 to 26, 35; the image is written, and room past it stays as it was; a refusal leaves the room as it was
+  pub build : (book : List ℕ) (room : ℕ) → Builds book room (building book room)
+  pub buildOnly : (book : List ℕ) (room : ℕ) (a : Answer) → Builds book room a → a ≡ building book room
+  pub buildGranted : (book room : List ℕ) → building book (length room) .code ≡ 0 → builtRoom book room ≡ indexOf book ++ drop (length (indexOf book)) room
+  pub buildRefused : (book room : List ℕ) → (building book (length room) .code ≡ 0 → ⊥) → builtRoom book room ≡ room
+  -- completing through the index: 20 to 26, 34, 28, 29, 30; a refusal hands back the snapshot it was given
+  pub indexed : (book index : List ℕ) (s : Snapshot) (stage : ℕ) → Indexed book index (s .marks) stage (completingIndexed book index s stage .answer)
+  pub indexedOnly : (book index : List ℕ) (s : Snapshot) (stage : ℕ) (a : Answer) → Indexed book index (s .marks) stage a → a ≡ completingIndexed book index s stage .answer
+  pub indexedRefused : (book index : List ℕ) (s : Snapshot) (stage : ℕ) → (completingIndexed book index s stage .answer .code ≡ 0 → ⊥) → completingIndexed book index s stage .snapshot ≡ s
 
 pub demand-1 : Demand1
-unfolding completing
+unfolding completing completingIndexed
 demand-1 =
     record {
       read = outcome;
@@ -157,6 +169,13 @@ demand-1 =
       complete = λ book order s stage. answered book order stage (s .marks);
       completeOnly = λ book order s stage. answered-is book order stage (s .marks);
       completeRefused = refusal-hands-back;
+      build = builds;
+      buildOnly = builds-is;
+      buildGranted = granted-index;
+      buildRefused = refused-index;
+      indexed = λ book index s stage. indexed book index (s .marks) stage;
+      indexedOnly = λ book index s stage. indexed-is book index (s .marks) stage;
+      indexedRefused = indexed-hands-back;
     }
 
 -- ---- two results that meet a contract coincide: the calls whose lemma stands here; the others' stand beside their definitions

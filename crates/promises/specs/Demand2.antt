@@ -61,7 +61,7 @@ module _ (c : FlatChart) (fit : Fit c) where
   said : bookOf (derivedImage c) ≡ derivedBook c
   said = book-of-image (derivedBook c)
 
-  passes : Passes (derivedImage c)
+  pub passes : Passes (derivedImage c)
   passes =
       record {
         formed = derived-well c fit;

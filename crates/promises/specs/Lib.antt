@@ -5,6 +5,7 @@ pub mod Matching
 pub mod Demand2
 pub mod Demand1
 pub mod Demand3
+pub mod Indexes
 pub mod Roles
 pub mod Stages
 pub mod Rows
