@@ -1,10 +1,10 @@
-// A small controller: loads a chart, derives its rule book, has it checked, and takes steps from standard input.
+// A small controller: loads a chart, derives its rule book, has it checked and indexed, and takes steps from standard input.
 //
 //   controller CHART < STEPS
 //
 // A step is a line: the numbers of an event and of the role that executes it, as `5 1`. Where the chart names no roles the event alone will
-// do, and the role is 0. The chart says whether the role is permitted, which no rule book knows; the stage is then completed in the book, in
-// its own running order: here that is asked for at each step, and a controller with more memory may keep one for each stage.
+// do, and the role is 0. The chart says whether the role is permitted, which no rule book knows; the stage is then completed in the book,
+// through the index that is kept beside it and has the running order of each stage.
 // At the start it prints the open stages, and `finished` where no included event is pending. Each step gets one line: the same after it, or
 // the refusal, which leaves everything as it was and does not count as a failure. A line that is no step is said on standard error and
 // passed over, an empty one in silence; one of over 64 characters, which may be no text at all, ends the run.
@@ -18,8 +18,8 @@
 #include <string.h>
 
 static uint8_t image[OZHIMKA_MAX_CHART + 1], book[OZHIMKA_MAX_DERIVED]; // one byte more, so that a longer file is refused
-static uint16_t order[OZHIMKA_MAX_RULES]; // of the stage that is completed; each stage has its own
-static size_t image_length, book_length;
+static uint8_t index_image[OZHIMKA_MAX_DERIVED_INDEX];
+static size_t image_length, book_length, index_length;
 static struct ozhimka_counts counts;
 static struct ozhimka_chart chart;
 static struct ozhimka_marking marking;
@@ -54,8 +54,9 @@ static bool load(void)
         return false;
     counts = ozhimka_book_counts(book);
     book_length = ozhimka_book_length(book);
-    if (!granted(stderr, "check", ozhimka_check(book, book_length, 0, order, OZHIMKA_MAX_RULES))) // passes for all stages or for none
+    if (!granted(stderr, "index", ozhimka_build_index(book, book_length, index_image, sizeof index_image))) // which checks the book, too
         return false;
+    index_length = ozhimka_index_length(book);
     struct ozhimka_settled start = ozhimka_matching(&reading.chart, reading.marking);
     chart = reading.chart;
     marking = reading.marking;
@@ -168,9 +169,7 @@ static void take(uint32_t event, uint32_t role)
         return;
     }
     snprintf(call, sizeof call, "complete %" PRIu32, event);
-    if (!granted(stdout, call, ozhimka_check(book, book_length, event, order, OZHIMKA_MAX_RULES)))
-        return; // there is no such stage
-    struct ozhimka_settled next = ozhimka_complete(book, book_length, order, ozhimka_order_length(book, event), now, event);
+    struct ozhimka_settled next = ozhimka_complete_indexed(book, book_length, index_image, index_length, now, event);
     marking = step.marking; // this and the snapshot as they were where the step is refused, which chart and book do alike
     now = next.snapshot;
     if (granted(stdout, call, next.answer))

@@ -1,5 +1,5 @@
-// Tries on the library what the header says of null pointers, of a book's length, of roles, of a chart's tables, of stages, of the words for
-// each code, and of the stack.
+// Tries on the library what the header says of null pointers, of a book's length, of roles, of a chart's tables, of stages, of the index, of
+// the words for each code, and of the stack.
 // Prints what does not hold; exit status 0 if nothing, else 1. Wants POSIX contexts, to run a call on a stack that was painted before.
 #define _XOPEN_SOURCE 700
 #include "ozhimka.h"
@@ -12,8 +12,9 @@ enum { PAINT = 0xA5, ROOM = 1 << 18 };
 
 static int failures;
 static uint8_t image[OZHIMKA_MAX_CHART], book[OZHIMKA_MAX_BOOK];
+static uint8_t index_image[OZHIMKA_MAX_DERIVED_INDEX];
 static uint16_t order[OZHIMKA_MAX_RULES];
-static size_t image_length, book_length, ordered; // how many rules of the book count for stage 0
+static size_t image_length, book_length, index_length, ordered; // how many rules of the book count for stage 0
 static struct ozhimka_reading reading;
 static struct ozhimka_settled settled;
 static struct ozhimka_snapshot open; // stage 0 is open, and nothing else is yes
@@ -68,6 +69,8 @@ static void matching(void) { settled = ozhimka_matching(&reading.chart, reading.
 static void derive(void) { settled.answer = ozhimka_derive(&reading.chart, book, sizeof book); }
 static void check(void) { settled.answer = ozhimka_check(book, book_length, 0, order, OZHIMKA_MAX_RULES); }
 static void complete(void) { settled = ozhimka_complete(book, book_length, order, ordered, open, 0); }
+static void build_index(void) { settled.answer = ozhimka_build_index(book, book_length, index_image, sizeof index_image); }
+static void complete_indexed(void) { settled = ozhimka_complete_indexed(book, book_length, index_image, index_length, open, 0); }
 
 static ucontext_t here, there;
 
@@ -111,6 +114,9 @@ static void try_stack(void)
     expect_stack("ozhimka_check", check, 20);
     expect_stack("ozhimka_matching", matching, 2);
     expect_stack("ozhimka_complete", complete, 21);
+    index_length = ozhimka_index_length(book);
+    expect_stack("ozhimka_build_index", build_index, 24);
+    expect_stack("ozhimka_complete_indexed", complete_indexed, 24);
 }
 
 static bool is(struct ozhimka_answer answer, uint32_t code, size_t place)
@@ -133,6 +139,10 @@ static void try_null(void)
     struct ozhimka_settled same = ozhimka_complete(no_rules, sizeof no_rules, NULL, 0, open, 0);
     expect(is(same.answer, OZHIMKA_GRANTED, 0) && memcmp(&same.snapshot, &open, sizeof open) == 0, "no rules, no order");
     expect(ozhimka_book_length(no_rules) == sizeof no_rules, "the length of a book without rules");
+    expect(is(ozhimka_build_index(NULL, 0, NULL, 0), OZHIMKA_BOOK_SHORT, 0), "no book to index");
+    expect(is(ozhimka_build_index(book, book_length, NULL, 0), OZHIMKA_INDEX_ROOM, index_length), "no room for an index");
+    expect(is(ozhimka_complete_indexed(NULL, 0, NULL, 0, open, 0).answer, OZHIMKA_BOOK_SHORT, 0), "no book to complete a stage of by index");
+    expect(is(ozhimka_complete_indexed(book, book_length, NULL, 0, open, 0).answer, OZHIMKA_INDEX_UNFIT, 0), "no index");
 }
 
 // What the header says of the roles in ozhimka_chart and of the order of ozhimka_execute's refusals.
@@ -252,11 +262,44 @@ static void try_stages(void)
         expect(is(ozhimka_check(two, sizeof two, stage, NULL, 0), OZHIMKA_LOOP, 2), "a loop in one stage refuses the book for all");
 }
 
+// What the header says of the index: its length and fields, on three stages of which no rule counts for the second; which one is fit; the
+// order of refusals; and that a completion through it is one with the order from the check.
+static void try_index(void)
+{
+    uint8_t three[OZHIMKA_BOOK_HEADER + 2 * OZHIMKA_RULE_SIZE] = {0}, lent[40];
+    const uint8_t counts[8] = {3, 4, 2, 0, 0, 32, 52, 52}, rules[20] = {1, 0, 1, 0, 2, 0, 0, 0, 3, 0, 1, 0, 1, 0, 0, 0, 0, 0, 3, 0};
+    const uint8_t numbers[8] = {3, 2, 32, 1, 34, 0, 34, 1}, last[6] = {1, 0, 0, 0, PAINT, PAINT};
+    struct ozhimka_snapshot above = open;
+    uint16_t lone[1];
+    for (size_t i = 0; i < 8; i++)
+        three[4 * i] = counts[i];
+    memcpy(three + OZHIMKA_BOOK_HEADER, rules, sizeof rules);
+    memset(lent, PAINT, sizeof lent);
+    expect(ozhimka_index_length(three) == 36, "the length of an index");
+    expect(is(ozhimka_build_index(three, sizeof three, lent, 35), OZHIMKA_INDEX_ROOM, 36) && lent[0] == PAINT, "room one byte short");
+    expect(is(ozhimka_build_index(three, sizeof three, lent, sizeof lent), OZHIMKA_GRANTED, 0), "an index is built");
+    for (size_t i = 0; i < 8; i++)
+        expect(lent[4 * i] == numbers[i] && lent[4 * i + 1] == 0 && lent[4 * i + 2] == 0 && lent[4 * i + 3] == 0, "the index's numbers");
+    expect(memcmp(lent + 32, last, sizeof last) == 0, "the orders, and nothing behind them");
+    above.marks[4] = true;
+    expect(is(ozhimka_complete_indexed(three, sizeof three, lent, 37, above, 9).answer, OZHIMKA_INDEX_UNFIT, 0), "a byte more, before 28");
+    expect(is(ozhimka_complete_indexed(three, sizeof three, lent, 36, above, 9).answer, OZHIMKA_MARK_ABOVE, 0), "a mark above, before 29");
+    expect(is(ozhimka_complete_indexed(three, sizeof three, lent, 36, open, 3).answer, OZHIMKA_NO_SUCH_STAGE, 0), "no such stage");
+    expect(is(ozhimka_complete_indexed(three, sizeof three, lent, 36, open, 1).answer, OZHIMKA_STAGE_CLOSED, 0), "a closed stage");
+    expect(is(ozhimka_check(three, sizeof three, 0, lone, 1), OZHIMKA_GRANTED, 0), "the check's order");
+    struct ozhimka_settled along = ozhimka_complete(three, sizeof three, lone, 1, open, 0);
+    struct ozhimka_settled next = ozhimka_complete_indexed(three, sizeof three, lent, 36, open, 0);
+    expect(is(next.answer, OZHIMKA_GRANTED, 0) && memcmp(&next.snapshot, &along.snapshot, sizeof open) == 0, "the same snapshot");
+    lent[34] = 1; // the order of the last stage, which is not the one completed
+    expect(is(ozhimka_complete_indexed(three, sizeof three, lent, 36, open, 0).answer, OZHIMKA_INDEX_UNFIT, 0), "another stage's order");
+}
+
 static void try_reasons(void)
 {
     const char *unknown = ozhimka_reason(UINT32_MAX);
-    for (uint32_t code = 0; code <= OZHIMKA_NOT_PERMITTED + 1; code++) {
-        bool known = code <= OZHIMKA_BOOK_ROOM || (code >= OZHIMKA_BOOK_SHORT && code <= OZHIMKA_NOT_PERMITTED);
+    for (uint32_t code = 0; code <= OZHIMKA_INDEX_ROOM + 1; code++) {
+        bool known = code <= OZHIMKA_BOOK_ROOM || (code >= OZHIMKA_BOOK_SHORT && code <= OZHIMKA_NOT_PERMITTED) || code == OZHIMKA_INDEX_UNFIT
+                     || code == OZHIMKA_INDEX_ROOM;
         expect((strcmp(ozhimka_reason(code), unknown) != 0) == known, "words for each code and for no other number");
     }
 }
@@ -269,6 +312,7 @@ int main(void)
     try_roles();
     try_tables();
     try_stages();
+    try_index();
     try_reasons();
     return failures == 0 ? 0 : 1;
 }

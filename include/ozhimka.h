@@ -1,4 +1,5 @@
-// The controller's interface to Ozhimka: reading a chart, stepping it, deriving its rule book, checking a book, completing a stage.
+// The controller's interface to Ozhimka: reading a chart, stepping it, deriving its rule book, checking a book, indexing it, completing a
+// stage.
 //
 // For C99 and later and C++11 and later. Link libozhimka.a (x86-64, the System V calling convention); of the C library it uses memcpy,
 // memmove and memset at most. Every call ends, keeps no memory between calls, allocates nothing, and may be made from several threads at
@@ -11,13 +12,14 @@
 //
 // Stack, at most, with the copies that the caller's code makes there of structs that go in or come back by value (ozhimka_reading takes
 // 2,672 bytes), and without what the C library and the dynamic linker take: ozhimka_check 20 KiB, ozhimka_complete 21 KiB,
-// ozhimka_read_chart 17 KiB, ozhimka_matching 2 KiB, every other call 1 KiB.
+// ozhimka_build_index and ozhimka_complete_indexed 24 KiB, ozhimka_read_chart 17 KiB, ozhimka_matching 2 KiB, every other call 1 KiB.
 //
 // Every answer is a code, a place and an other. Code 0 is granted; any other refuses, and then
 //   - a marking or a snapshot that was handed in is handed back as it was;
 //   - no byte of lent room is written.
 // Place and other are 0 where the list below names nothing. Of several reasons the lowest code is given, in ozhimka_execute the first of
-// 14, 10, 32, 11, 12, 13, in ozhimka_complete the first of 20 to 26, 29, 27, 28, 30; within a code the lowest place, then the lowest other.
+// 14, 10, 32, 11, 12, 13, in ozhimka_complete the first of 20 to 26, 29, 27, 28, 30, in ozhimka_complete_indexed the first of 20 to 26, 34,
+// 28, 29, 30; within a code the lowest place, then the lowest other.
 //
 // Chart image. Numbers of 16 bits, little-endian, and nothing behind the last:
 //   header       count of nodes N (1 to 128), count of relations K (0 to 4,096), 8, 8 + 4 N
@@ -52,6 +54,13 @@
 // stand. A trigger holds: none, always; a stage completed, if it is the call's stage; become yes, if the mark was no when the call began
 // and is yes now; become no, if it was yes and is no now. A condition holds: none, always; as written, if its text gives yes; negated, if
 // it gives no. A rule that fires sets or clears its target at once. A completed stage does not close by itself: a rule has to clear it.
+//
+// Index image, little-endian, the running orders of a book's stages beside it:
+//   header, 32 bits each        stages S and rules R, both as in the book
+//   S stages, 8 bytes each      where the stage's order begins, in bytes from the image's start, and how many rules it has (32 bits each)
+//   S orders, 16 bits a rule    the stages' running orders, one behind the other without gaps
+// A stage for which no rule counts has the offset at which its order would begin. An index is fit for a book exactly if it is, byte for byte
+// and in length, what ozhimka_build_index writes for it: one byte more or less, an order of another stage or of another book is unfit.
 #ifndef OZHIMKA_H
 #define OZHIMKA_H
 
@@ -68,8 +77,8 @@
 
 // The header's version. A new major number changes what a program written for the one before relies on; a new minor number adds to it.
 #define OZHIMKA_VERSION_MAJOR 3
-#define OZHIMKA_VERSION_MINOR 0
-#define OZHIMKA_VERSION "3.0"
+#define OZHIMKA_VERSION_MINOR 1
+#define OZHIMKA_VERSION "3.1"
 
 #ifdef __cplusplus
 extern "C" {
@@ -128,6 +137,18 @@ enum {
                           + OZHIMKA_WORD_SIZE * OZHIMKA_MAX_WORDS // of a derived book, which has one condition an event
 };
 
+// The index image: sizes in bytes.
+enum {
+    OZHIMKA_INDEX_HEADER = 8,
+    OZHIMKA_INDEX_STAGE = 8,
+    OZHIMKA_INDEX_RULE = 2,
+    OZHIMKA_MAX_INDEX = OZHIMKA_INDEX_HEADER + OZHIMKA_INDEX_STAGE * OZHIMKA_MAX_STAGES
+                        + OZHIMKA_INDEX_RULE * OZHIMKA_MAX_STAGES * OZHIMKA_MAX_RULES,
+    OZHIMKA_MAX_DERIVED_INDEX = OZHIMKA_INDEX_HEADER + OZHIMKA_INDEX_STAGE * OZHIMKA_MAX_STAGES
+                                + OZHIMKA_INDEX_RULE * OZHIMKA_MAX_STAGES * (4 * OZHIMKA_MAX_EVENTS + 1) // of a derived book of n events,
+                                                              // of whose rules at most 4 n + 1 count for a stage
+};
+
 enum ozhimka_trigger {
     OZHIMKA_TRIGGER_NONE = 0,
     OZHIMKA_TRIGGER_COMPLETED = 1,               // a stage completed
@@ -184,7 +205,9 @@ enum ozhimka_code {
     OZHIMKA_NO_SUCH_STAGE = 29,    // the stage is not below S
     OZHIMKA_STAGE_CLOSED = 30,
     OZHIMKA_ORDER_ROOM = 31,       // room for the order too short; place: numbers needed, which is how many rules count for the stage
-    OZHIMKA_NOT_PERMITTED = 32     // the event names roles and this is none of them, or the role is above 7
+    OZHIMKA_NOT_PERMITTED = 32,    // the event names roles and this is none of them, or the role is above 7
+    OZHIMKA_INDEX_UNFIT = 34,      // the index is not the one of this book
+    OZHIMKA_INDEX_ROOM = 35        // room for the index too short; place: bytes needed
 };
 
 struct ozhimka_answer {
@@ -334,6 +357,20 @@ struct ozhimka_answer ozhimka_check(const uint8_t *book, size_t length, uint32_t
 struct ozhimka_settled ozhimka_complete(const uint8_t *book, size_t length, const uint16_t *order, size_t count,
                                         struct ozhimka_snapshot snapshot, uint32_t stage);
 
+// Checks a book of `length` bytes, for all of its stages, and writes its index to the start of the room, which has `bytes` bytes;
+// OZHIMKA_MAX_INDEX are enough for any book, OZHIMKA_MAX_DERIVED_INDEX for a derived one. ozhimka_index_length tells its length; what lies
+// behind it stays as it was. The index holds as long as the book stays the same: a controller makes it once, when it loads the book, and
+// keeps both. Refuses with the first that holds of 20 to 26, 35.
+struct ozhimka_answer ozhimka_build_index(const uint8_t *book, size_t length, uint8_t *room, size_t bytes);
+
+// The snapshot after a stage is completed along the order that the index has for it: for a stage that the book has, the same answer and
+// snapshot as ozhimka_complete gives with the order from ozhimka_check. `bytes` is the index's length, no more. Book and index are checked
+// anew in every call, the orders of all stages, whichever is completed.
+// Refuses with the first that holds of 20 to 26, 34 (unfit index), 28 (a mark above), 29 (no such stage), 30 (stage closed), and then hands
+// the snapshot back.
+struct ozhimka_settled ozhimka_complete_indexed(const uint8_t *book, size_t length, const uint8_t *index, size_t bytes,
+                                                struct ozhimka_snapshot snapshot, uint32_t stage);
+
 // The counts in a book's header, which is the first OZHIMKA_BOOK_HEADER bytes.
 static inline struct ozhimka_counts ozhimka_book_counts(const uint8_t *header)
 {
@@ -370,6 +407,20 @@ static inline size_t ozhimka_order_length(const uint8_t *book, uint32_t stage)
     return counted;
 }
 
+// The length in bytes of a book's index. The book's length has to be ozhimka_book_length's, and each rule that waits for a completion has to
+// name a stage that the book has, as in every book that ozhimka_check grants.
+static inline size_t ozhimka_index_length(const uint8_t *book)
+{
+    const uint8_t *rule = book + OZHIMKA_BOOK_HEADER;
+    struct ozhimka_counts counts = ozhimka_book_counts(book);
+    size_t waiting = 0;
+    for (size_t p = 0; p < counts.rules; p++, rule += OZHIMKA_RULE_SIZE)
+        if (rule[0] == OZHIMKA_TRIGGER_COMPLETED)
+            waiting++; // for one stage's completion; any other rule counts for every stage
+    return OZHIMKA_INDEX_HEADER + OZHIMKA_INDEX_STAGE * (size_t)counts.stages
+           + OZHIMKA_INDEX_RULE * (waiting + counts.stages * (counts.rules - waiting));
+}
+
 // A code in words, with what its place and other are.
 static inline const char *ozhimka_reason(uint32_t code)
 {
@@ -403,6 +454,8 @@ static inline const char *ozhimka_reason(uint32_t code)
     case OZHIMKA_STAGE_CLOSED: return "the stage is closed";
     case OZHIMKA_ORDER_ROOM: return "the room for the order is too short (place: numbers needed)";
     case OZHIMKA_NOT_PERMITTED: return "the event names other roles, or the role is none of 0 to 7";
+    case OZHIMKA_INDEX_UNFIT: return "the index is not this book's";
+    case OZHIMKA_INDEX_ROOM: return "the room for the index is too short (place: bytes needed)";
     default: return "no code of this library";
     }
 }

@@ -9,6 +9,8 @@ ghost use Rattle.deriver.specs.Deriving.{derivingAnswer, derivedRoom};
 ghost use Rattle.deriver.specs.Matching.{matchingOf};
 ghost use Rattle.judge.specs.Checking.{checking, checkedRoom};
 ghost use Rattle.runner.specs.Completing.{completing};
+ghost use Rattle.indexed.specs.Building.{building, builtRoom};
+ghost use Rattle.indexed.specs.Indexed.{completingIndexed};
 use book::Snapshot;
 use chart::Reading;
 use deriver::Matched;
@@ -170,4 +172,23 @@ pub extern "C" fn ozhimka_complete(
     ensures { λ r. ⌜ r ≡ completing (now (book .entry)) (now (order .entry)) snapshot stage ⌝ }
 {
     runner::complete(book, order, snapshot, stage)
+}
+
+#[no_mangle]
+pub extern "C" fn ozhimka_build_index(book: &[u8], room: &mut [u8]) -> Answer
+    ensures { λ r. ⌜ (r ≡ building (now (book .entry)) (length (now (room .entry)))) × (now (room .exit) ≡ builtRoom (now (book .entry)) (now (room .entry))) ⌝ }
+{
+    indexed::build(book, room)
+}
+
+#[no_mangle]
+pub extern "C" fn ozhimka_complete_indexed(
+    book: &[u8],
+    index: &[u8],
+    snapshot: Snapshot,
+    stage: u32,
+) -> Completion
+    ensures { λ r. ⌜ r ≡ completingIndexed (now (book .entry)) (now (index .entry)) snapshot stage ⌝ }
+{
+    indexed::complete(book, index, snapshot, stage)
 }
