@@ -9,8 +9,8 @@ from chances import (NO_ROLES, random_chart_image, random_flat, random_nodes, ra
 from ozhimka import (AND, BECOME_NO, BECOME_YES, CLEAR, COMPLETED, CONDITION, EXCLUDE, GRANTED, INCLUDE, MILESTONE, NONE, NOT,
                      OR, SET, Book, FlatChart, Marking, Rule, book_image, chart_image, on_completion, without_trigger)
 from protocol import (BAD, MAX_BODY, MAX_ROOM_BYTES, MAX_ROOM_NUMBERS, bytes16, bytes32, check_request, complete_request,
-                      count_request, derive_request, execute_request, finished_request, listing_request, matching_request,
-                      read_request)
+                      count_request, derive_request, execute_request, finished_request, index_request, indexed_request,
+                      listing_request, matching_request, read_request)
 
 FREE = (NONE, 4)
 HUGE = 0xFFFFFFFF
@@ -392,6 +392,9 @@ def sound_small():
                        Rule(BECOME_YES, 2, CLEAR, 0, 4, 1, 5)], [(0, 2), (2, 3)], [3, NOT, 3, 4, OR])
 
 
+INDEX_OF_SMALL = model.index_image(sound_small())
+
+
 def passing(book, stage=0):
     """The check of a book that has no fault, with room just enough for the stage's rules."""
     return GRANTED, check_request(len(model.counted(book, stage)), stage, book_image(book))
@@ -403,19 +406,22 @@ def stageless(book):
     return plain(29), check_request(len(book.rules), 0, book_image(book))
 
 
-def both_calls(rng, answer, image, rules):
-    """The check and a completion give codes 20 to 26 alike."""
+def book_calls(rng, answer, image, rules):
+    """The check, the completions and the building of an index give codes 20 to 26 alike."""
     yield answer, check_request(rng.choice((0, rules, rules + 3)), rng.choice((0, 1, 2, 64, HUGE)), image)
     snapshot = random_snapshot(rng, rng.choice((8, 256)))
     order = [rng.randrange(rules + 2) for _ in range(rng.choice((0, rules, rules + 1)))]
     yield answer, complete_request(rng.choice((0, 1, 64, HUGE)), snapshot, order, image)
+    yield answer, index_request(rng.choice((0, 8, 100, 1000)), image)
+    index = rng.choice((b'', INDEX_OF_SMALL, rng.randbytes(8)))
+    yield answer, indexed_request(rng.choice((0, 1, 64, HUGE)), snapshot, index, image)
 
 
 def of_text(rng, answer, words, marks):
     """One condition's text through both calls; a good one is also evaluated."""
     image = book_image(Book(1, marks + 1, [without_trigger(1, 0, SET, marks)], [(0, len(words))], words))
     if answer != GRANTED:
-        yield from both_calls(rng, answer, image, 1)
+        yield from book_calls(rng, answer, image, 1)
     else:
         yield answer, check_request(1, 0, image)
         yield answer, complete_request(0, [True] + random_snapshot(rng, marks)[1:], [0], image)
@@ -425,23 +431,23 @@ def book_header_causes(rng):
     """Codes 20, 21 and 22."""
     image = book_image(sound_small())
     for length in (0, 1, 4, 8, 16, 30, 31):
-        yield from both_calls(rng, plain(20), image[:length], 4)
+        yield from book_calls(rng, plain(20), image[:length], 4)
     for field, numbers in ((0, (65, 256 + 1, 65536, HUGE, 9)), (1, (2, 0, 257, 65536 + 8, HUGE)), (2, (8385, 65536, HUGE)),
                            (3, (257, 65536 + 2, HUGE)), (4, (41025, 65536, HUGE))):
         for number in numbers:
-            yield from both_calls(rng, plain(21), with_number32(image, 4 * field, number), 4)
-            yield from both_calls(rng, plain(21), with_number32(image[:32], 4 * field, number), 4)
+            yield from book_calls(rng, plain(21), with_number32(image, 4 * field, number), 4)
+            yield from book_calls(rng, plain(21), with_number32(image[:32], 4 * field, number), 4)
     for stages, marks in ((65, 65), (65, 256), (256, 256)):  # too many stages, and nothing else wrong
         changed = with_number32(with_number32(image, 0, stages), 4, marks)
-        yield from both_calls(rng, plain(21), changed, 4)
+        yield from book_calls(rng, plain(21), changed, 4)
     for field, right in ((5, 32), (6, 72), (7, 88)):
         for number in (0, right - 1, right + 1, right + 65536, HUGE, right + (1 << 31)):
-            yield from both_calls(rng, plain(22), with_number32(image, 4 * field, number), 4)
+            yield from book_calls(rng, plain(22), with_number32(image, 4 * field, number), 4)
     for field, numbers in ((2, (0, 3, 5, 8384)), (3, (0, 1, 3, 256)), (4, (0, 4, 6, 41024))):
         for number in numbers:
-            yield from both_calls(rng, plain(22), with_number32(image, 4 * field, number), 4)
+            yield from book_calls(rng, plain(22), with_number32(image, 4 * field, number), 4)
     for wrong in (image[:-1], image[:-2], image[:32], image + b'\0', image + b'\0\0'):
-        yield from both_calls(rng, plain(22), wrong, 4)
+        yield from book_calls(rng, plain(22), wrong, 4)
 
 
 def rule_causes(rng):
@@ -459,18 +465,18 @@ def rule_causes(rng):
         place = rng.randrange(5)
         rules = small.rules[:place] + [bad] + rng.choice(([], small.rules[place:], small.rules[place:] + [rng.choice(wrong)]))
         conditions = rng.choice((small.conditions, [(0, 0), (9, 9)]))
-        yield from both_calls(rng, plain(23, place), book_image(small._replace(rules=rules, conditions=conditions)), len(rules))
+        yield from book_calls(rng, plain(23, place), book_image(small._replace(rules=rules, conditions=conditions)), len(rules))
     # what just exists
     for edge in (good._replace(number=2), good._replace(target=7), Rule(2, 0, 1, 0, 7, 0, 6), Rule(3, 0, 1, 0, 7, 0, 6),
                  Rule(0, 1, 1, 0, 0, 1, 7)):
         yield passing(small._replace(rules=[edge]))
     none = Book(0, 0, [], [], [])
     for rule in (Rule(0, 0, 1, 0, 0, 0, 0), Rule(1, 0, 1, 0, 0, 0, 0), Rule(2, 0, 1, 0, 0, 0, 0), Rule(0, 1, 1, 0, 0, 0, 0)):
-        yield from both_calls(rng, plain(23, 0), book_image(none._replace(rules=[rule])), 1)
+        yield from book_calls(rng, plain(23, 0), book_image(none._replace(rules=[rule])), 1)
         with_text = none._replace(rules=[rule], conditions=[(0, 1)], words=[0])
-        yield from both_calls(rng, plain(23, 0), book_image(with_text), 1)
+        yield from book_calls(rng, plain(23, 0), book_image(with_text), 1)
     for rule in (on_completion(0, SET, 0), without_trigger(1, 0, SET, 0)):
-        yield from both_calls(rng, plain(23, 0), book_image(Book(0, 1, [rule], [], [])), 1)
+        yield from book_calls(rng, plain(23, 0), book_image(Book(0, 1, [rule], [], [])), 1)
 
 
 def condition_causes(rng):
@@ -480,7 +486,7 @@ def condition_causes(rng):
 
     def case(answer, conditions, words):
         rules = rng.choice(([], [without_trigger(1, 0, SET, 6)]))
-        return both_calls(rng, answer, book_image(Book(3, marks, rules, conditions, words)), len(rules))
+        return book_calls(rng, answer, book_image(Book(3, marks, rules, conditions, words)), len(rules))
 
     width = len(long)
     for span in ((0, 0), (width, 0), (HUGE, 0), (0, width + 1), (1, width), (width, 1), (width + 1, 1), (HUGE, 1), (HUGE, 2),
@@ -506,17 +512,17 @@ def condition_causes(rng):
     # words that lie in no condition
     yield passing(Book(1, 1, [], [(1, 1)], [AND, 0, 60000, 65532]))
     yield stageless(Book(0, 0, [], [], [AND, 0, 60000, 65532]))
-    yield from both_calls(rng, plain(24, 0), book_image(Book(0, 0, [], [(0, 1)], [0])), 0)
+    yield from book_calls(rng, plain(24, 0), book_image(Book(0, 0, [], [(0, 1)], [0])), 0)
     # overlapping, nested, equal
     yield passing(Book(1, 5, [], [(0, 5), (0, 1), (1, 1), (1, 2), (0, 4), (0, 5)], [3, 4, NOT, OR, NOT]))
     parts = Book(0, 5, [], [(0, 4), (0, 1), (1, 2), (2, 2)], [3, 4, NOT, OR])
-    yield from both_calls(rng, plain(24, 3), book_image(parts), 0)
+    yield from book_calls(rng, plain(24, 3), book_image(parts), 0)
 
 
 def loop_causes(rng):
     """Code 25: through conditions and become triggers, of any length, with the lowest mark named."""
     def case(answer, stages, marks, rules, conditions=(), words=()):
-        return both_calls(rng, answer, book_image(Book(stages, marks, rules, list(conditions), list(words))), len(rules))
+        return book_calls(rng, answer, book_image(Book(stages, marks, rules, list(conditions), list(words))), len(rules))
 
     yield from case(plain(25, 0), 1, 1, [without_trigger(2, 0, SET, 0)], [(0, 1)], [0])  # P9
     for trigger in (BECOME_YES, BECOME_NO):
@@ -667,7 +673,7 @@ def whole_book_causes(rng):
 def clash_causes(rng):
     """Code 26: all pairs of triggers and senses, and the lowest pair."""
     def case(answer, rules, conditions=((0, 1), (1, 1), (0, 1)), words=(5, 6)):
-        return both_calls(rng, answer, book_image(Book(4, 8, list(rules), list(conditions), list(words))), len(rules))
+        return book_calls(rng, answer, book_image(Book(4, 8, list(rules), list(conditions), list(words))), len(rules))
 
     triggers = ((0, 0), (1, 0), (1, 1), (2, 5), (2, 6), (3, 5), (3, 6))
     senses = ((0, 0), (1, 0), (2, 0), (1, 1), (2, 1), (1, 2), (2, 2))
@@ -688,7 +694,7 @@ def clash_causes(rng):
                 yield from case(plain(26, 0, 1), pair)
     yield passing(Book(2, 2, [on_completion(0, SET, 1), on_completion(1, CLEAR, 1)], [], []))  # P10
     both = Book(2, 2, [on_completion(0, SET, 1), on_completion(0, CLEAR, 1)], [], [])
-    yield from both_calls(rng, plain(26, 0, 1), book_image(both), 2)
+    yield from book_calls(rng, plain(26, 0, 1), book_image(both), 2)
     # the same effect never clashes, nor do different targets
     yield passing(Book(1, 3, [on_completion(0, SET, 1)] * 2 + [on_completion(0, CLEAR, 2)], [], []))
     # the lowest first rule, then the lowest second
@@ -787,7 +793,7 @@ def pair_causes(rng):
     image = book_image(sound_small()._replace(rules=[on_completion(3, SET, 3)]))  # 22 before 23
     for wrong in (with_number32(image, 20, 33), with_number32(image, 24, 43), with_number32(image, 28, 59), image[:-1],
                   image + b'\0'):
-        yield from both_calls(rng, plain(22), wrong, 1)
+        yield from book_calls(rng, plain(22), wrong, 1)
     loop, clash = [Rule(BECOME_YES, 0, SET, 0, 2, 0, 2)], [on_completion(0, SET, 1), on_completion(0, CLEAR, 1)]
     own_clash = [Rule(BECOME_NO, 0, effect, 0, 2, 0, 2) for effect in (CLEAR, SET)]
     bad_rule, two_left = [on_completion(1, SET, 1)], [(0, 2)]
@@ -796,7 +802,7 @@ def pair_causes(rng):
             (plain(23, 0), bad_rule + clash + loop, []),
             (plain(24, 0), loop, two_left), (plain(24, 0), clash, two_left), (plain(24, 0), loop + clash, two_left),
             (plain(25, 2), loop + clash, []), (plain(25, 2), clash + loop, []), (plain(25, 2), own_clash, [])):
-        yield from both_calls(rng, answer, book_image(Book(1, 3, rules, conditions, [0, 0])), len(rules))
+        yield from book_calls(rng, answer, book_image(Book(1, 3, rules, conditions, [0, 0])), len(rules))
         for stage in (0, 1):  # before 29 and 31
             yield answer, check_request(0, stage, book_image(Book(1, 3, rules, conditions, [0, 0])))
 
@@ -811,6 +817,124 @@ def pair_causes(rng):
         for snapshot in (opened, closed, past, past_and_closed):
             for listed in (order, wrong_order, [2, 3], [0, 1, 2, 3]):
                 yield plain(29), complete_request(stage, snapshot, listed, image)
+
+
+# ---- the index
+
+def indexed_books(rng):
+    """Sound books whose indexes differ in kind: stages for which no rule counts, also the first and the last, all rules counting for each,
+    no rule, no stage, a derived book."""
+    chart = random_flat(rng, 7, 0.3)
+    return (sound_small(), Book(4, 8, [on_completion(1, SET, 3), on_completion(1, SET, 5), on_completion(2, CLEAR, 3)], [], []),
+            Book(3, 4, [without_trigger(0, 0, SET, 3), Rule(BECOME_NO, 0, SET, 0, 3, 0, 2)], [], []), Book(64, 256, [], [], []),
+            Book(1, 1, [], [], []), Book(0, 0, [], [], []), Book(0, 3, [Rule(BECOME_YES, 0, SET, 0, 1, 0, 2)], [], []),
+            model.derived_book(chart), sound_book(rng, 5, 12, 30), model.derived_book(model.read_chart(model.PAPER_CHART)[1]))
+
+
+def index_room_causes(rng):
+    """Code 35: room in bytes around what is needed; a refusal writes nothing, and what lies behind the index stays."""
+    for book in indexed_books(rng):
+        image, needed = book_image(book), len(model.index_image(book))
+        for room in sorted({0, 1, 7, 8, needed // 2, needed - 8, needed - 2, needed - 1} & set(range(needed))):
+            yield plain(35, needed), index_request(room, image)
+        for room in (needed, needed + 1, needed + 2, 2 * needed, needed + 1000):
+            yield GRANTED, index_request(room, image)
+    for image, answer in ((book_image(sound_small())[:31], plain(20)), (book_image(sound_small()) + b'\0', plain(22)),
+                          (book_image(Book(2, 2, [on_completion(0, SET, 1), on_completion(0, CLEAR, 1)], [], [])), plain(26, 0, 1))):
+        for room in (0, 1000):  # before 35
+            yield answer, index_request(room, image)
+
+
+def any_stage(rng, book):
+    """A stage and a snapshot in which it is open, of a book that has stages."""
+    stage = rng.randrange(book.stages)
+    return stage, [mark == stage or mark < book.marks and rng.random() < 0.5 for mark in range(256)]
+
+
+def unfit_indexes(rng, book):
+    """What is not the book's index: one number changed, one byte more or less, offsets by other counts, orders of other stages."""
+    index, stages = model.index_image(book), book.stages
+    yield from (index[:-1], index + b'\0', index + bytes(2), index[:-2], index * 2, b'', index[:8 + 8 * stages - 1], index[1:])
+    for at in range(0, 8 + 8 * stages, 4):
+        number = model.number32(index, at)
+        for wrong in rng.sample((number + 1, number + 2, number ^ 1, number + 65536, number + (1 << 24), number ^ (1 << 31), HUGE), 3):
+            yield with_number32(index, at, wrong)
+        if number:
+            yield with_number32(index, at, rng.choice((number - 1, 0)))
+    entries = [8 + 8 * stage for stage in range(stages)]
+    for base in (8, 8 + 8 * stages):  # offsets from behind S and R, or from where the orders begin
+        moved = index
+        for at in entries:
+            moved = with_number32(moved, at, model.number32(moved, at) - base)
+        if stages:
+            yield moved
+    for at in entries:
+        if model.number32(index, at + 4) == 0:  # a stage for which no rule counts, without the offset at which its order would begin
+            yield with_number32(index, at, 0)
+    for at in range(8 + 8 * stages, len(index), 2):
+        yield with_number16(index, at, model.number16(index, at) ^ rng.choice((1, 2, 256, 32768)))
+    for at in range(8 + 8 * stages, len(index) - 2, 2):
+        one, two = model.number16(index, at), model.number16(index, at + 2)
+        if one != two:
+            yield with_number16(with_number16(index, at, two), at + 2, one)
+
+
+def unfit_index_causes(rng):
+    """Code 34, whichever stage is completed: an order of another stage counts too."""
+    for book in indexed_books(rng):
+        image = book_image(book)
+        wrongs = list(unfit_indexes(rng, book))
+        for index in wrongs if len(wrongs) < 120 else rng.sample(wrongs, 120):
+            stage, snapshot = any_stage(rng, book) if book.stages else (0, [False] * 256)
+            yield plain(34), indexed_request(stage, snapshot, index, image)
+    # each stage completed beside each stage's order out of running order: rules 0 and 1 may come in any order
+    free = Book(3, 5, [without_trigger(0, 0, SET, 3), without_trigger(0, 0, SET, 4)], [], [])
+    for stage in range(3):
+        for other in range(3):
+            at = 32 + 4 * other
+            turned_round = with_number16(with_number16(model.index_image(free), at, 1), at + 2, 0)
+            yield plain(34), indexed_request(stage, [mark < 5 for mark in range(256)], turned_round, book_image(free))
+    # an index of another book: of other stages, of rules in another order, of one rule less
+    small = sound_small()
+    for other in (small._replace(stages=2), small._replace(rules=small.rules[::-1]), small._replace(rules=small.rules[:-1]),
+                  small._replace(rules=[small.rules[0]._replace(number=2)] + small.rules[1:]), Book(3, 8, [], [], [])):
+        for one, two in ((small, other), (other, small)):
+            stage, snapshot = any_stage(rng, one)
+            yield plain(34), indexed_request(stage, snapshot, model.index_image(two), book_image(one))
+    # another book with the same index
+    turned_effect = small._replace(rules=[small.rules[0]._replace(effect=CLEAR)] + small.rules[1:])
+    yield GRANTED, indexed_request(0, [mark < 8 for mark in range(256)], model.index_image(small), book_image(turned_effect))
+
+
+def indexed_causes(rng):
+    """Codes 34, 28, 29 and 30 in their order; where nothing is refused, each stage of each book."""
+    small = sound_small()
+    image, index = book_image(small), model.index_image(small)
+    opened, closed = [mark < 8 for mark in range(256)], [False] * 256
+    for mark in (8, 9, 63, 64, 128, 254, 255):
+        for stage in (0, 2, 3, HUGE):  # before 29 and 30
+            for snapshot in (opened, closed):
+                past = list(snapshot)
+                past[mark] = True
+                yield plain(28), indexed_request(stage, past, index, image)
+                yield plain(34), indexed_request(stage, past, rng.choice((index[:-1], b'', index + b'\0')), image)
+    for stage in (3, 4, 63, 64, 255, 256, 65536, 65536 + 1, 70000, 1 << 31, HUGE):
+        for snapshot in (opened, closed):
+            yield plain(29), indexed_request(stage, snapshot, index, image)
+            yield plain(34), indexed_request(stage, snapshot, index[:-2], image)
+    for stage in range(3):
+        yield plain(30), indexed_request(stage, [mark != stage and mark < 8 for mark in range(256)], index, image)
+        yield plain(34), indexed_request(stage, closed, index[:8], image)
+    for book in indexed_books(rng):
+        image, index = book_image(book), model.index_image(book)
+        full = [mark < book.marks for mark in range(256)]
+        yield plain(29), indexed_request(book.stages, full, index, image)
+        for stage in range(book.stages):
+            assert model.complete_indexed(image, index, full, stage) == model.complete(image, model.running_order(book, stage), full, stage)
+            yield GRANTED, indexed_request(stage, full, index, image)
+            yield GRANTED, indexed_request(stage, [mark == stage for mark in range(256)], index, image)
+        if book.marks < 256:
+            yield plain(28), indexed_request(rng.choice((0, book.stages)), [True] * 256, index, image)
 
 
 def running_order_causes(rng):
@@ -865,7 +989,7 @@ def firing_causes(rng):
 def bad_requests(rng):
     """Unknown operations and bodies too short for their fields; the program goes on."""
     chart, start = model.empty_chart(1), model.empty_marking()
-    for operation in (b'\x00', b'\x09', b'\xff'):
+    for operation in (b'\x00', b'\x0b', b'\x11', b'\x13', b'\xff'):
         yield BAD, operation
         yield BAD, operation + rng.randbytes(20)
     whole = (execute_request(chart, start, 0, 0), count_request(chart, start), finished_request(chart, start),
@@ -881,9 +1005,16 @@ def bad_requests(rng):
     yield BAD, check_request(0, 0, b'')[:5]  # without the stage
     yield BAD, b'\x07'
     yield BAD, b'\x08'
-    body = complete_request(0, [False] * 256, [1, 2, 3], b'')
-    yield BAD, body[:-1]
-    yield BAD, body[:40]
+    for body in (complete_request(0, [False] * 256, [1, 2, 3], b''), indexed_request(0, [False] * 256, bytes(8), b'')):
+        yield BAD, body[:-1]
+        yield BAD, body[:41]
+        yield BAD, body[:40]
+        yield BAD, body[:1]
+    yield BAD, b'\x09'
+    yield BAD, index_request(0, b'')[:-1]
+    yield plain(20), index_request(0, b'')
+    yield plain(20), indexed_request(0, [False] * 256, b'', b'')
+    yield plain(20), indexed_request(0, [False] * 256, bytes(8), b'')
 
 
 def request_limits(rng):
@@ -894,6 +1025,15 @@ def request_limits(rng):
     for past in (1, 65536, HUGE - MAX_ROOM_BYTES):
         yield BAD, derive_request(MAX_ROOM_BYTES + past, chart)
         yield BAD, check_request(MAX_ROOM_NUMBERS + past, 0, image)
+        yield BAD, index_request(MAX_ROOM_BYTES + past, image)
+    yield GRANTED, index_request(MAX_ROOM_BYTES, image)
+    whole = indexed_request(0, [True] + [False] * 255, INDEX_OF_SMALL, image)
+    yield GRANTED, whole
+    for length in (len(INDEX_OF_SMALL) + len(image) + 1, 1 << 31, HUGE):
+        yield BAD, with_number32(whole, 37, length)
+    yield plain(20), with_number32(whole, 37, len(INDEX_OF_SMALL) + len(image))  # the book taken for a part of the index
+    filling = MAX_BODY - len(indexed_request(0, [False] * 256, b'', image))
+    yield plain(34), indexed_request(0, [True] + [False] * 255, INDEX_OF_SMALL + bytes(filling - len(INDEX_OF_SMALL)), image)
     order = [0] * MAX_ROOM_NUMBERS
     whole = complete_request(0, [True] + [False] * 255, order, image)
     yield plain(27), whole
@@ -957,6 +1097,25 @@ def largest_derived_book(rng):
     yield GRANTED, complete_request(stage, snapshot, model.running_order(book, stage), image)
     yield plain(27), complete_request(0, snapshot, model.running_order(book, 0)[::-1], image)
     yield plain(27), complete_request(0, snapshot, list(range(len(book.rules))), image)
+
+
+def largest_indexes(rng):
+    """The index of a derived book of 64 events is 33,416 bytes at most; the largest of all is 1,073,672, and no room of a request holds it."""
+    chart = random_flat(rng, 64, 1.0)
+    book = model.derived_book(chart)
+    image, index, everyone = book_image(book), model.index_image(book), set(range(64))
+    yield plain(35, 33416), index_request(33415, image)
+    yield GRANTED, index_request(33416, image)
+    snapshot = model.matching(chart, Marking(everyone, set(), everyone))[1]
+    for stage in (0, 63):
+        yield GRANTED, indexed_request(stage, snapshot, index, image)
+        yield plain(34), indexed_request(stage, snapshot, with_number16(index, len(index) - 2, 0), image)
+    everywhere = Book(64, 256, [without_trigger(0, 0, SET, p % 256) for p in range(8384)], [], [])
+    yield plain(35, 1073672), index_request(MAX_ROOM_BYTES, book_image(everywhere))
+    spread = Book(64, 256, [on_completion(p % 64, SET, p % 256) for p in range(8384)], [], [])
+    image, index = book_image(spread), model.index_image(spread)
+    yield GRANTED, index_request(len(index), image)
+    yield GRANTED, indexed_request(63, [mark < 64 for mark in range(256)], index, image)
 
 
 def largest_hand_made(rng):
@@ -1070,6 +1229,6 @@ def listing_causes(rng):
 
 CAUSES = (header_causes, node_causes, group_causes, conflict_causes, accepted_charts, charts_with_roles, unfit_causes, step_causes,
           role_causes, marking_causes, derive_causes, book_header_causes, rule_causes, condition_causes, loop_causes, stage_loop_causes,
-          looping_stage_causes, whole_book_causes, clash_causes, order_causes, order_room_causes, pair_causes, running_order_causes,
-          firing_causes, bad_requests, request_limits, listing_causes)
-LARGEST = (largest_charts, largest_derivings, largest_derived_book, largest_hand_made, completions_with_conditions, wide_conditions)
+          looping_stage_causes, whole_book_causes, clash_causes, order_causes, order_room_causes, pair_causes, index_room_causes,
+          unfit_index_causes, indexed_causes, running_order_causes, firing_causes, bad_requests, request_limits, listing_causes)
+LARGEST = (largest_charts, largest_derivings, largest_derived_book, largest_indexes, largest_hand_made, completions_with_conditions, wide_conditions)

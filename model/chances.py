@@ -3,7 +3,7 @@
 import ozhimka as model
 from ozhimka import AND, NONE, NOT, OR, Book, Marking, Rule
 from protocol import (FLAT_BYTES, check_request, complete_request, count_request, derive_request, execute_request,
-                      finished_request, listing_request, matching_request, read_request)
+                      finished_request, index_request, indexed_request, listing_request, matching_request, read_request)
 
 
 def some(rng, population, chance):
@@ -355,6 +355,26 @@ def disturbed(rng, order, count):
     return order
 
 
+def disturbed_index(rng, book, index):
+    """An index changed in one way; now and then it is still the book's."""
+    way = rng.choice(('bytes', 'bytes', 'entry', 'entry', 'rule', 'rule', 'another book', 'another order'))
+    orders_at = 8 + 8 * book.stages
+    if way == 'another book':
+        rules = rng.sample(book.rules, len(book.rules))
+        return model.index_image(book._replace(rules=rules if rng.random() < 0.5 else rules[1:]))
+    if way == 'another order' and book.stages:
+        stage = rng.randrange(book.stages)
+        at, order = model.number32(index, 8 + 8 * stage), random_order(rng, book, stage)
+        return index[:at] + b''.join(model.bytes16(p) for p in order) + index[at + 2 * len(order):]
+    if way == 'entry':
+        at = rng.randrange(0, orders_at, 4)
+        return index[:at] + model.bytes32((model.number32(index, at) + rng.choice((-2, -1, 1, 2, 4))) % (1 << 32)) + index[at + 4:]
+    if way == 'rule' and len(index) > orders_at:
+        at = rng.randrange(orders_at, len(index), 2)
+        return index[:at] + model.bytes16(rng.randrange(len(book.rules) + 1)) + index[at + 2:]
+    return with_bytes_changed(rng, index)
+
+
 def random_snapshot(rng, marks):
     chance = rng.choice((0.2, 0.5, 0.8))
     return [mark < marks and rng.random() < chance for mark in range(256)]
@@ -454,6 +474,27 @@ def sound_runs(rng):
         snapshot = model.complete(image, orders[stage], snapshot, stage)[1]
 
 
+def indexes(rng):
+    """A book, sound or not, with room around what its index needs; completions through the index, through one that is disturbed, and
+    through that of another book with the same rules, or one less."""
+    book = rng.choice((sound_book, crossed_book, wild_book))(rng)
+    image, stages = model.book_image(book), range(book.stages)
+    needed = 8 + 8 * book.stages + 2 * sum(len(model.counted(book, stage)) for stage in stages)
+    yield index_request(max(0, needed + rng.choice((0, 0, 0, 1, 7, -1, -2, -needed))), image)
+    passes = model.build_index(image, bytes(needed))[0] == model.GRANTED
+    index = model.index_image(book) if passes else rng.randbytes(needed)
+    for _ in range(3):
+        snapshot = random_snapshot(rng, rng.choice((book.marks,) * 6 + (256,)))
+        opened = [s for s in stages if snapshot[s]]
+        stage = rng.choice(opened) if opened and rng.random() < 0.8 else a_stage(rng, book.stages)
+        yield indexed_request(stage, snapshot, index, image)
+        if passes:
+            yield indexed_request(stage, snapshot, disturbed_index(rng, book, index), image)
+            if stage < book.stages and not any(snapshot[book.marks:]):
+                along = model.complete(image, model.running_order(book, stage), snapshot, stage)
+                assert model.complete_indexed(image, index, snapshot, stage) == along
+
+
 def accepted_image(rng):
     """A random chart that the reader accepts."""
     while True:
@@ -501,6 +542,8 @@ def run_of_both(rng, chart, marking, steps_to_go):
         completed, snapshot = model.complete(book, orders[event], snapshot, event)
         assert (stepped[0] in (11, 12, 13) and completed[0] == 30) or stepped == completed == model.GRANTED
         assert snapshot == model.matching(chart, marking)[1]
+        if rng.random() < 0.4:
+            yield indexed_request(event, model.matching(chart, before)[1], model.index_of(book), book)
         if rng.random() < 0.2:
             yield rng.choice((count_request, finished_request, matching_request))(chart, marking)
 
@@ -544,10 +587,10 @@ def damaged_books(rng):
     book = rng.choice((wild_book, sound_book))(rng)
     image = with_bytes_changed(rng, model.book_image(book))
     stage = rng.randrange(book.stages + 1)
-    if rng.random() < 0.5:
-        yield check_request(len(book.rules), stage, image)
-    else:
-        yield complete_request(stage, random_snapshot(rng, book.marks), model.counted(book, stage), image)
+    snapshot = random_snapshot(rng, book.marks)
+    yield rng.choice((lambda: check_request(len(book.rules), stage, image), lambda: index_request(rng.choice((0, 1000)), image),
+                      lambda: complete_request(stage, snapshot, model.counted(book, stage), image),
+                      lambda: indexed_request(stage, snapshot, rng.randbytes(8 + 8 * book.stages), image)))()
 
 
 def damaged_flats(rng):
@@ -563,6 +606,6 @@ def damaged_flats(rng):
     yield bytes(body) if body[0] == 2 else bytes(body[:-8])
 
 
-SMALL = (charts, wild_checks, wild_completions, circles, crowded_books, sound_books, sound_runs, damaged_charts, badly_flagged,
-         damaged_books, listings)
+SMALL = (charts, wild_checks, wild_completions, circles, crowded_books, sound_books, sound_runs, indexes, damaged_charts,
+         badly_flagged, damaged_books, listings)
 WIDE = (steps, derivings, side_by_side, damaged_flats)  # their requests carry a flat chart of 2,628 bytes

@@ -40,6 +40,14 @@ def number32(image, at):
     return number16(image, at) + 65536 * number16(image, at + 2)
 
 
+def bytes16(number):
+    return number.to_bytes(2, 'little')
+
+
+def bytes32(number):
+    return number.to_bytes(4, 'little')
+
+
 # ---- Chart image
 
 NONE = 65535
@@ -298,12 +306,6 @@ def read_book(image):
 
 
 def book_image(book):
-    def bytes16(number):
-        return number.to_bytes(2, 'little')
-
-    def bytes32(number):
-        return number.to_bytes(4, 'little')
-
     rules_at = 32
     conditions_at = rules_at + 10 * len(book.rules)
     words_at = conditions_at + 8 * len(book.conditions)
@@ -582,6 +584,49 @@ def complete(image, order, snapshot, stage):
     return GRANTED, gone_through(book, order, snapshot, stage)
 
 
+# ---- An index of orders beside the book
+
+def index_image(book):
+    """S and R, for each stage the byte offset from the image's start and the count of its order, then the running orders."""
+    orders = [running_order(book, stage) for stage in range(book.stages)]
+    image, at = bytes32(book.stages) + bytes32(len(book.rules)), 8 + 8 * book.stages
+    for order in orders:
+        image += bytes32(at) + bytes32(len(order))
+        at += 2 * len(order)
+    return image + b''.join(bytes16(p) for order in orders for p in order)
+
+
+@functools.lru_cache(maxsize=4)
+def index_of(image):
+    """Of a book without 20 to 26; remembered as the book is."""
+    return index_image(judged_book(image))
+
+
+def build_index(image, room):
+    """The answer and the room, in bytes, after the call."""
+    try:
+        judged_book(image)
+        index = index_of(image)
+        if len(room) < len(index):
+            raise Refused(35, len(index))
+    except Refused as refused:
+        return refused.answer, room
+    return GRANTED, index + room[len(index):]
+
+
+def complete_indexed(image, index, snapshot, stage):
+    """The answer and the snapshot after the call. An index is fit exactly if it is what the builder writes for this book."""
+    try:
+        book = judged_book(image)
+        refuse_if(34, index != index_of(image))
+        refuse_if(28, any(snapshot[book.marks:]))
+        refuse_if(29, stage >= book.stages)
+        refuse_if(30, not snapshot[stage])
+    except Refused as refused:
+        return refused.answer, snapshot
+    return GRANTED, gone_through(book, running_order(book, stage), snapshot, stage)
+
+
 # ---- The program "book listing"
 
 def listing(image):
@@ -722,6 +767,26 @@ def stage_examples():
     assert check_book(book_image(none), 0, [])[0] == (29, 0, 0)
 
 
+def index_examples():
+    """The paper's chart: seven rules of ten count for each stage. Then a stage for which no rule counts, and no stage at all."""
+    answer, chart, start = read_chart(PAPER_CHART)
+    image, snapshot = book_image(derived_book(chart)), matching(chart, start)[1]
+    numbers = (2, 10, 24, 7, 38, 7)
+    index = b''.join(bytes32(number) for number in numbers) + b''.join(bytes16(p) for p in (0, 1, 2, 6, 7, 8, 9, 3, 4, 5, 6, 7, 8, 9))
+    assert build_index(image, bytes(60)) == (GRANTED, index + bytes(8)) and build_index(image, bytes(51)) == ((35, 52, 0), bytes(51))
+    for stage, order in ((0, [0, 1, 2, 6, 7, 8, 9]), (1, [3, 4, 5, 6, 7, 8, 9])):
+        assert complete_indexed(image, index, snapshot, stage) == complete(image, order, snapshot, stage)
+    for wrong in (index[:-1], index + b'\0', index[:-1] + b'\x01', b'\x03' + index[1:], b''):
+        assert complete_indexed(image, wrong, snapshot, 0) == ((34, 0, 0), snapshot)
+    everything = [True] * 256
+    assert complete_indexed(image, index[1:], everything, 9)[0] == (34, 0, 0)
+    assert complete_indexed(image, index, everything, 9)[0] == (28, 0, 0) and complete_indexed(image, index, snapshot, 9)[0] == (29, 0, 0)
+    assert complete_indexed(image, index, [False] * 256, 1)[0] == (30, 0, 0)
+    gap = Book(3, 3, [on_completion(0, SET, 1), on_completion(2, SET, 1)], [], [])
+    assert index_image(gap) == b''.join(bytes32(number) for number in (3, 2, 32, 1, 34, 0, 34, 1)) + bytes16(0) + bytes16(1)
+    assert index_image(Book(0, 1, [without_trigger(NO_CONDITION, 0, SET, 0)], [], [])) == bytes32(0) + bytes32(1)
+
+
 def orders_agree():
     """Small random books without a loop, also over all rules, get one running order from both functions that make it."""
     rng = random.Random(1)
@@ -751,5 +816,6 @@ if __name__ == '__main__':
         settled_examples()
         role_examples()
         stage_examples()
+        index_examples()
         orders_agree()
         print('the settled examples hold')

@@ -3,6 +3,7 @@
 import zlib
 
 import ozhimka as model
+from ozhimka import bytes16, bytes32
 
 FILL = 165  # the byte that room is filled with before a call
 FLAT_BYTES = 4 + 5 * 64 * 8 + 64
@@ -15,14 +16,6 @@ LISTING = 18  # the operation that lists a chart's book
 
 
 # ---- writing requests
-
-def bytes16(number):
-    return number.to_bytes(2, 'little')
-
-
-def bytes32(number):
-    return number.to_bytes(4, 'little')
-
 
 def set_bytes(members):
     return sum(1 << e for e in members).to_bytes(8, 'little')
@@ -72,6 +65,14 @@ def check_request(room, stage, image):
 def complete_request(stage, snapshot, order, image):
     return (b'\x08' + bytes32(stage) + snapshot_bytes(snapshot) + bytes32(len(order))
             + b''.join(bytes16(p) for p in order) + image)
+
+
+def index_request(room, image):
+    return b'\x09' + bytes32(room) + image
+
+
+def indexed_request(stage, snapshot, index, image):
+    return b'\x0a' + bytes32(stage) + snapshot_bytes(snapshot) + bytes32(len(index)) + index + image
 
 
 def listing_request(image):
@@ -133,6 +134,10 @@ def line_for(body):
         return check_line(body) if len(body) >= 9 else BAD
     if operation == 8:
         return complete_line(body) if len(body) >= 41 else BAD
+    if operation == 9:
+        return index_line(body) if len(body) >= 5 else BAD
+    if operation == 10:
+        return indexed_line(body) if len(body) >= 41 else BAD
     if operation == LISTING:
         return listing_line(body)
     return BAD
@@ -179,14 +184,34 @@ def check_line(body):
     return line('check', answer, [zlib.adler32(b''.join(bytes16(p) for p in room))])
 
 
+def snapshot_at(body, at):
+    number = int.from_bytes(body[at:at + 32], 'little')
+    return [number >> mark & 1 == 1 for mark in range(256)]
+
+
 def complete_line(body):
-    stage, number, count = model.number32(body, 1), int.from_bytes(body[5:37], 'little'), model.number32(body, 37)
+    stage, snapshot, count = model.number32(body, 1), snapshot_at(body, 5), model.number32(body, 37)
     if count > MAX_ROOM_NUMBERS or len(body) < 41 + 2 * count:
         return BAD
-    snapshot = [number >> mark & 1 == 1 for mark in range(256)]
     order = [model.number16(body, at) for at in range(41, 41 + 2 * count, 2)]
     answer, after = model.complete(body[41 + 2 * count:], order, snapshot, stage)
     return line('complete', answer, snapshot_words(after))
+
+
+def index_line(body):
+    length = model.number32(body, 1)
+    if length > MAX_ROOM_BYTES:
+        return BAD
+    answer, room = model.build_index(body[5:], bytes([FILL]) * length)
+    return line('index', answer, [zlib.adler32(room)])
+
+
+def indexed_line(body):
+    stage, snapshot, length = model.number32(body, 1), snapshot_at(body, 5), model.number32(body, 37)
+    if len(body) < 41 + length:
+        return BAD
+    answer, after = model.complete_indexed(body[41 + length:], body[41:41 + length], snapshot, stage)
+    return line('indexed', answer, snapshot_words(after))
 
 
 def listing_line(body):

@@ -18,6 +18,9 @@ const FIELDS: usize = 1;
 // Where the order starts in a request to complete: after the stage, the snapshot and the order's length.
 const ORDER: usize = FIELDS + 4 + SNAPSHOT + 4;
 
+// Where the index starts in a request to complete through it: after the stage, the snapshot and the index's length.
+const INDEX: usize = FIELDS + 4 + SNAPSHOT + 4;
+
 // The image is all that follows the operation.
 pub fn read(body: &[u8], line: &mut [u8; LINE]) -> usize {
     if body.len() < FIELDS {
@@ -129,6 +132,38 @@ pub fn complete(body: &[u8], line: &mut [u8; LINE]) -> usize {
     let order = fields::order_at(body, ORDER, n);
     let completion = rooms::complete(&body[end..], &order, n, snapshot, stage);
     let at = show::answer(line, b"complete", completion.answer);
+    show::snapshot(line, at, completion.snapshot)
+}
+
+// The book is all that follows the room's size.
+pub fn index(body: &[u8], line: &mut [u8; LINE]) -> usize {
+    if body.len() < FIELDS + 4 {
+        return show::bad_request(line);
+    }
+    let n = wire::u32_at(body, FIELDS) as usize;
+    if MAX_BYTES < n {
+        return show::bad_request(line);
+    }
+    let mut room = [FILL; MAX_BYTES];
+    let answer = rooms::index(&body[FIELDS + 4..], &mut room, n);
+    let at = show::answer(line, b"index", answer);
+    show::number(line, at, adler::of_bytes(&room, n))
+}
+
+// The book is all that follows the index.
+pub fn indexed(body: &[u8], line: &mut [u8; LINE]) -> usize {
+    if body.len() < INDEX {
+        return show::bad_request(line);
+    }
+    let n = wire::u32_at(body, INDEX - 4) as usize;
+    if body.len() - INDEX < n {
+        return show::bad_request(line);
+    }
+    let stage = wire::u32_at(body, FIELDS);
+    let snapshot = fields::snapshot_at(body, FIELDS + 4);
+    let end = INDEX + n;
+    let completion = indexed::complete(&body[end..], &body[INDEX..end], snapshot, stage);
+    let at = show::answer(line, b"indexed", completion.answer);
     show::snapshot(line, at, completion.snapshot)
 }
 

@@ -27,6 +27,8 @@ fn serve(body: &[u8], line: &mut [u8; LINE]) -> usize {
         6 => calls::derive(body, line),
         7 => calls::check(body, line),
         8 => calls::complete(body, line),
+        9 => calls::index(body, line),
+        10 => calls::indexed(body, line),
         18 => calls::list(body, line),
         _ => show::bad_request(line),
     }

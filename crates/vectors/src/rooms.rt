@@ -6,7 +6,7 @@ use graph::FlatChart;
 use paper::Answer;
 use runner::Completion;
 
-// The longest room for a book, in bytes, and for an order, in numbers.
+// The longest room for a book or an index, in bytes, and for an order, in numbers.
 pub const MAX_BYTES: usize = 200000;
 
 pub const MAX_NUMBERS: usize = 10000;
@@ -40,6 +40,19 @@ pub fn check(book: &[u8], stage: u32, room: &mut [u16; MAX_NUMBERS], n: usize) -
     requires { ⌜ n ≤ 10000 ⌝ }
 {
     check_part(book, stage, room, n)
+}
+
+fn index_part(book: &[u8], room: &mut [u8], n: usize) -> Answer
+    requires { ⌜ n ≤ length (now room) ⌝ }
+{
+    indexed::build(book, &mut room[..n])
+}
+
+// Builds the index into the first n bytes.
+pub fn index(book: &[u8], room: &mut [u8; MAX_BYTES], n: usize) -> Answer
+    requires { ⌜ n ≤ 200000 ⌝ }
+{
+    index_part(book, room, n)
 }
 
 fn complete_part(book: &[u8], order: &[u16], n: usize, snapshot: Snapshot, stage: u32) -> Completion
