@@ -1,4 +1,4 @@
-// Times each call of the library, of the plain C and of the leaner plain C on the same buffers, and prints two tables.
+// Times each call of the library, of the plain C and of the leaner plain C on the same buffers, and prints three tables.
 #define _POSIX_C_SOURCE 199309L
 #include "inputs.h"
 #include "lean.h"
@@ -14,9 +14,9 @@ static const double ROUND_SECONDS = 0.004;
 
 // ---- what both sides are called on
 
-static uint8_t image[CHART_BYTES], book[BOOK_BYTES], room[BOOK_BYTES];
+static uint8_t image[CHART_BYTES], book[BOOK_BYTES], index_image[INDEX_BYTES], room[INDEX_BYTES];
 static uint16_t order[ORDER_NUMBERS], numbers[ORDER_NUMBERS];
-static size_t image_length, book_length, ordered; // how many rules the order has: those that count for the stage
+static size_t image_length, book_length, index_length, ordered; // how many rules the order has: those that count for the stage
 static struct flat_chart chart;
 static struct marking marking;
 static struct snapshot snapshot;
@@ -77,14 +77,20 @@ static void plain_4(void) { plain_out.finish = plain_finished(&chart, marking); 
 static void own_4(void) { own_out.finish = ozhimka_finished(&own_chart, own_marking); }
 static void plain_5(void) { plain_out.settled = plain_matching(&chart, marking); }
 static void own_5(void) { own_out.settled = ozhimka_matching(&own_chart, own_marking); }
-static void plain_6(void) { plain_out.answer = plain_derive(&chart, room, sizeof room); }
-static void own_6(void) { own_out.answer = ozhimka_derive(&own_chart, room, sizeof room); }
+static void plain_6(void) { plain_out.answer = plain_derive(&chart, room, BOOK_BYTES); }
+static void own_6(void) { own_out.answer = ozhimka_derive(&own_chart, room, BOOK_BYTES); }
 static void plain_7(void) { plain_out.answer = plain_check(book, book_length, event, numbers, ORDER_NUMBERS); }
 static void lean_7(void) { plain_out.answer = lean_check(book, book_length, event, numbers, ORDER_NUMBERS); }
 static void own_7(void) { own_out.answer = ozhimka_check(book, book_length, event, numbers, ORDER_NUMBERS); }
 static void plain_8(void) { plain_out.settled = plain_complete(book, book_length, order, ordered, snapshot, event); }
 static void lean_8(void) { plain_out.settled = lean_complete(book, book_length, order, ordered, snapshot, event); }
 static void own_8(void) { own_out.settled = ozhimka_complete(book, book_length, order, ordered, own_snapshot, event); }
+static void plain_9(void) { plain_out.answer = plain_build_index(book, book_length, room, sizeof room); }
+static void lean_9(void) { plain_out.answer = lean_build_index(book, book_length, room, sizeof room); }
+static void own_9(void) { own_out.answer = ozhimka_build_index(book, book_length, room, sizeof room); }
+static void plain_10(void) { plain_out.settled = plain_complete_indexed(book, book_length, index_image, index_length, snapshot, event); }
+static void lean_10(void) { plain_out.settled = lean_complete_indexed(book, book_length, index_image, index_length, snapshot, event); }
+static void own_10(void) { own_out.settled = ozhimka_complete_indexed(book, book_length, index_image, index_length, own_snapshot, event); }
 
 // ---- whether both results are the same, field by field, since the bytes between fields may be any
 
@@ -142,9 +148,11 @@ static const struct call calls[] = {
     {"derive", plain_6, NULL, own_6, same_answer},
     {"check", plain_7, lean_7, own_7, same_answer},
     {"complete", plain_8, lean_8, own_8, same_snapshot},
+    {"build_index", plain_9, lean_9, own_9, same_answer},
+    {"complete_indexed", plain_10, lean_10, own_10, same_snapshot},
 };
 
-enum { CALLS = sizeof calls / sizeof calls[0], CHECK = 6, COMPLETE = 7 };
+enum { CALLS = sizeof calls / sizeof calls[0], CHECK = 6, LAST = CALLS - 1 };
 
 // ---- timing
 
@@ -268,12 +276,14 @@ static struct times print_row(const struct call *call, const char *input, unsign
     return now;
 }
 
-// The order of the loaded book's stage; the check says how many rules count for it where it gets no room.
+// The order of the loaded book's stage, and the book's index; the calls say how much each takes where they get no room.
 static void load_order(void)
 {
-    struct answer needed = plain_check(book, book_length, event, order, 0);
+    struct answer needed = plain_check(book, book_length, event, order, 0), bytes = plain_build_index(book, book_length, index_image, 0);
     ordered = needed.place;
-    if (needed.code != 31 || plain_check(book, book_length, event, order, ORDER_NUMBERS).code != 0)
+    index_length = bytes.place;
+    if (needed.code != 31 || plain_check(book, book_length, event, order, ORDER_NUMBERS).code != 0 || bytes.code != 35
+        || plain_build_index(book, book_length, index_image, sizeof index_image).code != 0)
         abort();
     share();
 }
@@ -300,13 +310,25 @@ static void load_book(size_t (*write)(uint8_t *, uint32_t), uint32_t rules)
     load_order();
 }
 
-static void print_charts(const char *input, size_t (*write)(uint8_t *, uint32_t))
+// Leaves the times of the largest chart in `last`.
+static void print_charts(const char *input, size_t (*write)(uint8_t *, uint32_t), struct times last[CALLS])
 {
-    struct times before[CALLS] = {{0, 0, 0}};
+    memset(last, 0, CALLS * sizeof last[0]);
     for (uint32_t n = 8; n <= 64; n *= 2) {
         load_chart(write, n);
         for (int i = 0; i < CALLS; i++)
-            before[i] = print_row(&calls[i], input, (unsigned)n, before[i]);
+            last[i] = print_row(&calls[i], input, (unsigned)n, last[i]);
+    }
+}
+
+// What the calls on the whole book take beside the check of it.
+static void print_to_check(const char *input, const struct times last[CALLS])
+{
+    for (int i = CHECK + 1; i <= LAST; i++) {
+        printf("| %s | %s |", calls[i].name, input);
+        print_ratio(last[i].plain, last[CHECK].plain, " |");
+        print_ratio(last[i].lean, last[CHECK].lean, " |");
+        print_ratio(last[i].own, last[CHECK].own, " |\n");
     }
 }
 
@@ -315,16 +337,20 @@ static void print_books(const char *input, size_t (*write)(uint8_t *, uint32_t))
     struct times before[CALLS] = {{0, 0, 0}};
     for (uint32_t rules = ORDER_NUMBERS / 8; rules <= ORDER_NUMBERS; rules *= 2) {
         load_book(write, rules);
-        for (int i = CHECK; i <= COMPLETE; i++)
+        for (int i = CHECK; i <= LAST; i++)
             before[i] = print_row(&calls[i], input, (unsigned)rules, before[i]);
     }
 }
 
 int main(void)
 {
+    struct times full[CALLS], sparse[CALLS];
     print_header("events");
-    print_charts("all relations", full_chart);
-    print_charts("sparse", sparse_chart);
+    print_charts("all relations", full_chart, full);
+    print_charts("sparse", sparse_chart, sparse);
+    printf("\n| call | input, 64 events | to the check: plain C | leaner C | ozhimka |\n|---|---|---:|---:|---:|\n");
+    print_to_check("all relations", full);
+    print_to_check("sparse", sparse);
     printf("\n");
     print_header("rules");
     print_books("layered", layered_book);

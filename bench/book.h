@@ -27,6 +27,18 @@ static inline uint32_t get32(const uint8_t *at)
     return get16(at) | get16(at + 2) << 16;
 }
 
+static inline uint8_t *put16(uint8_t *at, uint32_t number)
+{
+    at[0] = (uint8_t)number;
+    at[1] = (uint8_t)(number >> 8);
+    return at + 2;
+}
+
+static inline uint8_t *put32(uint8_t *at, uint32_t number)
+{
+    return put16(put16(at, number), number >> 16);
+}
+
 static inline uint64_t only(uint32_t e)
 {
     return (uint64_t)1 << e;
@@ -161,6 +173,15 @@ static inline bool apart(const uint8_t *one, const uint8_t *two)
 static inline bool counts(struct rule rule, uint32_t stage)
 {
     return rule.trigger != COMPLETED || rule.number == stage;
+}
+
+// The bytes of the index of a good book: a rule on a completion counts for one stage, any other for all.
+static inline uint32_t index_size(const struct book *book)
+{
+    uint32_t own = 0;
+    for (uint32_t p = 0; p < book->rules; p++)
+        own += book->rules_at[10 * p] == COMPLETED;
+    return 8 + 8 * book->stages + 2 * (own + book->stages * (book->rules - own));
 }
 
 // The stack of values is a number, its top the lowest bit.

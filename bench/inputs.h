@@ -5,7 +5,7 @@
 #include <stddef.h>
 #include <stdint.h>
 
-enum { CHART_BYTES = 25096, BOOK_BYTES = 167968, ORDER_NUMBERS = 8384 };
+enum { CHART_BYTES = 25096, BOOK_BYTES = 167968, ORDER_NUMBERS = 8384, INDEX_BYTES = 1073672 };
 
 // A chart of n events below n groups, nested in two chains, with n times n relations: every event is a condition, a response and a
 // milestone of every event, and includes or excludes it. Every node names a role, event 1 role 1. Gives its length.

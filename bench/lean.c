@@ -1,5 +1,5 @@
-// The check and the completion in plain C with the library's shortcuts, so that the library is also timed against what does as little:
-// one pass over the rules; a search for loops only where a mark is both altered by a rule that refers to something and referred to; opposed
+// The calls on books in plain C with the library's shortcuts, so that the library is also timed against what does as little:
+// one pass over the rules, and for an index one more that chains them by their stage; a search for loops only where a mark is both altered by a rule that refers to something and referred to; opposed
 // rules compared only where their mark is not calm; a condition evaluated only where its rule would alter its target.
 #include "lean.h"
 
@@ -292,20 +292,18 @@ static uint32_t lowest_released(struct waiting *waiting)
     return p;
 }
 
-// A rule that is released comes before every one that was not met yet.
-static void write_order(struct found *found, uint16_t *room)
+// A rule that is released comes before every one that was not met yet. At the end no rule waits, as at the beginning.
+static void write_order(struct found *found, struct waiting *waiting, uint16_t *room)
 {
-    struct waiting waiting;
-    begin(&found->book, &waiting);
     for (uint32_t done = 0, met = 0; done < found->counted;) {
-        bool released = waiting.count != 0;
-        uint32_t p = released ? lowest_released(&waiting) : found->rules[met++];
+        bool released = waiting->count != 0;
+        uint32_t p = released ? lowest_released(waiting) : found->rules[met++];
         struct rule rule = rule_of(&found->book, p);
-        if (!released && waits(found, &waiting, p, rule))
+        if (!released && waits(found, waiting, p, rule))
             continue;
         room[done++] = (uint16_t)p;
-        if (settles(found, rule.target) && waiting.chained != 0)
-            release_by(found, &waiting, rule.target);
+        if (settles(found, rule.target) && waiting->chained != 0)
+            release_by(found, waiting, rule.target);
     }
 }
 
@@ -319,7 +317,9 @@ struct answer lean_check(const uint8_t *image, size_t length, uint32_t stage, ui
         return refused(29, 0, 0);
     if (count < found.counted)
         return refused(31, found.counted, 0);
-    write_order(&found, room);
+    struct waiting waiting;
+    begin(&found.book, &waiting);
+    write_order(&found, &waiting, room);
     return granted;
 }
 
@@ -347,6 +347,14 @@ static bool fit_order(struct found *found, uint32_t stage, const uint16_t *order
     return true;
 }
 
+static bool any_above(const struct book *book, const struct snapshot *snapshot)
+{
+    uint32_t above = 0;
+    for (uint32_t m = book->marks; m < MAX_MARKS; m++)
+        above |= snapshot->marks[m];
+    return above != 0;
+}
+
 // Refusals 29, 27, 28 and 30.
 static struct answer ready(struct found *found, const uint16_t *order, size_t count, const struct snapshot *snapshot, uint32_t stage)
 {
@@ -354,12 +362,18 @@ static struct answer ready(struct found *found, const uint16_t *order, size_t co
         return refused(29, 0, 0);
     if (!fit_order(found, stage, order, count))
         return refused(27, 0, 0);
-    uint32_t above = 0;
-    for (uint32_t m = found->book.marks; m < MAX_MARKS; m++)
-        above |= snapshot->marks[m];
-    if (above != 0)
+    if (any_above(&found->book, snapshot))
         return refused(28, 0, 0);
     return snapshot->marks[stage] ? granted : refused(30, 0, 0);
+}
+
+// Alters the marks if the rule, which counts for the completed stage, fires and would alter its target.
+static inline void apply(const struct book *book, struct rule rule, const bool *start, bool *now)
+{
+    if (now[rule.target] == (rule.effect == SET) || !triggered(rule, start, now))
+        return;
+    if (rule.sense == NO_CONDITION || holds(book, rule.condition, now) == (rule.sense == AS_WRITTEN))
+        now[rule.target] = rule.effect == SET;
 }
 
 struct settled lean_complete(const uint8_t *image, size_t length, const uint16_t *order, size_t count, struct snapshot snapshot,
@@ -372,13 +386,139 @@ struct settled lean_complete(const uint8_t *image, size_t length, const uint16_t
         settled.answer = ready(&found, order, count, &snapshot, stage);
     if (settled.answer.code != 0)
         return settled;
-    bool *now = settled.snapshot.marks;
-    for (size_t i = 0; i < count; i++) {
-        struct rule rule = rule_of(&found.book, order[i]);
-        if (now[rule.target] == (rule.effect == SET) || !triggered(rule, snapshot.marks, now))
-            continue;
-        if (rule.sense == NO_CONDITION || holds(&found.book, rule.condition, now) == (rule.sense == AS_WRITTEN))
-            now[rule.target] = rule.effect == SET;
+    for (size_t i = 0; i < count; i++)
+        apply(&found.book, rule_of(&found.book, order[i]), snapshot.marks, settled.snapshot.marks);
+    return settled;
+}
+
+// ---- the index
+
+// What the orders of all stages are made from, beside a book judged for no stage at all: what it then counted, and the rules that wait for a
+// completion, chained by their stage, each leading to the next.
+struct orders {
+    struct marks unsettled;
+    uint16_t left[MAX_MARKS], common[MAX_RULES], head[MAX_STAGES], next[MAX_RULES];
+    uint32_t count;
+    struct waiting waiting;
+};
+
+static void begin_orders(const struct found *found, struct orders *orders)
+{
+    const struct book *book = &found->book;
+    orders->unsettled = found->unsettled;
+    orders->count = found->counted;
+    memcpy(orders->left, found->left, book->marks * sizeof orders->left[0]);
+    memcpy(orders->common, found->rules, found->counted * sizeof orders->common[0]);
+    memset(orders->head, 0xFF, sizeof orders->head);
+    for (uint32_t p = book->rules; p-- > 0;) {
+        const uint8_t *rule = book->rules_at + 10 * p;
+        if (rule[0] == COMPLETED) {
+            orders->next[p] = orders->head[get16(rule + 4)];
+            orders->head[get16(rule + 4)] = (uint16_t)p;
+        }
     }
+    begin(book, &orders->waiting);
+}
+
+// The running order of a stage, from the rules that count for every stage and its own, the lower one first.
+static uint32_t order_of(struct found *found, struct orders *orders, uint32_t stage, uint16_t *order)
+{
+    const struct book *book = &found->book;
+    found->unsettled = orders->unsettled;
+    memcpy(found->left, orders->left, book->marks * sizeof found->left[0]);
+    uint32_t count = 0, i = 0;
+    for (uint32_t p = orders->head[stage]; p != NO_RULE; p = orders->next[p]) {
+        uint32_t target = get16(book->rules_at + 10 * p + 8);
+        while (i < orders->count && orders->common[i] < p)
+            found->rules[count++] = orders->common[i++];
+        found->rules[count++] = (uint16_t)p;
+        found->left[target]++;
+        add(&found->unsettled, target);
+    }
+    while (i < orders->count)
+        found->rules[count++] = orders->common[i++];
+    found->counted = count;
+    write_order(found, &orders->waiting, order);
+    return count;
+}
+
+struct answer lean_build_index(const uint8_t *image, size_t length, uint8_t *room, size_t bytes)
+{
+    struct found found;
+    struct answer answer = judge(image, length, MAX_STAGES, &found);
+    if (answer.code != 0)
+        return answer;
+    uint32_t needed = index_size(&found.book);
+    if (bytes < needed)
+        return refused(35, needed, 0);
+    struct orders orders;
+    uint16_t order[MAX_RULES];
+    begin_orders(&found, &orders);
+    uint8_t *entry = put32(put32(room, found.book.stages), found.book.rules), *at = room + 8 + 8 * found.book.stages;
+    for (uint32_t stage = 0; stage < found.book.stages; stage++) {
+        uint32_t count = order_of(&found, &orders, stage, order);
+        entry = put32(put32(entry, (uint32_t)(at - room)), count);
+        for (uint32_t i = 0; i < count; i++)
+            at = put16(at, order[i]);
+    }
+    return granted;
+}
+
+static bool fit_index(struct found *found, const uint8_t *index, size_t bytes)
+{
+    const struct book *book = &found->book;
+    if (bytes != index_size(book) || get32(index) != book->stages || get32(index + 4) != book->rules)
+        return false;
+    struct orders orders;
+    uint16_t order[MAX_RULES];
+    begin_orders(found, &orders);
+    const uint8_t *at = index + 8 + 8 * book->stages;
+    for (uint32_t stage = 0; stage < book->stages; stage++) {
+        uint32_t count = order_of(found, &orders, stage, order), differ = 0;
+        if (get32(index + 8 + 8 * stage) != (size_t)(at - index) || get32(index + 12 + 8 * stage) != count)
+            return false;
+        for (uint32_t i = 0; i < count; i++, at += 2)
+            differ |= get16(at) ^ order[i];
+        if (differ != 0)
+            return false;
+    }
+    return true;
+}
+
+// Refusals 20 to 26, 34 and 28.
+static struct answer judge_indexed(const uint8_t *image, size_t length, const uint8_t *index, size_t bytes,
+                                   const struct snapshot *snapshot, struct found *found)
+{
+    struct answer answer = judge(image, length, MAX_STAGES, found);
+    if (answer.code != 0)
+        return answer;
+    if (!fit_index(found, index, bytes))
+        return refused(34, 0, 0);
+    return any_above(&found->book, snapshot) ? refused(28, 0, 0) : granted;
+}
+
+// Completes an open stage of a book with its index.
+static void go_through(const struct book *book, const uint8_t *index, uint32_t stage, struct snapshot *snapshot)
+{
+    const struct snapshot start = *snapshot;
+    const uint8_t *at = index + get32(index + 8 + 8 * stage), *end = at + 2 * get32(index + 12 + 8 * stage);
+    for (; at < end; at += 2)
+        apply(book, rule_of(book, get16(at)), start.marks, snapshot->marks);
+}
+
+struct settled lean_complete_indexed(const uint8_t *image, size_t length, const uint8_t *index, size_t bytes, struct snapshot snapshot,
+                                     uint32_t stage)
+{
+    struct settled settled = {.snapshot = snapshot};
+    struct found found;
+    settled.answer = judge_indexed(image, length, index, bytes, &snapshot, &found);
+    if (settled.answer.code != 0)
+        return settled;
+    if (stage >= found.book.stages)
+        settled.answer = refused(29, 0, 0);
+    else if (!snapshot.marks[stage])
+        settled.answer = refused(30, 0, 0);
+    else
+        go_through(&found.book, index, stage, &settled.snapshot);
     return settled;
 }

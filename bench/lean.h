@@ -1,4 +1,4 @@
-// The two calls of plain C that the library's shortcuts shorten: a second baseline. The other six calls have none, and are plain.h's.
+// The calls of plain C on books, which the library's shortcuts shorten: a second baseline. The calls on charts have none, and are plain.h's.
 #ifndef LEAN_H
 #define LEAN_H
 
@@ -7,5 +7,8 @@
 struct answer lean_check(const uint8_t *image, size_t length, uint32_t stage, uint16_t *room, size_t count);
 struct settled lean_complete(const uint8_t *image, size_t length, const uint16_t *order, size_t count, struct snapshot snapshot,
                              uint32_t stage);
+struct answer lean_build_index(const uint8_t *image, size_t length, uint8_t *room, size_t bytes);
+struct settled lean_complete_indexed(const uint8_t *image, size_t length, const uint8_t *index, size_t bytes, struct snapshot snapshot,
+                                     uint32_t stage);
 
 #endif

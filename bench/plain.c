@@ -1,4 +1,4 @@
-// The paper's eight calls in plain C: bit sets, one pass over each table, no memory but the stack.
+// The paper's calls in plain C: bit sets, one pass over each table, no memory but the stack.
 #include "book.h"
 
 #include <string.h>
@@ -250,18 +250,6 @@ struct settled plain_matching(const struct flat_chart *chart, struct marking mar
 }
 
 // ---- deriving
-
-static uint8_t *put16(uint8_t *at, uint32_t number)
-{
-    at[0] = (uint8_t)number;
-    at[1] = (uint8_t)(number >> 8);
-    return at + 2;
-}
-
-static uint8_t *put32(uint8_t *at, uint32_t number)
-{
-    return put16(put16(at, number), number >> 16);
-}
 
 static uint8_t *put_rule(uint8_t *at, uint8_t trigger, uint8_t sense, uint8_t effect, uint32_t number, uint32_t condition,
                          uint32_t target)
@@ -545,6 +533,29 @@ static bool settles(struct progress *progress, struct rule rule)
     return true;
 }
 
+// The running order of the stage that was begun with.
+static void write_order(const struct book *book, struct progress *progress, uint16_t *room)
+{
+    bool written[MAX_RULES];
+    memset(written, 0, progress->count);
+    uint32_t done = 0, passed = progress->count; // the lowest rule that was passed over
+    for (uint32_t i = 0; done < progress->count; i++) {
+        if (written[i])
+            continue;
+        struct rule rule = rule_of(book, progress->rules[i]);
+        if (!ready(book, progress, rule)) {
+            passed = i < passed ? i : passed;
+            continue;
+        }
+        room[done++] = progress->rules[i];
+        written[i] = true;
+        if (settles(progress, rule) && passed < i) {
+            i = passed - 1;
+            passed = progress->count;
+        }
+    }
+}
+
 struct answer plain_check(const uint8_t *image, size_t length, uint32_t stage, uint16_t *room, size_t count)
 {
     struct book book;
@@ -557,24 +568,7 @@ struct answer plain_check(const uint8_t *image, size_t length, uint32_t stage, u
     begin(&book, stage, &progress);
     if (count < progress.count)
         return refused(31, progress.count, 0);
-    bool written[MAX_RULES];
-    memset(written, 0, progress.count);
-    uint32_t done = 0, passed = progress.count; // the lowest rule that was passed over
-    for (uint32_t i = 0; done < progress.count; i++) {
-        if (written[i])
-            continue;
-        struct rule rule = rule_of(&book, progress.rules[i]);
-        if (!ready(&book, &progress, rule)) {
-            passed = i < passed ? i : passed;
-            continue;
-        }
-        room[done++] = progress.rules[i];
-        written[i] = true;
-        if (settles(&progress, rule) && passed < i) {
-            i = passed - 1;
-            passed = progress.count;
-        }
-    }
+    write_order(&book, &progress, room);
     return granted;
 }
 
@@ -601,6 +595,23 @@ static bool fit_order(const struct book *book, uint32_t stage, const uint16_t *o
     return true;
 }
 
+// Alters the marks if the rule, which counts for the completed stage, fires.
+static void apply(const struct book *book, struct rule rule, const bool *start, bool *now)
+{
+    if (!triggered(rule, start, now))
+        return;
+    if (rule.sense == NO_CONDITION || holds(book, rule.condition, now) == (rule.sense == AS_WRITTEN))
+        now[rule.target] = rule.effect == SET;
+}
+
+static bool any_above(const struct book *book, const struct snapshot *snapshot)
+{
+    for (uint32_t m = book->marks; m < MAX_MARKS; m++)
+        if (snapshot->marks[m])
+            return true;
+    return false;
+}
+
 struct settled plain_complete(const uint8_t *image, size_t length, const uint16_t *order, size_t count, struct snapshot snapshot,
                               uint32_t stage)
 {
@@ -617,23 +628,100 @@ struct settled plain_complete(const uint8_t *image, size_t length, const uint16_
         settled.answer = refused(27, 0, 0);
         return settled;
     }
-    for (uint32_t m = book.marks; m < MAX_MARKS; m++)
-        if (snapshot.marks[m]) {
-            settled.answer = refused(28, 0, 0);
-            return settled;
-        }
+    if (any_above(&book, &snapshot)) {
+        settled.answer = refused(28, 0, 0);
+        return settled;
+    }
     if (!snapshot.marks[stage]) {
         settled.answer = refused(30, 0, 0);
         return settled;
     }
-    bool *now = settled.snapshot.marks;
-    for (size_t i = 0; i < count; i++) {
-        struct rule rule = rule_of(&book, order[i]);
-        if (!triggered(rule, snapshot.marks, now))
-            continue;
-        if (rule.sense != NO_CONDITION && holds(&book, rule.condition, now) != (rule.sense == AS_WRITTEN))
-            continue;
-        now[rule.target] = rule.effect == SET;
+    for (size_t i = 0; i < count; i++)
+        apply(&book, rule_of(&book, order[i]), snapshot.marks, settled.snapshot.marks);
+    return settled;
+}
+
+// ---- the index
+
+static uint32_t order_of(const struct book *book, uint32_t stage, uint16_t *order)
+{
+    struct progress progress;
+    begin(book, stage, &progress);
+    write_order(book, &progress, order);
+    return progress.count;
+}
+
+struct answer plain_build_index(const uint8_t *image, size_t length, uint8_t *room, size_t bytes)
+{
+    struct book book;
+    struct answer answer = judge(image, length, &book);
+    if (answer.code != 0)
+        return answer;
+    uint32_t needed = index_size(&book);
+    if (bytes < needed)
+        return refused(35, needed, 0);
+    uint8_t *entry = put32(put32(room, book.stages), book.rules), *at = room + 8 + 8 * book.stages;
+    uint16_t order[MAX_RULES];
+    for (uint32_t stage = 0; stage < book.stages; stage++) {
+        uint32_t count = order_of(&book, stage, order);
+        entry = put32(put32(entry, (uint32_t)(at - room)), count);
+        for (uint32_t i = 0; i < count; i++)
+            at = put16(at, order[i]);
     }
+    return granted;
+}
+
+static bool fit_index(const struct book *book, const uint8_t *index, size_t bytes)
+{
+    if (bytes != index_size(book) || get32(index) != book->stages || get32(index + 4) != book->rules)
+        return false;
+    uint32_t at = 8 + 8 * book->stages;
+    uint16_t order[MAX_RULES];
+    for (uint32_t stage = 0; stage < book->stages; stage++) {
+        uint32_t count = order_of(book, stage, order);
+        if (get32(index + 8 + 8 * stage) != at || get32(index + 12 + 8 * stage) != count)
+            return false;
+        for (uint32_t i = 0; i < count; i++, at += 2)
+            if (get16(index + at) != order[i])
+                return false;
+    }
+    return true;
+}
+
+// Completes an open stage of a book with its index.
+static void go_through(const struct book *book, const uint8_t *index, uint32_t stage, struct snapshot *snapshot)
+{
+    const struct snapshot start = *snapshot;
+    const uint8_t *at = index + get32(index + 8 + 8 * stage), *end = at + 2 * get32(index + 12 + 8 * stage);
+    for (; at < end; at += 2)
+        apply(book, rule_of(book, get16(at)), start.marks, snapshot->marks);
+}
+
+// Refusals 20 to 26, 34 and 28.
+static struct answer judge_indexed(const uint8_t *image, size_t length, const uint8_t *index, size_t bytes,
+                                   const struct snapshot *snapshot, struct book *book)
+{
+    struct answer answer = judge(image, length, book);
+    if (answer.code != 0)
+        return answer;
+    if (!fit_index(book, index, bytes))
+        return refused(34, 0, 0);
+    return any_above(book, snapshot) ? refused(28, 0, 0) : granted;
+}
+
+struct settled plain_complete_indexed(const uint8_t *image, size_t length, const uint8_t *index, size_t bytes, struct snapshot snapshot,
+                                      uint32_t stage)
+{
+    struct settled settled = {.snapshot = snapshot};
+    struct book book;
+    settled.answer = judge_indexed(image, length, index, bytes, &snapshot, &book);
+    if (settled.answer.code != 0)
+        return settled;
+    if (stage >= book.stages)
+        settled.answer = refused(29, 0, 0);
+    else if (!snapshot.marks[stage])
+        settled.answer = refused(30, 0, 0);
+    else
+        go_through(&book, index, stage, &settled.snapshot);
     return settled;
 }

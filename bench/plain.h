@@ -1,4 +1,4 @@
-// The paper's eight calls in plain C, as a controller's author would write them by hand: what the library is timed against.
+// The paper's calls in plain C, as a controller's author would write them by hand: what the library is timed against.
 // They take and give what include/ozhimka.h does: a chart by pointer, the other structs by value.
 #ifndef PLAIN_H
 #define PLAIN_H
@@ -62,5 +62,8 @@ struct answer plain_derive(const struct flat_chart *chart, uint8_t *room, size_t
 struct answer plain_check(const uint8_t *image, size_t length, uint32_t stage, uint16_t *room, size_t count);
 struct settled plain_complete(const uint8_t *image, size_t length, const uint16_t *order, size_t count, struct snapshot snapshot,
                               uint32_t stage);
+struct answer plain_build_index(const uint8_t *image, size_t length, uint8_t *room, size_t bytes);
+struct settled plain_complete_indexed(const uint8_t *image, size_t length, const uint8_t *index, size_t bytes, struct snapshot snapshot,
+                                      uint32_t stage);
 
 #endif

@@ -1,5 +1,5 @@
 // Speaks the protocol of the program `vectors` over the plain C calls, so that the model can check them: those of plain.c, or, compiled with
-// -DLEAN, the check and the completion of lean.c.
+// -DLEAN, the calls on books of lean.c.
 #include "lean.h"
 
 #include <inttypes.h>
@@ -14,9 +14,13 @@ enum { LISTING = 18, LISTED_CHART = 25097, LISTED_BOOK = 49152, AND = 65533, OR 
 #ifdef LEAN
 #define CHECK lean_check
 #define COMPLETE lean_complete
+#define BUILD_INDEX lean_build_index
+#define COMPLETE_INDEXED lean_complete_indexed
 #else
 #define CHECK plain_check
 #define COMPLETE plain_complete
+#define BUILD_INDEX plain_build_index
+#define COMPLETE_INDEXED plain_complete_indexed
 #endif
 
 static uint8_t body[MAX_BODY];
@@ -152,14 +156,20 @@ static bool check(const uint8_t *at, size_t length)
     return true;
 }
 
+static struct snapshot snapshot_at(const uint8_t *at)
+{
+    struct snapshot snapshot;
+    for (int m = 0; m < 256; m++)
+        snapshot.marks[m] = at[m / 8] >> (m % 8) & 1;
+    return snapshot;
+}
+
 static bool complete(const uint8_t *at, size_t length)
 {
     if (length < 40 || number(at + 36, 4) > MAX_NUMBERS || length < 40 + 2 * number(at + 36, 4))
         return false;
     size_t count = number(at + 36, 4);
-    struct snapshot snapshot;
-    for (int m = 0; m < 256; m++)
-        snapshot.marks[m] = at[4 + m / 8] >> (m % 8) & 1;
+    struct snapshot snapshot = snapshot_at(at + 4);
     uint16_t *numbers = filled(2 * count);
     for (size_t i = 0; i < count; i++)
         numbers[i] = (uint16_t)number(at + 40 + 2 * i, 2);
@@ -168,6 +178,33 @@ static bool complete(const uint8_t *at, size_t length)
     say("complete", settled.answer);
     say_snapshot(&settled.snapshot);
     free(numbers);
+    return true;
+}
+
+static bool build_index(const uint8_t *at, size_t length)
+{
+    if (length < 4 || number(at, 4) > MAX_BYTES)
+        return false;
+    size_t bytes = number(at, 4);
+    uint8_t *room = filled(bytes);
+    say("index", BUILD_INDEX(at + 4, length - 4, room, bytes));
+    printf(" %" PRIu32, adler(room, bytes, 1));
+    free(room);
+    return true;
+}
+
+// The index is copied, so that a sanitizer sees a step past its end.
+static bool complete_indexed(const uint8_t *at, size_t length)
+{
+    if (length < 40 || length - 40 < number(at + 36, 4))
+        return false;
+    size_t bytes = number(at + 36, 4), start = 40 + bytes;
+    uint8_t *index = filled(bytes);
+    memcpy(index, at + 40, bytes);
+    struct settled settled = COMPLETE_INDEXED(at + start, length - start, index, bytes, snapshot_at(at + 4), (uint32_t)number(at, 4));
+    say("indexed", settled.answer);
+    say_snapshot(&settled.snapshot);
+    free(index);
     return true;
 }
 
@@ -247,6 +284,10 @@ static bool serve(const uint8_t *at, size_t length)
         return check(at + 1, length - 1);
     case 8:
         return complete(at + 1, length - 1);
+    case 9:
+        return build_index(at + 1, length - 1);
+    case 10:
+        return complete_indexed(at + 1, length - 1);
     case LISTING:
         listing(at + 1, length - 1);
         return true;
