@@ -33,6 +33,9 @@ BOOK_HEADER = 32
 RULE_SIZE = 10
 CONDITION_SIZE = 8
 WORD_SIZE = 2
+INDEX_HEADER = 8
+INDEX_STAGE = 8
+INDEX_RULE = 2
 AND = 65533
 OR = 65534
 NOT = 65535
@@ -73,6 +76,8 @@ REFUSALS = {
     30: ('STAGE_CLOSED', 'the stage is closed'),
     31: ('ORDER_ROOM', 'the order takes room for {place:,} numbers, more than there is'),
     32: ('NOT_PERMITTED', 'the event names other roles, or the role is none of 0 to 7'),
+    34: ('INDEX_UNFIT', "the index is not this book's: it was made for another book, or has been altered"),
+    35: ('INDEX_ROOM', 'the index takes {place:,} bytes, more than there is room for'),
 }
 
 
