@@ -30,6 +30,10 @@ maxStack = 16
 abbrev pub maxRoles : ℕ
 maxRoles = 8
 
+-- "a list over 4,096"
+abbrev pub maxList : ℕ
+maxList = 4096
+
 -- ---- the chart image: sizes in bytes, and what a parent number says of a node without one
 
 abbrev pub chartHeader : ℕ
@@ -179,3 +183,6 @@ indexUnfit = 34
 
 abbrev pub indexRoom : ℕ
 indexRoom = 35
+
+abbrev pub longList : ℕ
+longList = 38

@@ -1,6 +1,6 @@
 // The paper's limits, formats and refusal numbers, each named once, and the answer that every call hands back.
 ghost use mathlib.Core.Path.{_≡_};
-ghost use Rattle.paper.specs.Answers.{granted, answer};
+ghost use Rattle.paper.specs.Answers.{granted, answer, placeOf};
 
 // ---- limits
 pub const MAX_NODES: usize = 128;
@@ -20,6 +20,8 @@ pub const MAX_WORDS: usize = 41024;
 pub const MAX_STACK: usize = 16;
 
 pub const MAX_ROLES: u32 = 8;
+
+pub const MAX_LIST: usize = 4096;
 
 // ---- the chart image: sizes in bytes, and what a parent number says of a node without one
 pub const CHART_HEADER: usize = 8;
@@ -120,6 +122,8 @@ pub const INDEX_UNFIT: u32 = 34;
 
 pub const INDEX_ROOM: u32 = 35;
 
+pub const LONG_LIST: u32 = 38;
+
 #[repr(C)]
 pub struct Answer {
     pub code: u32,
@@ -137,4 +141,16 @@ pub fn refused(code: u32, place: u32, other: u32) -> Answer
     ensures { λ r. ⌜ r ≡ answer code place other ⌝ }
 {
     Answer { code, place, other }
+}
+
+const LAST_PLACE: usize = 4294967295;
+
+// A place is a number of 32 bits: what lies past them is named by the highest.
+pub fn place_of(position: usize) -> u32
+    ensures { λ r. ⌜ r ≡ placeOf position ⌝ }
+{
+    if position < LAST_PLACE {
+        return position as u32;
+    }
+    4294967295
 }
