@@ -2,3 +2,5 @@
 pub mod Building
 pub mod Indexed
 pub mod IndexedTable
+pub mod InList
+pub mod ListTable

@@ -1,11 +1,13 @@
-// Building the index of a book, and completing a stage through it.
+// Building the index of a book, and completing stages through it.
 pub mod building;
 pub mod judging;
+pub mod lists;
 pub mod running;
 
 ghost use mathlib.Core.Path.{_≡_};
 ghost use lib.ListN.{length};
 ghost use Rattle.indexed.specs.Building.{building, builtRoom};
+ghost use Rattle.indexed.specs.InList.{completingList};
 ghost use Rattle.indexed.specs.Indexed.{completingIndexed};
 use book::Snapshot;
 use book::header::counts_at;
@@ -13,6 +15,14 @@ use judge::image::judge_head;
 use judge::sizes::is_small;
 use paper::Answer;
 use runner::Completion;
+
+// What completing a list of stages gives: the answer, how many were granted, and the snapshot reached.
+#[repr(C)]
+pub struct ListCompletion {
+    pub answer: Answer,
+    pub granted: u32,
+    pub snapshot: Snapshot,
+}
 
 // The index of a book at the start of the room: 20 to 26 and 35, or 0 and the image.
 // Cost: the passes of `judge::judge_book`, one over the rules for what counts, and for each stage one over the rules and the scan of its running
@@ -55,4 +65,23 @@ pub fn complete(book: &[u8], index: &[u8], snapshot: Snapshot, stage: u32) -> Co
         answer,
         snapshot: after,
     }
+}
+
+// 20 to 26, 34, 28 and 38 with 0 granted and the snapshot that was given, or the stages of the list completed one after another to the first
+// that is refused: 29 or 30 with its place, the number granted, and the snapshot reached; or 0.
+// Cost: the book and the index are judged once, as for one completion; then one turn for each rule in the order of each stage that is granted.
+// Stack: as for one completion.
+pub fn complete_list(book: &[u8], index: &[u8], snapshot: Snapshot, list: &[u32]) -> ListCompletion
+    ensures { λ r. ⌜ r ≡ completingList (now (book .entry)) (now (index .entry)) snapshot (now (list .entry)) ⌝ }
+{
+    let before = lists::judge_before(book, index, &snapshot.marks, list.len());
+    if before.code != 0 {
+        return ListCompletion {
+            answer: before,
+            granted: 0,
+            snapshot,
+        };
+    }
+    let h = counts_at(book);
+    lists::walk_list(book, h, index, snapshot, list)
 }
