@@ -1,7 +1,7 @@
 -- Demand 1: every call answers every input with the refusal that the paper names, in the paper's order; a refused call returns the marking
 -- or snapshot it was given and leaves lent room as it was. Assumes nothing.
 use Prim.Native.Nat.{ℕ}
-use mathlib.Core.Path.{_≡_, refl, sym, ap}
+use mathlib.Core.Path.{_≡_, refl, sym, ap, _∙_}
 use mathlib.Core.Bool.{false}
 use mathlib.Core.List.{List, _++_}
 use native.Mathlib.Omega.{arith}
@@ -38,6 +38,8 @@ use Rattle.runner.specs.Completion.{refusal-hands-back}
 use Rattle.indexed.specs.Building.{indexOf, building, builtRoom, Builds, builds, builds-is, granted-index, refused-index}
 use Rattle.indexed.specs.Indexed.{completingIndexed}
 use Rattle.indexed.specs.IndexedTable.{Indexed, indexed, indexed-is, indexed-hands-back}
+use Rattle.indexed.specs.InList.{grantedOf, reached, stopping, placed, beforeList, completingList}
+use Rattle.indexed.specs.ListTable.{Lists, lists, lists-is, list-answer, before-hands-back, within-hands-back}
 use Rattle.promises.specs.Tables as table
 use Rattle.promises.specs.Tables.{Unfit, CountsOpen, counts-open, counts-only, Finishes, finishes, finishes-only, Derives, derives, derives-only}
 use Rattle.promises.specs.Matching as matching
@@ -135,6 +137,18 @@ pub record Demand1 : Type 0 where
   pub indexed : (book index : List ℕ) (s : Snapshot) (stage : ℕ) → Indexed book index (s .marks) stage (completingIndexed book index s stage .answer)
   pub indexedOnly : (book index : List ℕ) (s : Snapshot) (stage : ℕ) (a : Answer) → Indexed book index (s .marks) stage a → a ≡ completingIndexed book index s stage .answer
   pub indexedRefused : (book index : List ℕ) (s : Snapshot) (stage : ℕ) → (completingIndexed book index s stage .answer .code ≡ 0 → ⊥) → completingIndexed book index s stage .snapshot ≡ s
+  -- a list of completions: 20 to 26, 34, 28, 38 before the list, with 0 granted and the snapshot that was given; 29 and 30 within it, and here "a refusal within the list
+  -- hands back the snapshot reached", with the number granted, which is the place of the refused one
+  pub list : (book index : List ℕ) (s : Snapshot) (list : List ℕ) → Lists book index (s .marks) list (completingList book index s list .answer)
+  pub listOnly : (book index : List ℕ) (s : Snapshot) (list : List ℕ) (a : Answer) → Lists book index (s .marks) list a → a ≡ completingList book index s list .answer
+  pub listBefore : (book index : List ℕ) (s : Snapshot) (list : List ℕ) → (beforeList book index (s .marks) (length list) .code ≡ 0 → ⊥)
+      → completingList book index s list ≡ record { answer = beforeList book index (s .marks) (length list); granted = 0; snapshot = s }
+  pub listWithin : (book index : List ℕ) (s : Snapshot) (list : List ℕ) → beforeList book index (s .marks) (length list) .code ≡ 0
+      → completingList book index s list ≡ record {
+        answer = placed (stopping book (s .marks) list) (grantedOf book (s .marks) list);
+        granted = grantedOf book (s .marks) list;
+        snapshot = record { marks = reached book (s .marks) list };
+      }
 
 pub demand-1 : Demand1
 unfolding completing completingIndexed
@@ -176,6 +190,10 @@ demand-1 =
       indexed = λ book index s stage. indexed book index (s .marks) stage;
       indexedOnly = λ book index s stage. indexed-is book index (s .marks) stage;
       indexedRefused = indexed-hands-back;
+      list = λ book index s list. rw (list-answer book index s list) (lists book index (s .marks) list);
+      listOnly = λ book index s list a x. lists-is book index (s .marks) list a x ∙ sym (list-answer book index s list);
+      listBefore = before-hands-back;
+      listWithin = within-hands-back;
     }
 
 -- ---- two results that meet a contract coincide: the calls whose lemma stands here; the others' stand beside their definitions

@@ -87,6 +87,9 @@ module _ (c : FlatChart) (fit : Fit c) where
     matching-long : length (matchingMarks c m) ≡ maxMarks
     matching-long = marks-whole c (fit .few) m
 
+    pub matching-whole : length (matchingOf c m .snapshot .marks) ≡ maxMarks
+    matching-whole = rw matches matching-long
+
     marks-are : marksIn (derivedImage c) ≡ 4 * c .count
     unfolding bookOf derivedBook
     marks-are = ap (λ (b : Book). b .marks) said

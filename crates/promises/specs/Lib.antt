@@ -6,6 +6,7 @@ pub mod Demand2
 pub mod Demand1
 pub mod Demand3
 pub mod Indexes
+pub mod Lists
 pub mod Roles
 pub mod Stages
 pub mod Rows
