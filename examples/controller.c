@@ -5,9 +5,12 @@
 // A step is a line: the numbers of an event and of the role that executes it, as `5 1`. Where the chart names no roles the event alone will
 // do, and the role is 0. The chart says whether the role is permitted, which no rule book knows; the stage is then completed in the book,
 // through the index that is kept beside it and has the running order of each stage.
+// A line that begins with `list` is a list of events, as `list 5 6 7 by 1`, or without `by` and the role as above: their stages are completed
+// in one call, one after another up to the first that is refused.
 // At the start it prints the open stages, and `finished` where no included event is pending. Each step gets one line: the same after it, or
-// the refusal, which leaves everything as it was and does not count as a failure. A line that is no step is said on standard error and
-// passed over, an empty one in silence; one of over 64 characters, which may be no text at all, ends the run.
+// the refusal, which leaves everything as it was and does not count as a failure. A list gets the refusal, if there is one, with the position
+// as place, and the open stages in any case, since what was granted before it stands. A line that is no step is said on standard error and
+// passed over, an empty one in silence; one of over 1,024 characters, which may be no text at all, ends the run.
 // Exit status: 0; 1 if the chart is refused or a line was no step; 2 usage, or no such chart; 3 if input or output failed.
 #include "ozhimka.h"
 
@@ -89,7 +92,7 @@ static void print_open(void)
     printf("%s%s\n", none ? " none" : "", finished ? ", finished" : "");
 }
 
-enum { LONGEST = 64 };
+enum { LONGEST = 1024, SHOWN = 64 }; // characters of a line, and of one that is no step
 
 struct line {
     unsigned char text[LONGEST];
@@ -137,7 +140,7 @@ static const char *read_number(const struct line *line, size_t *at, uint32_t *nu
 static const char *read_step(const struct line *line, uint32_t numbers[2], int *count)
 {
     size_t at = behind_spaces(line, 0);
-    const char *wrong = line->cut ? "over 64 characters, nothing behind it is read" : NULL;
+    const char *wrong = NULL;
     for (*count = 0; wrong == NULL && at < line->length && *count < 2; ++*count) {
         wrong = read_number(line, &at, &numbers[*count]);
         at = behind_spaces(line, at);
@@ -149,14 +152,48 @@ static const char *read_step(const struct line *line, uint32_t numbers[2], int *
     return wrong;
 }
 
+struct list {
+    uint32_t events[LONGEST / 2], role;
+    size_t count;
+};
+
+// Whether this word stands at `at`; goes behind it and the spaces there.
+static bool read_word(const struct line *line, size_t *at, const char *word)
+{
+    size_t length = strlen(word), end = *at + length;
+    if (end > line->length || memcmp(line->text + *at, word, length) != 0 || (end < line->length && !isspace(line->text[end])))
+        return false;
+    *at = behind_spaces(line, end);
+    return true;
+}
+
+// Reads the events and the role of a list, from behind its first word; says what is wrong with it, or gives null.
+static const char *read_list(const struct line *line, size_t at, struct list *list)
+{
+    bool by = false;
+    list->count = 0;
+    list->role = 0;
+    while (at < line->length && !by) {
+        by = read_word(line, &at, "by");
+        const char *wrong = by && at == line->length ? "`by` and no role" : read_number(line, &at, by ? &list->role : &list->events[list->count++]);
+        if (wrong != NULL)
+            return wrong;
+        at = behind_spaces(line, at);
+    }
+    if (at < line->length)
+        return "a list, a role, and something behind them";
+    return !by && names_roles() ? "a list without `by` and a role, and this chart names roles" : NULL;
+}
+
 static void say_no_step(const struct line *line, const char *wrong)
 {
-    char text[LONGEST]; // with ? for what is not to be printed
-    for (size_t i = 0; i < line->length; i++) {
+    char text[SHOWN]; // with ? for what is not to be printed
+    size_t length = line->length < SHOWN ? line->length : SHOWN;
+    for (size_t i = 0; i < length; i++) {
         unsigned char c = line->text[i];
         text[i] = c >= ' ' && c <= '~' ? (char)c : '?';
     }
-    fprintf(stderr, "no step: %.*s (%s)\n", (int)line->length, text, wrong);
+    fprintf(stderr, "no step: %.*s%s (%s)\n", (int)length, text, line->length > SHOWN ? " .." : "", wrong);
 }
 
 static void take(uint32_t event, uint32_t role)
@@ -176,6 +213,46 @@ static void take(uint32_t event, uint32_t role)
         print_open();
 }
 
+// The chart goes along the list, too, to say how far the role is permitted: the book gets no stage from there on. Where the chart refuses for
+// another reason the book does so at the same position.
+static void take_list(const struct list *list)
+{
+    char call[64];
+    struct ozhimka_step step = {.marking = marking};
+    size_t stepped = 0;
+    for (; stepped < list->count && step.answer.code == OZHIMKA_GRANTED; stepped++)
+        step = ozhimka_execute(&chart, step.marking, list->events[stepped], list->role);
+    bool forbidden = step.answer.code == OZHIMKA_NOT_PERMITTED;
+    struct ozhimka_list_completion next = ozhimka_complete_list(book, book_length, index_image, index_length, now, list->events,
+                                                                forbidden ? stepped - 1 : list->count);
+    marking = step.marking; // that of the steps granted, as a refused one hands it back
+    now = next.snapshot;
+    snprintf(call, sizeof call, "list, %" PRIu32 " completed,", next.granted);
+    if (granted(stdout, call, next.answer) && forbidden) {
+        snprintf(call, sizeof call, "execute %" PRIu32 " by %" PRIu32, list->events[stepped - 1], list->role);
+        granted(stdout, call, step.answer);
+    }
+    print_open();
+}
+
+// Takes the step or the list of a line; says why it is none, or gives null.
+static const char *take_line(const struct line *line)
+{
+    static struct list list;
+    uint32_t numbers[2] = {0, 0};
+    size_t at = behind_spaces(line, 0);
+    int count = 0;
+    if (line->cut)
+        return "over 1,024 characters, nothing behind it is read";
+    bool listed = read_word(line, &at, "list");
+    const char *wrong = listed ? read_list(line, at, &list) : read_step(line, numbers, &count);
+    if (wrong == NULL && listed)
+        take_list(&list);
+    else if (wrong == NULL && count > 0)
+        take(numbers[0], numbers[1]);
+    return wrong;
+}
+
 int main(int argc, char **argv)
 {
     if (argc != 2) {
@@ -190,14 +267,10 @@ int main(int argc, char **argv)
     int status = 0;
     struct line line = {.cut = false};
     while (fflush(stdout) == 0 && !line.cut && next_line(&line)) { // a program at the other end of a pipe gets each line at once
-        uint32_t numbers[2] = {0, 0};
-        int count;
-        const char *wrong = read_step(&line, numbers, &count);
+        const char *wrong = take_line(&line);
         if (wrong != NULL) {
             say_no_step(&line, wrong);
             status = 1;
-        } else if (count > 0) {
-            take(numbers[0], numbers[1]);
         }
     }
     if (ferror(stdin) || ferror(stdout)) {

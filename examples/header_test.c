@@ -1,5 +1,5 @@
 // Tries on the library what the header says of null pointers, of a book's length, of roles, of a chart's tables, of stages, of the index, of
-// the words for each code, and of the stack.
+// lists, of the words for each code, and of the stack.
 // Prints what does not hold; exit status 0 if nothing, else 1. Wants POSIX contexts, to run a call on a stack that was painted before.
 #define _XOPEN_SOURCE 700
 #include "ozhimka.h"
@@ -18,6 +18,7 @@ static size_t image_length, book_length, index_length, ordered; // how many rule
 static struct ozhimka_reading reading;
 static struct ozhimka_settled settled;
 static struct ozhimka_snapshot open; // stage 0 is open, and nothing else is yes
+static const uint32_t stages[4] = {0, 0, 3, 0};
 
 static void expect(bool holds, const char *what)
 {
@@ -70,6 +71,7 @@ static void derive(void) { settled.answer = ozhimka_derive(&reading.chart, book,
 static void check(void) { settled.answer = ozhimka_check(book, book_length, 0, order, OZHIMKA_MAX_RULES); }
 static void complete(void) { settled = ozhimka_complete(book, book_length, order, ordered, open, 0); }
 static void build_index(void) { settled.answer = ozhimka_build_index(book, book_length, index_image, sizeof index_image); }
+static void complete_list(void) { settled.answer = ozhimka_complete_list(book, book_length, index_image, index_length, open, stages, 1).answer; }
 static void complete_indexed(void) { settled = ozhimka_complete_indexed(book, book_length, index_image, index_length, open, 0); }
 
 static ucontext_t here, there;
@@ -115,8 +117,9 @@ static void try_stack(void)
     expect_stack("ozhimka_matching", matching, 2);
     expect_stack("ozhimka_complete", complete, 21);
     index_length = ozhimka_index_length(book);
-    expect_stack("ozhimka_build_index", build_index, 24);
-    expect_stack("ozhimka_complete_indexed", complete_indexed, 24);
+    expect_stack("ozhimka_build_index", build_index, 20);
+    expect_stack("ozhimka_complete_indexed", complete_indexed, 21);
+    expect_stack("ozhimka_complete_list", complete_list, 21);
 }
 
 static bool is(struct ozhimka_answer answer, uint32_t code, size_t place)
@@ -143,6 +146,8 @@ static void try_null(void)
     expect(is(ozhimka_build_index(book, book_length, NULL, 0), OZHIMKA_INDEX_ROOM, index_length), "no room for an index");
     expect(is(ozhimka_complete_indexed(NULL, 0, NULL, 0, open, 0).answer, OZHIMKA_BOOK_SHORT, 0), "no book to complete a stage of by index");
     expect(is(ozhimka_complete_indexed(book, book_length, NULL, 0, open, 0).answer, OZHIMKA_INDEX_UNFIT, 0), "no index");
+    expect(is(ozhimka_complete_list(NULL, 0, NULL, 0, open, NULL, 0).answer, OZHIMKA_BOOK_SHORT, 0), "no book to complete a list of");
+    expect(is(ozhimka_complete_list(book, book_length, NULL, 0, open, stages, 4).answer, OZHIMKA_INDEX_UNFIT, 0), "a list, no index");
 }
 
 // What the header says of the roles in ozhimka_chart and of the order of ozhimka_execute's refusals.
@@ -262,6 +267,29 @@ static void try_stages(void)
         expect(is(ozhimka_check(two, sizeof two, stage, NULL, 0), OZHIMKA_LOOP, 2), "a loop in one stage refuses the book for all");
 }
 
+// What the header says of a list: 28 and 38 before it, 29 and 30 within it with the position and the snapshot reached, and an empty list.
+static void try_list(const uint8_t *three, size_t length, const uint8_t *lent, struct ozhimka_snapshot above, struct ozhimka_snapshot once)
+{
+    static const uint32_t many[OZHIMKA_MAX_LIST + 1];
+    const uint32_t closed[3] = {0, 1, 0};
+    struct ozhimka_list_completion all = ozhimka_complete_list(three, length, lent, 36, open, stages, 2);
+    expect(is(all.answer, OZHIMKA_GRANTED, 0) && all.granted == 2 && memcmp(&all.snapshot, &once, sizeof open) == 0, "a list, whole");
+    all = ozhimka_complete_list(three, length, lent, 36, open, stages, 4);
+    expect(is(all.answer, OZHIMKA_NO_SUCH_STAGE, 2) && all.granted == 2 && memcmp(&all.snapshot, &once, sizeof open) == 0,
+           "a stage that the book has not, and the snapshot reached");
+    all = ozhimka_complete_list(three, length, lent, 36, open, closed, 3);
+    expect(is(all.answer, OZHIMKA_STAGE_CLOSED, 1) && all.granted == 1 && memcmp(&all.snapshot, &once, sizeof open) == 0,
+           "a closed stage, and the snapshot reached");
+    all = ozhimka_complete_list(three, length, lent, 36, open, NULL, 0);
+    expect(is(all.answer, OZHIMKA_GRANTED, 0) && all.granted == 0 && memcmp(&all.snapshot, &open, sizeof open) == 0, "an empty list");
+    expect(is(ozhimka_complete_list(three, length, lent, 36, open, many, OZHIMKA_MAX_LIST).answer, OZHIMKA_GRANTED, 0), "the longest list");
+    all = ozhimka_complete_list(three, length, lent, 36, open, many, OZHIMKA_MAX_LIST + 1);
+    expect(is(all.answer, OZHIMKA_LONG_LIST, OZHIMKA_MAX_LIST + 1) && all.granted == 0, "a list that is too long");
+    all = ozhimka_complete_list(three, length, lent, 36, above, many, OZHIMKA_MAX_LIST + 1);
+    expect(is(all.answer, OZHIMKA_MARK_ABOVE, 0) && memcmp(&all.snapshot, &above, sizeof open) == 0, "a mark above, before 38");
+    expect(is(ozhimka_complete_list(three, length, lent, 35, above, stages, 4).answer, OZHIMKA_INDEX_UNFIT, 0), "a byte less, before 28");
+}
+
 // What the header says of the index: its length and fields, on three stages of which no rule counts for the second; which one is fit; the
 // order of refusals; and that a completion through it is one with the order from the check.
 static void try_index(void)
@@ -290,6 +318,7 @@ static void try_index(void)
     struct ozhimka_settled along = ozhimka_complete(three, sizeof three, lone, 1, open, 0);
     struct ozhimka_settled next = ozhimka_complete_indexed(three, sizeof three, lent, 36, open, 0);
     expect(is(next.answer, OZHIMKA_GRANTED, 0) && memcmp(&next.snapshot, &along.snapshot, sizeof open) == 0, "the same snapshot");
+    try_list(three, sizeof three, lent, above, next.snapshot);
     lent[34] = 1; // the order of the last stage, which is not the one completed
     expect(is(ozhimka_complete_indexed(three, sizeof three, lent, 36, open, 0).answer, OZHIMKA_INDEX_UNFIT, 0), "another stage's order");
 }
@@ -297,9 +326,9 @@ static void try_index(void)
 static void try_reasons(void)
 {
     const char *unknown = ozhimka_reason(UINT32_MAX);
-    for (uint32_t code = 0; code <= OZHIMKA_INDEX_ROOM + 1; code++) {
+    for (uint32_t code = 0; code <= OZHIMKA_LONG_LIST + 1; code++) {
         bool known = code <= OZHIMKA_BOOK_ROOM || (code >= OZHIMKA_BOOK_SHORT && code <= OZHIMKA_NOT_PERMITTED) || code == OZHIMKA_INDEX_UNFIT
-                     || code == OZHIMKA_INDEX_ROOM;
+                     || code == OZHIMKA_INDEX_ROOM || code == OZHIMKA_LONG_LIST;
         expect((strcmp(ozhimka_reason(code), unknown) != 0) == known, "words for each code and for no other number");
     }
 }

@@ -1,25 +1,27 @@
 // The controller's interface to Ozhimka: reading a chart, stepping it, deriving its rule book, checking a book, indexing it, completing a
-// stage.
+// stage, or a list of them.
 //
 // For C99 and later and C++11 and later. Link libozhimka.a (x86-64, the System V calling convention); of the C library it uses memcpy,
 // memmove and memset at most. Every call ends, keeps no memory between calls, allocates nothing, and may be made from several threads at
 // once.
 //
-// The caller's duties. A slice goes in as a pointer and a count of elements. The pointer may be null where the count is 0; else it is valid
-// for as many elements as the count says, and nobody else writes them during the call. A pointer to uint16_t is even. A chart goes in by a
-// pointer that is never null, and nobody writes the chart during the call. Room that is lent to be written overlaps nothing else that the
-// call is given. A `bool` is 0 or 1.
+// The caller's duties. A slice goes in as a pointer and a count of elements. The pointer may be null where the count is 0; else it is
+// valid for as many elements as the count says, and nobody else writes them during the call. A pointer to uint16_t is even, one to
+// uint32_t a multiple of 4. A chart goes in by a pointer that is never null, and nobody writes the chart during the call. Room that is
+// lent to be written overlaps nothing else that the call is given. A `bool` is 0 or 1.
 //
 // Stack, at most, with the copies that the caller's code makes there of structs that go in or come back by value (ozhimka_reading takes
-// 2,672 bytes), and without what the C library and the dynamic linker take: ozhimka_check 20 KiB, ozhimka_complete 21 KiB,
-// ozhimka_build_index and ozhimka_complete_indexed 24 KiB, ozhimka_read_chart 17 KiB, ozhimka_matching 2 KiB, every other call 1 KiB.
+// 2,672 bytes), and without what the C library and the dynamic linker take: ozhimka_check and ozhimka_build_index 20 KiB, ozhimka_complete,
+// ozhimka_complete_indexed and ozhimka_complete_list 21 KiB, ozhimka_read_chart 17 KiB, ozhimka_matching 2 KiB, every other call 1 KiB.
 //
 // Every answer is a code, a place and an other. Code 0 is granted; any other refuses, and then
-//   - a marking or a snapshot that was handed in is handed back as it was;
+//   - a marking or a snapshot that was handed in is handed back as it was; but where ozhimka_complete_list refuses within the list, it hands
+//     back the snapshot reached;
 //   - no byte of lent room is written.
 // Place and other are 0 where the list below names nothing. Of several reasons the lowest code is given, in ozhimka_execute the first of
-// 14, 10, 32, 11, 12, 13, in ozhimka_complete the first of 20 to 26, 29, 27, 28, 30, in ozhimka_complete_indexed the first of 20 to 26, 34,
-// 28, 29, 30; within a code the lowest place, then the lowest other.
+// 14, 10, 32, 11, 12, 13, in ozhimka_complete the first of 20 to 26, 29, 27, 28, 30, in ozhimka_complete_indexed the first of 20 to 26,
+// 34, 28, 29, 30, in ozhimka_complete_list the first of 20 to 26, 34, 28, 38 and then the first refused completion's 29 or 30; within a
+// code the lowest place, then the lowest other.
 //
 // Chart image. Numbers of 16 bits, little-endian, and nothing behind the last:
 //   header       count of nodes N (1 to 128), count of relations K (0 to 4,096), 8, 8 + 4 N
@@ -77,8 +79,8 @@
 
 // The header's version. A new major number changes what a program written for the one before relies on; a new minor number adds to it.
 #define OZHIMKA_VERSION_MAJOR 3
-#define OZHIMKA_VERSION_MINOR 1
-#define OZHIMKA_VERSION "3.1"
+#define OZHIMKA_VERSION_MINOR 2
+#define OZHIMKA_VERSION "3.2"
 
 #ifdef __cplusplus
 extern "C" {
@@ -96,7 +98,8 @@ enum {
     OZHIMKA_MAX_CONDITIONS = 256,                // conditions of a book
     OZHIMKA_MAX_WORDS = 41024,                   // words of a book
     OZHIMKA_MAX_STACK = 16,                      // values that a condition's text holds at once
-    OZHIMKA_MAX_ROLES = 8                        // roles, which are 0 to 7
+    OZHIMKA_MAX_ROLES = 8,                       // roles, which are 0 to 7
+    OZHIMKA_MAX_LIST = 4096                      // stages of a list of completions
 };
 
 // The chart image: sizes in bytes, flags and roles of a node, kinds of a relation.
@@ -202,12 +205,13 @@ enum ozhimka_code {
     OZHIMKA_ORDER_UNFIT = 27,      // no fit order of the stage: it lists not just the rules that count for it, each once, or lists one before
                                    // another that comes before it
     OZHIMKA_MARK_ABOVE = 28,       // a mark of the snapshot at or above M is yes
-    OZHIMKA_NO_SUCH_STAGE = 29,    // the stage is not below S
-    OZHIMKA_STAGE_CLOSED = 30,
+    OZHIMKA_NO_SUCH_STAGE = 29,    // the stage is not below S; in a list place: its position, from 0
+    OZHIMKA_STAGE_CLOSED = 30,     // in a list place: the stage's position, from 0
     OZHIMKA_ORDER_ROOM = 31,       // room for the order too short; place: numbers needed, which is how many rules count for the stage
     OZHIMKA_NOT_PERMITTED = 32,    // the event names roles and this is none of them, or the role is above 7
     OZHIMKA_INDEX_UNFIT = 34,      // the index is not the one of this book
-    OZHIMKA_INDEX_ROOM = 35        // room for the index too short; place: bytes needed
+    OZHIMKA_INDEX_ROOM = 35,       // room for the index too short; place: bytes needed
+    OZHIMKA_LONG_LIST = 38         // a list of over 4,096 stages; place: how many, or 4,294,967,295 for more than that
 };
 
 struct ozhimka_answer {
@@ -262,12 +266,19 @@ struct ozhimka_settled {
     struct ozhimka_snapshot snapshot;
 };
 
+// What a list of completions gives: how many of it were granted, and the snapshot after these.
+struct ozhimka_list_completion {
+    struct ozhimka_answer answer;
+    uint32_t granted;
+    struct ozhimka_snapshot snapshot;
+};
+
 // The sizes that the archive is built with: a compiler that lays the structs out in another way stops here.
 typedef char ozhimka_sizes[sizeof(size_t) == 8 && sizeof(struct ozhimka_answer) == 12 && sizeof(struct ozhimka_chart) == 2632
                                    && sizeof(struct ozhimka_marking) == 24 && sizeof(struct ozhimka_snapshot) == 256
                                    && sizeof(struct ozhimka_reading) == 2672 && sizeof(struct ozhimka_step) == 40
                                    && sizeof(struct ozhimka_open_count) == 20 && sizeof(struct ozhimka_finish) == 16
-                                   && sizeof(struct ozhimka_settled) == 268
+                                   && sizeof(struct ozhimka_settled) == 268 && sizeof(struct ozhimka_list_completion) == 272
                                ? 1
                                : -1];
 
@@ -371,6 +382,15 @@ struct ozhimka_answer ozhimka_build_index(const uint8_t *book, size_t length, ui
 struct ozhimka_settled ozhimka_complete_indexed(const uint8_t *book, size_t length, const uint8_t *index, size_t bytes,
                                                 struct ozhimka_snapshot snapshot, uint32_t stage);
 
+// Completes `count` stages through the index, one after another, and stops at the first that is refused: the snapshot and the number
+// granted are those of as many calls of ozhimka_complete_indexed, each with the snapshot of the one before. Book and index are checked once.
+// An empty list is granted and changes nothing.
+// Refuses with the first that holds of 20 to 26, 34 (unfit index), 28 (a mark above), 38 (over OZHIMKA_MAX_LIST stages, place: how many); then
+// none was granted and the snapshot is handed back as it was. Within the list it refuses with 29 (no such stage) or 30 (stage closed), with
+// the refused stage's position in the list, from 0, as place, which is also the number granted; and hands back the snapshot reached.
+struct ozhimka_list_completion ozhimka_complete_list(const uint8_t *book, size_t length, const uint8_t *index, size_t bytes,
+                                                     struct ozhimka_snapshot snapshot, const uint32_t *stages, size_t count);
+
 // The counts in a book's header, which is the first OZHIMKA_BOOK_HEADER bytes.
 static inline struct ozhimka_counts ozhimka_book_counts(const uint8_t *header)
 {
@@ -456,6 +476,7 @@ static inline const char *ozhimka_reason(uint32_t code)
     case OZHIMKA_NOT_PERMITTED: return "the event names other roles, or the role is none of 0 to 7";
     case OZHIMKA_INDEX_UNFIT: return "the index is not this book's";
     case OZHIMKA_INDEX_ROOM: return "the room for the index is too short (place: bytes needed)";
+    case OZHIMKA_LONG_LIST: return "the list has over 4,096 stages (place: how many)";
     default: return "no code of this library";
     }
 }

@@ -11,6 +11,7 @@ ghost use Rattle.judge.specs.Checking.{checking, checkedRoom};
 ghost use Rattle.runner.specs.Completing.{completing};
 ghost use Rattle.indexed.specs.Building.{building, builtRoom};
 ghost use Rattle.indexed.specs.Indexed.{completingIndexed};
+ghost use Rattle.indexed.specs.InList.{completingList};
 use book::Snapshot;
 use chart::Reading;
 use deriver::Matched;
@@ -18,6 +19,7 @@ use graph::Marking;
 use graph::steps::Finished;
 use graph::steps::OpenCount;
 use graph::steps::Step;
+use indexed::ListCompletion;
 use paper::Answer;
 use paper::MAX_EVENTS;
 use runner::Completion;
@@ -191,4 +193,16 @@ pub extern "C" fn ozhimka_complete_indexed(
     ensures { λ r. ⌜ r ≡ completingIndexed (now (book .entry)) (now (index .entry)) snapshot stage ⌝ }
 {
     indexed::complete(book, index, snapshot, stage)
+}
+
+#[no_mangle]
+pub extern "C" fn ozhimka_complete_list(
+    book: &[u8],
+    index: &[u8],
+    snapshot: Snapshot,
+    list: &[u32],
+) -> ListCompletion
+    ensures { λ r. ⌜ r ≡ completingList (now (book .entry)) (now (index .entry)) snapshot (now (list .entry)) ⌝ }
+{
+    indexed::complete_list(book, index, snapshot, list)
 }
