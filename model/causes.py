@@ -4,13 +4,13 @@
 # only the model knows; a request whose expected line says otherwise is a mistake here and stops the program.
 
 import ozhimka as model
-from chances import (NO_ROLES, random_chart_image, random_flat, random_nodes, random_order, random_relations, random_snapshot,
+from chances import (NO_ROLES, in_turn, random_chart_image, random_flat, random_nodes, random_order, random_relations, random_snapshot,
                      sound_book)
 from ozhimka import (AND, BECOME_NO, BECOME_YES, CLEAR, COMPLETED, CONDITION, EXCLUDE, GRANTED, INCLUDE, MILESTONE, NONE, NOT,
                      OR, SET, Book, FlatChart, Marking, Rule, book_image, chart_image, on_completion, without_trigger)
 from protocol import (BAD, MAX_BODY, MAX_ROOM_BYTES, MAX_ROOM_NUMBERS, bytes16, bytes32, check_request, complete_request,
                       count_request, derive_request, execute_request, finished_request, index_request, indexed_request,
-                      listing_request, matching_request, read_request)
+                      list_request, listing_request, matching_request, read_request)
 
 FREE = (NONE, 4)
 HUGE = 0xFFFFFFFF
@@ -415,6 +415,7 @@ def book_calls(rng, answer, image, rules):
     yield answer, index_request(rng.choice((0, 8, 100, 1000)), image)
     index = rng.choice((b'', INDEX_OF_SMALL, rng.randbytes(8)))
     yield answer, indexed_request(rng.choice((0, 1, 64, HUGE)), snapshot, index, image)
+    yield answer, list_request(snapshot, [rng.choice((0, 1, 64, HUGE))] * rng.choice((0, 1, 3)), index, image)
 
 
 def of_text(rng, answer, words, marks):
@@ -937,6 +938,69 @@ def indexed_causes(rng):
             yield plain(28), indexed_request(rng.choice((0, book.stages)), [True] * 256, index, image)
 
 
+# ---- lists
+
+def lasting():
+    """Three stages that stay open, and a fourth that the second closes and the third opens. Mark 4 is set by the completion of 0 and cleared
+    by that of 1; mark 5 is set where it became yes, mark 6 where it became no; stage 2 clears both."""
+    rules = [on_completion(0, SET, 4), on_completion(1, CLEAR, 4), Rule(BECOME_YES, 0, SET, 0, 4, 0, 5), Rule(BECOME_NO, 0, SET, 0, 4, 0, 6),
+             on_completion(1, CLEAR, 3), on_completion(2, SET, 3), Rule(BECOME_YES, 0, SET, 0, 3, 0, 7)]
+    return Book(4, 8, rules, [], [])
+
+
+def list_causes(rng):
+    """Codes 29 and 30 within a list, with the place and the snapshot reached; what is granted whole."""
+    book = lasting()
+    image, index, opened = book_image(book), model.index_image(book), [mark < 4 for mark in range(256)]
+    for answer, stages in ((GRANTED, []), (GRANTED, [0]), (GRANTED, [3]), (GRANTED, [0, 1, 2]), (GRANTED, [0, 0, 0]), (GRANTED, [1, 2, 3]),
+                           (GRANTED, [3, 1, 2, 3, 0]), (plain(30, 1), [1, 3]), (plain(30, 2), [0, 1, 3, 0]), (plain(30, 1), [1, 3, 9]),
+                           (plain(30, 3), [1, 2, 1, 3, 2]), (plain(29, 0), [4]), (plain(29, 0), [HUGE, 0]), (plain(29, 1), [0, 4]),
+                           (plain(29, 1), [1, 64, 3]), (plain(29, 2), [0, 1, 65536, 2]), (plain(29, 2), [0, 0, 256]),
+                           (plain(29, 3), [0, 1, 2, 1 << 31]), (plain(29, 1), [2, 70000, 3])):
+        granted, reached = in_turn(image, index, opened, stages)
+        assert model.complete_list(image, index, opened, stages) == (answer, granted, reached) and granted == (answer[1] if answer[0] else len(stages))
+        yield answer, list_request(opened, stages, index, image)
+    closed = [mark == 3 for mark in range(256)]
+    yield plain(30, 0), list_request([False] * 256, [0], index, image)
+    yield plain(30, 1), list_request(closed, [3, 0, 3], index, image)
+    yield plain(29, 0), list_request([False] * 256, [4, 0], index, image)  # before 30
+    # become yes and become no are judged against the start of each completion, not of the list: each mark below 8 at each start
+    for marks in range(16):
+        snapshot = [mark < 4 or mark < 8 and marks >> (mark - 4) & 1 == 1 for mark in range(256)]
+        for stages in ([0, 1], [1, 0], [0, 0], [1, 1], [0, 1, 0], [1, 0, 1], [1, 2, 1], [2, 1, 2]):
+            yield GRANTED, list_request(snapshot, stages, index, image)
+
+
+def list_order_causes(rng):
+    """Codes 20 to 26, 34, 28 and 38 in their order, before the list and with none granted; the longest list, and one more."""
+    book = lasting()
+    image, index, opened = book_image(book), model.index_image(book), [mark < 4 for mark in range(256)]
+    above = [mark < 4 or mark == rng.choice((8, 255)) for mark in range(256)]
+    above[8] = True
+    for stages in ([], [0], [9], [0, 3], [4] * 4097):
+        yield plain(28), list_request(above, stages, index, image)  # before 38, 29 and 30
+        yield plain(34), list_request(rng.choice((above, opened)), stages, rng.choice((index[:-1], index + b'\0', b'')), image)
+        yield plain(22), list_request(above, stages, index, image[:-1])
+    for mark in (8, 9, 63, 64, 128, 254, 255):
+        yield plain(28), list_request([m < 4 or m == mark for m in range(256)], [0, 1], index, image)
+    for wrong in rng.sample(list(unfit_indexes(rng, book)), 24):
+        yield plain(34), list_request(opened, rng.choice(([], [0], [0, 1, 2])), wrong, image)
+    for length in (4095, 4096):
+        yield GRANTED, list_request(opened, [rng.choice((0, 2)) for _ in range(length)], index, image)
+        yield plain(29, length - 1), list_request(opened, [2] * (length - 1) + [4], index, image)
+        yield plain(30, length - 1), list_request([mark < 3 for mark in range(256)], [0] * (length - 1) + [3], index, image)
+    for length in (4097, 4098, 8192, MAX_ROOM_NUMBERS):
+        yield plain(38, length), list_request(opened, [rng.choice((0, 4)) for _ in range(length)], index, image)  # before 29
+        yield plain(38, length), list_request([False] * 256, [0] * length, index, image)  # before 30
+    for none in (Book(0, 0, [], [], []), Book(0, 3, [Rule(BECOME_YES, 0, SET, 0, 1, 0, 2)], [], [])):
+        for answer, stages in ((GRANTED, []), (plain(29, 0), [0]), (plain(38, 4097), [0] * 4097)):
+            yield answer, list_request([mark < none.marks for mark in range(256)], stages, model.index_image(none), book_image(none))
+    for book in indexed_books(rng):
+        full = [mark < book.marks for mark in range(256)]
+        yield None, list_request(full, list(range(book.stages)), model.index_image(book), book_image(book))
+        yield None, list_request(full, list(range(book.stages)) * 2, model.index_image(book), book_image(book))
+
+
 def running_order_causes(rng):
     """Books written against their order, where the scan has to go back."""
     for length in (2, 3, 7, 20):
@@ -989,7 +1053,7 @@ def firing_causes(rng):
 def bad_requests(rng):
     """Unknown operations and bodies too short for their fields; the program goes on."""
     chart, start = model.empty_chart(1), model.empty_marking()
-    for operation in (b'\x00', b'\x0b', b'\x11', b'\x13', b'\xff'):
+    for operation in (b'\x00', b'\x0c', b'\x11', b'\x13', b'\xff'):
         yield BAD, operation
         yield BAD, operation + rng.randbytes(20)
     whole = (execute_request(chart, start, 0, 0), count_request(chart, start), finished_request(chart, start),
@@ -1010,6 +1074,11 @@ def bad_requests(rng):
         yield BAD, body[:41]
         yield BAD, body[:40]
         yield BAD, body[:1]
+    body = list_request([False] * 256, [1, 2, 3], bytes(8), b'')
+    for length in (1, 36, 37, 40, 48, 49, 52, 53, len(body) - 1):
+        yield BAD, body[:length]
+    yield plain(20), list_request([False] * 256, [], b'', b'')
+    yield plain(20), body
     yield BAD, b'\x09'
     yield BAD, index_request(0, b'')[:-1]
     yield plain(20), index_request(0, b'')
@@ -1032,6 +1101,13 @@ def request_limits(rng):
     for length in (len(INDEX_OF_SMALL) + len(image) + 1, 1 << 31, HUGE):
         yield BAD, with_number32(whole, 37, length)
     yield plain(20), with_number32(whole, 37, len(INDEX_OF_SMALL) + len(image))  # the book taken for a part of the index
+    whole = list_request([True] + [False] * 255, [0, 0], INDEX_OF_SMALL, image)
+    yield GRANTED, whole
+    for length in (MAX_ROOM_NUMBERS + 1, 1 << 30, (1 << 30) + 2, HUGE):
+        yield BAD, with_number32(whole, 33, length)
+    for length in (len(INDEX_OF_SMALL) + len(image) + 1, 1 << 31, HUGE):
+        yield BAD, with_number32(whole, 45, length)
+    yield BAD, list_request([True] + [False] * 255, [0] * (MAX_ROOM_NUMBERS + 1), INDEX_OF_SMALL, image)
     filling = MAX_BODY - len(indexed_request(0, [False] * 256, b'', image))
     yield plain(34), indexed_request(0, [True] + [False] * 255, INDEX_OF_SMALL + bytes(filling - len(INDEX_OF_SMALL)), image)
     order = [0] * MAX_ROOM_NUMBERS
@@ -1116,6 +1192,16 @@ def largest_indexes(rng):
     image, index = book_image(spread), model.index_image(spread)
     yield GRANTED, index_request(len(index), image)
     yield GRANTED, indexed_request(63, [mark < 64 for mark in range(256)], index, image)
+
+
+def largest_lists(rng):
+    """256 completions of a derived book of 64 events in one call: no event has an exclude or a milestone, and all are executed."""
+    chart = random_flat(rng, 64, 0.02)._replace(excludes=[set() for e in range(64)], milestones=[set() for e in range(64)])
+    everyone, image = set(range(64)), book_image(model.derived_book(chart))
+    snapshot = model.matching(chart, Marking(everyone, set(), everyone))[1]
+    stages = [rng.randrange(64) for _ in range(256)]
+    yield GRANTED, list_request(snapshot, stages, model.index_of(image), image)
+    yield plain(29, 255), list_request(snapshot, stages[1:] + [64], model.index_of(image), image)
 
 
 def largest_hand_made(rng):
@@ -1230,5 +1316,5 @@ def listing_causes(rng):
 CAUSES = (header_causes, node_causes, group_causes, conflict_causes, accepted_charts, charts_with_roles, unfit_causes, step_causes,
           role_causes, marking_causes, derive_causes, book_header_causes, rule_causes, condition_causes, loop_causes, stage_loop_causes,
           looping_stage_causes, whole_book_causes, clash_causes, order_causes, order_room_causes, pair_causes, index_room_causes,
-          unfit_index_causes, indexed_causes, running_order_causes, firing_causes, bad_requests, request_limits, listing_causes)
-LARGEST = (largest_charts, largest_derivings, largest_derived_book, largest_indexes, largest_hand_made, completions_with_conditions, wide_conditions)
+          unfit_index_causes, indexed_causes, list_causes, list_order_causes, running_order_causes, firing_causes, bad_requests, request_limits, listing_causes)
+LARGEST = (largest_charts, largest_derivings, largest_derived_book, largest_indexes, largest_lists, largest_hand_made, completions_with_conditions, wide_conditions)

@@ -3,7 +3,7 @@
 import ozhimka as model
 from ozhimka import AND, NONE, NOT, OR, Book, Marking, Rule
 from protocol import (FLAT_BYTES, check_request, complete_request, count_request, derive_request, execute_request,
-                      finished_request, index_request, indexed_request, listing_request, matching_request, read_request)
+                      finished_request, index_request, indexed_request, list_request, listing_request, matching_request, read_request)
 
 
 def some(rng, population, chance):
@@ -495,6 +495,42 @@ def indexes(rng):
                 assert model.complete_indexed(image, index, snapshot, stage) == along
 
 
+def a_list(rng, image, index, snapshot, length):
+    """Stages to complete one after another: mostly open ones, so that the list goes on; now and then one that is closed or that is none."""
+    stages, count = [], model.number32(image, 0)
+    for _ in range(length):
+        opened = [stage for stage in range(count) if snapshot[stage]]
+        if opened and rng.random() < 0.95:
+            stages.append(rng.choice(opened))
+            snapshot = model.complete_indexed(image, index, snapshot, stages[-1])[1]
+        else:
+            stages.append(a_stage(rng, count))
+    return stages
+
+
+def in_turn(image, index, snapshot, stages):
+    """One call through the index after another, stopping at the first that is refused: how many were granted, and the snapshot there."""
+    for granted, stage in enumerate(stages):
+        answer, snapshot = model.complete_indexed(image, index, snapshot, stage)
+        if answer != model.GRANTED:
+            return granted, snapshot
+    return len(stages), snapshot
+
+
+def lists(rng):
+    """A list of a sound book's completions, and the same with the index disturbed or a mark above."""
+    book = rng.choice((sound_book, crossed_book))(rng)
+    image, index = model.book_image(book), model.index_image(book)
+    for _ in range(2):
+        snapshot = random_snapshot(rng, book.marks)
+        stages = a_list(rng, image, index, snapshot, rng.choice((0, 1, 2, 3, 5, 8, 13)))
+        answer, granted, reached = model.complete_list(image, index, snapshot, stages)
+        assert (granted, reached) == in_turn(image, index, snapshot, stages)
+        yield list_request(snapshot, stages, index, image)
+    yield list_request(snapshot, stages, disturbed_index(rng, book, index), image)
+    yield list_request(random_snapshot(rng, rng.choice((book.marks, 256))), stages, index, image)
+
+
 def accepted_image(rng):
     """A random chart that the reader accepts."""
     while True:
@@ -525,8 +561,8 @@ def run_of_both(rng, chart, marking, steps_to_go):
     book, rules = model.book_image(derived), len(derived.rules)
     yield derive_request(len(book), chart)
     yield check_request(rules, rng.randrange(chart.count), book)
-    orders, freely = {}, rules < 100 and rng.random() < 0.3
-    snapshot = model.matching(chart, marking)[1]
+    orders, taken, freely = {}, [], rules < 100 and rng.random() < 0.3
+    first = snapshot = model.matching(chart, marking)[1]
     for _ in range(steps_to_go):
         opened = model.open_events(chart, marking)
         event = rng.choice(opened) if opened and rng.random() < 0.8 else rng.randrange(chart.count)
@@ -542,10 +578,12 @@ def run_of_both(rng, chart, marking, steps_to_go):
         completed, snapshot = model.complete(book, orders[event], snapshot, event)
         assert (stepped[0] in (11, 12, 13) and completed[0] == 30) or stepped == completed == model.GRANTED
         assert snapshot == model.matching(chart, marking)[1]
+        taken.append(event)
         if rng.random() < 0.4:
             yield indexed_request(event, model.matching(chart, before)[1], model.index_of(book), book)
         if rng.random() < 0.2:
             yield rng.choice((count_request, finished_request, matching_request))(chart, marking)
+    yield list_request(first, taken, model.index_of(book), book)  # the whole run as one list, which stops at the first refused step
 
 
 def with_bytes_changed(rng, image):
@@ -590,7 +628,8 @@ def damaged_books(rng):
     snapshot = random_snapshot(rng, book.marks)
     yield rng.choice((lambda: check_request(len(book.rules), stage, image), lambda: index_request(rng.choice((0, 1000)), image),
                       lambda: complete_request(stage, snapshot, model.counted(book, stage), image),
-                      lambda: indexed_request(stage, snapshot, rng.randbytes(8 + 8 * book.stages), image)))()
+                      lambda: indexed_request(stage, snapshot, rng.randbytes(8 + 8 * book.stages), image),
+                      lambda: list_request(snapshot, [stage] * rng.randrange(3), rng.randbytes(8 + 8 * book.stages), image)))()
 
 
 def damaged_flats(rng):
@@ -606,6 +645,6 @@ def damaged_flats(rng):
     yield bytes(body) if body[0] == 2 else bytes(body[:-8])
 
 
-SMALL = (charts, wild_checks, wild_completions, circles, crowded_books, sound_books, sound_runs, indexes, damaged_charts,
-         badly_flagged, damaged_books, listings)
+SMALL = (charts, wild_checks, wild_completions, circles, crowded_books, sound_books, sound_runs, indexes, lists,
+         damaged_charts, badly_flagged, damaged_books, listings)
 WIDE = (steps, derivings, side_by_side, damaged_flats)  # their requests carry a flat chart of 2,628 bytes

@@ -627,6 +627,29 @@ def complete_indexed(image, index, snapshot, stage):
     return GRANTED, gone_through(book, running_order(book, stage), snapshot, stage)
 
 
+# ---- A list of completions in one call
+
+def complete_list(image, index, snapshot, stages):
+    """The answer, how many were granted, and the snapshot reached: one completion after another, stopping at the first that is refused,
+    which is named by its place in the list."""
+    try:
+        book = judged_book(image)
+        refuse_if(34, index != index_of(image))
+        refuse_if(28, any(snapshot[book.marks:]))
+        if len(stages) > 4096:
+            raise Refused(38, len(stages))
+    except Refused as refused:
+        return refused.answer, 0, snapshot
+    orders = {stage: running_order(book, stage) for stage in set(stages) if stage < book.stages}
+    for place, stage in enumerate(stages):
+        if stage >= book.stages:
+            return (29, place, 0), place, snapshot
+        if not snapshot[stage]:
+            return (30, place, 0), place, snapshot
+        snapshot = gone_through(book, orders[stage], snapshot, stage)
+    return GRANTED, len(stages), snapshot
+
+
 # ---- The program "book listing"
 
 def listing(image):
@@ -787,6 +810,27 @@ def index_examples():
     assert index_image(Book(0, 1, [without_trigger(NO_CONDITION, 0, SET, 0)], [], [])) == bytes32(0) + bytes32(1)
 
 
+def list_examples():
+    """The paper's chart from its start: 0, 1 and then 0, which is closed by then. Then a mark that becomes yes in each of two completions."""
+    answer, chart, start = read_chart(PAPER_CHART)
+    image, snapshot = book_image(derived_book(chart)), matching(chart, start)[1]
+    index = index_of(image)
+    for stages, answer, granted, ends in (([], GRANTED, 0, 113), ([0], GRANTED, 1, 119), ([0, 1], GRANTED, 2, 238), ([0, 1, 0, 1], (30, 2, 0), 2, 238),
+                                          ([1, 0], (30, 0, 0), 0, 113), ([0, 2, 1], (29, 1, 0), 1, 119)):
+        given = complete_list(image, index, snapshot, stages)
+        assert given[:2] == (answer, granted) and worth(given[2]) == ends
+    assert complete_list(image, index[1:], [True] * 256, [9] * 5000)[:2] == ((34, 0, 0), 0)
+    assert complete_list(image, index, [True] * 256, [9] * 5000)[:2] == ((28, 0, 0), 0)
+    assert complete_list(image, index, snapshot, [9] * 4097) == ((38, 4097, 0), 0, snapshot)
+    assert complete_list(image, index, snapshot, [9] * 4096) == ((29, 0, 0), 0, snapshot)
+    # mark 1 is cleared by stage 0 and set by stage 2; mark 3 is set where mark 1 became yes, and cleared where it became no
+    turns = Book(3, 4, [on_completion(0, CLEAR, 1), on_completion(2, SET, 1), Rule(BECOME_YES, AS_WRITTEN, SET, 0, 1, 0, 3),
+                        Rule(BECOME_NO, NEGATED, CLEAR, 0, 1, 0, 3)], [(0, 1)], [1])
+    image, snapshot = book_image(turns), [True, True, True] + [False] * 253
+    for stages, ends in (([0], 5), ([2], 7), ([0, 2], 15), ([0, 2, 2], 15), ([0, 2, 0], 5), ([0, 2, 0, 2, 0], 5)):
+        assert worth(complete_list(image, index_of(image), snapshot, stages)[2]) == ends
+
+
 def orders_agree():
     """Small random books without a loop, also over all rules, get one running order from both functions that make it."""
     rng = random.Random(1)
@@ -817,5 +861,6 @@ if __name__ == '__main__':
         role_examples()
         stage_examples()
         index_examples()
+        list_examples()
         orders_agree()
         print('the settled examples hold')

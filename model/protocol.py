@@ -75,6 +75,11 @@ def indexed_request(stage, snapshot, index, image):
     return b'\x0a' + bytes32(stage) + snapshot_bytes(snapshot) + bytes32(len(index)) + index + image
 
 
+def list_request(snapshot, stages, index, image):
+    return (b'\x0b' + snapshot_bytes(snapshot) + bytes32(len(stages)) + b''.join(bytes32(stage) for stage in stages)
+            + bytes32(len(index)) + index + image)
+
+
 def listing_request(image):
     return bytes([LISTING]) + image
 
@@ -138,6 +143,8 @@ def line_for(body):
         return index_line(body) if len(body) >= 5 else BAD
     if operation == 10:
         return indexed_line(body) if len(body) >= 41 else BAD
+    if operation == 11:
+        return list_line(body) if len(body) >= 37 else BAD
     if operation == LISTING:
         return listing_line(body)
     return BAD
@@ -212,6 +219,16 @@ def indexed_line(body):
         return BAD
     answer, after = model.complete_indexed(body[41 + length:], body[41:41 + length], snapshot, stage)
     return line('indexed', answer, snapshot_words(after))
+
+
+def list_line(body):
+    snapshot, count = snapshot_at(body, 1), model.number32(body, 33)
+    at = 41 + 4 * count  # where the index begins
+    if count > MAX_ROOM_NUMBERS or len(body) < at or len(body) - at < model.number32(body, at - 4):
+        return BAD
+    stages, end = [model.number32(body, i) for i in range(37, at - 4, 4)], at + model.number32(body, at - 4)
+    answer, granted, after = model.complete_list(body[end:], body[at:end], snapshot, stages)
+    return line('list', answer, [granted] + snapshot_words(after))
 
 
 def listing_line(body):

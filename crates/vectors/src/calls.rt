@@ -21,6 +21,9 @@ const ORDER: usize = FIELDS + 4 + SNAPSHOT + 4;
 // Where the index starts in a request to complete through it: after the stage, the snapshot and the index's length.
 const INDEX: usize = FIELDS + 4 + SNAPSHOT + 4;
 
+// Where the list starts in a request to complete one: after the snapshot and the number of its stages.
+const STAGES: usize = FIELDS + SNAPSHOT + 4;
+
 // The image is all that follows the operation.
 pub fn read(body: &[u8], line: &mut [u8; LINE]) -> usize {
     if body.len() < FIELDS {
@@ -164,6 +167,32 @@ pub fn indexed(body: &[u8], line: &mut [u8; LINE]) -> usize {
     let end = INDEX + n;
     let completion = indexed::complete(&body[end..], &body[INDEX..end], snapshot, stage);
     let at = show::answer(line, b"indexed", completion.answer);
+    show::snapshot(line, at, completion.snapshot)
+}
+
+// The book is all that follows the index, which follows the list and its own length.
+pub fn complete_list(body: &[u8], line: &mut [u8; LINE]) -> usize {
+    if body.len() < STAGES {
+        return show::bad_request(line);
+    }
+    let n = wire::u32_at(body, STAGES - 4) as usize;
+    if MAX_NUMBERS < n {
+        return show::bad_request(line);
+    }
+    let start = STAGES + 4 * n + 4;
+    if body.len() < start {
+        return show::bad_request(line);
+    }
+    let bytes = wire::u32_at(body, start - 4) as usize;
+    if body.len() - start < bytes {
+        return show::bad_request(line);
+    }
+    let snapshot = fields::snapshot_at(body, FIELDS);
+    let stages = fields::stages_at(body, STAGES, n);
+    let end = start + bytes;
+    let completion = rooms::complete_list(&body[end..], &body[start..end], snapshot, &stages, n);
+    let at = show::answer(line, b"list", completion.answer);
+    let at = show::number(line, at, completion.granted as u64);
     show::snapshot(line, at, completion.snapshot)
 }
 

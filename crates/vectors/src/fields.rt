@@ -1,4 +1,4 @@
-// Decoding the fields of a request: flat charts, markings, snapshots, orders.
+// Decoding the fields of a request: flat charts, markings, snapshots, orders, lists.
 ghost use Prim.Native.Nat.{_+_, _*_, _≤_};
 ghost use lib.ListN.{length};
 use crate::rooms::MAX_NUMBERS;
@@ -106,4 +106,17 @@ pub fn order_at(body: &[u8], at: usize, n: usize) -> [u16; MAX_NUMBERS]
         i += 1;
     }
     order
+}
+
+// The n stages of a list, at the start of the array.
+pub fn stages_at(body: &[u8], at: usize, n: usize) -> [u32; MAX_NUMBERS]
+    requires { ⌜ (n ≤ 10000) × (at + 4 * n ≤ length (now body)) ⌝ }
+{
+    let mut stages = [0u32; MAX_NUMBERS];
+    let mut i = 0;
+    while i < n {
+        stages[i] = wire::u32_at(body, at + 4 * i);
+        i += 1;
+    }
+    stages
 }

@@ -29,6 +29,7 @@ fn serve(body: &[u8], line: &mut [u8; LINE]) -> usize {
         8 => calls::complete(body, line),
         9 => calls::index(body, line),
         10 => calls::indexed(body, line),
+        11 => calls::complete_list(body, line),
         18 => calls::list(body, line),
         _ => show::bad_request(line),
     }

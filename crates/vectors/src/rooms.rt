@@ -3,10 +3,11 @@ ghost use Prim.Native.Nat.{_≤_};
 ghost use lib.ListN.{length};
 use book::Snapshot;
 use graph::FlatChart;
+use indexed::ListCompletion;
 use paper::Answer;
 use runner::Completion;
 
-// The longest room for a book or an index, in bytes, and for an order, in numbers.
+// The longest room for a book or an index, in bytes, and for an order or a list, in numbers.
 pub const MAX_BYTES: usize = 200000;
 
 pub const MAX_NUMBERS: usize = 10000;
@@ -72,4 +73,29 @@ pub fn complete(
     requires { ⌜ n ≤ 10000 ⌝ }
 {
     complete_part(book, order, n, snapshot, stage)
+}
+
+fn list_part(
+    book: &[u8],
+    index: &[u8],
+    snapshot: Snapshot,
+    stages: &[u32],
+    n: usize,
+) -> ListCompletion
+    requires { ⌜ n ≤ length (now stages) ⌝ }
+{
+    indexed::complete_list(book, index, snapshot, &stages[..n])
+}
+
+// Completes the first n stages one after another.
+pub fn complete_list(
+    book: &[u8],
+    index: &[u8],
+    snapshot: Snapshot,
+    stages: &[u32; MAX_NUMBERS],
+    n: usize,
+) -> ListCompletion
+    requires { ⌜ n ≤ 10000 ⌝ }
+{
+    list_part(book, index, snapshot, stages, n)
 }

@@ -1,0 +1,14 @@
+-- `vectors::rooms::list_part` meets its contract. Assumes nothing.
+use borrow.Author.Needs.{needs}
+use lib.ListN.{length-take}
+use native.Mathlib.Omega.{arith}
+use Rattle.vectors.proofs.rooms.list_part.Statement.{statement}
+use Rattle.vectors.proofs.rooms.list_part.Tie as tie
+
+pub list-part-spec : {M : Type 1} → statement M
+list-part-spec =
+    tie.close
+    (tie.spec
+    (λ c. simp length-take (omega arith))
+    (λ c κs. search needs)
+    (λ c. search needs))
