@@ -1,4 +1,4 @@
-// Times each call of the library, of the plain C and of the leaner plain C on the same buffers, and prints three tables.
+// Times each call of the library, of the plain C and of the leaner plain C on the same buffers, and prints four tables.
 #define _POSIX_C_SOURCE 199309L
 #include "inputs.h"
 #include "lean.h"
@@ -9,7 +9,7 @@
 #include <string.h>
 #include <time.h>
 
-enum { ROUNDS = 9 };
+enum { ROUNDS = 9, LIST = 256 };
 static const double ROUND_SECONDS = 0.004;
 
 // ---- what both sides are called on
@@ -20,6 +20,7 @@ static size_t image_length, book_length, index_length, ordered; // how many rule
 static struct flat_chart chart;
 static struct marking marking;
 static struct snapshot snapshot;
+static uint32_t stages[LIST]; // a list of completions that are all granted
 static const uint32_t event = 1, role = 1; // the event is the stage that is checked and completed, too
 
 // the same chart, marking and snapshot under the library's names
@@ -31,7 +32,8 @@ _Static_assert(sizeof own_chart == sizeof chart && sizeof own_marking == sizeof 
                    && sizeof(struct ozhimka_reading) == sizeof(struct reading) && sizeof(struct ozhimka_step) == sizeof(struct step)
                    && sizeof(struct ozhimka_open_count) == sizeof(struct open_count)
                    && sizeof(struct ozhimka_finish) == sizeof(struct finish)
-                   && sizeof(struct ozhimka_settled) == sizeof(struct settled),
+                   && sizeof(struct ozhimka_settled) == sizeof(struct settled)
+                   && sizeof(struct ozhimka_list_completion) == sizeof(struct listed),
                "both sides pass as many bytes");
 
 static void share(void)
@@ -56,6 +58,7 @@ static union {
     struct open_count open_count;
     struct finish finish;
     struct settled settled;
+    struct listed listed;
 } plain_out;
 
 static union {
@@ -65,6 +68,7 @@ static union {
     struct ozhimka_open_count open_count;
     struct ozhimka_finish finish;
     struct ozhimka_settled settled;
+    struct ozhimka_list_completion listed;
 } own_out;
 
 static void plain_1(void) { plain_out.reading = plain_read_chart(image, image_length); }
@@ -91,6 +95,37 @@ static void own_9(void) { own_out.answer = ozhimka_build_index(book, book_length
 static void plain_10(void) { plain_out.settled = plain_complete_indexed(book, book_length, index_image, index_length, snapshot, event); }
 static void lean_10(void) { plain_out.settled = lean_complete_indexed(book, book_length, index_image, index_length, snapshot, event); }
 static void own_10(void) { own_out.settled = ozhimka_complete_indexed(book, book_length, index_image, index_length, own_snapshot, event); }
+static void plain_11(void) { plain_out.listed = plain_complete_list(book, book_length, index_image, index_length, snapshot, stages, LIST); }
+static void lean_11(void) { plain_out.listed = lean_complete_list(book, book_length, index_image, index_length, snapshot, stages, LIST); }
+static void own_11(void) { own_out.listed = ozhimka_complete_list(book, book_length, index_image, index_length, own_snapshot, stages, LIST); }
+
+// The same list, one call through the index after another; the result is put where that of the list stands.
+static void plain_12(void)
+{
+    struct settled next = {.snapshot = snapshot};
+    uint32_t granted = 0;
+    for (; granted < LIST && next.answer.code == 0; granted++)
+        next = plain_complete_indexed(book, book_length, index_image, index_length, next.snapshot, stages[granted]);
+    plain_out.listed = (struct listed){next.answer, granted, next.snapshot};
+}
+
+static void lean_12(void)
+{
+    struct settled next = {.snapshot = snapshot};
+    uint32_t granted = 0;
+    for (; granted < LIST && next.answer.code == 0; granted++)
+        next = lean_complete_indexed(book, book_length, index_image, index_length, next.snapshot, stages[granted]);
+    plain_out.listed = (struct listed){next.answer, granted, next.snapshot};
+}
+
+static void own_12(void)
+{
+    struct ozhimka_settled next = {.snapshot = own_snapshot};
+    uint32_t granted = 0;
+    for (; granted < LIST && next.answer.code == 0; granted++)
+        next = ozhimka_complete_indexed(book, book_length, index_image, index_length, next.snapshot, stages[granted]);
+    own_out.listed = (struct ozhimka_list_completion){next.answer, granted, next.snapshot};
+}
 
 // ---- whether both results are the same, field by field, since the bytes between fields may be any
 
@@ -133,6 +168,12 @@ static bool same_snapshot(void)
     return memcmp(plain_out.settled.snapshot.marks, own_out.settled.snapshot.marks, sizeof snapshot.marks) == 0;
 }
 
+static bool same_list(void)
+{
+    return plain_out.listed.granted == LIST && own_out.listed.granted == LIST
+           && memcmp(plain_out.listed.snapshot.marks, own_out.listed.snapshot.marks, sizeof snapshot.marks) == 0;
+}
+
 struct call {
     const char *name;
     void (*plain)(void), (*lean)(void), (*own)(void); // lean is null where plain C has no shortcut to take
@@ -153,6 +194,9 @@ static const struct call calls[] = {
 };
 
 enum { CALLS = sizeof calls / sizeof calls[0], CHECK = 6, LAST = CALLS - 1 };
+
+static const struct call list_call = {"complete_list", plain_11, lean_11, own_11, same_list},
+                         list_in_turn = {"complete_indexed, 256 calls", plain_12, lean_12, own_12, same_list};
 
 // ---- timing
 
@@ -332,6 +376,30 @@ static void print_to_check(const char *input, const struct times last[CALLS])
     }
 }
 
+// Loads a list of stages, each of which is open when its turn comes.
+static void load_list(void)
+{
+    struct snapshot now = snapshot;
+    for (uint32_t i = 0, stage = 0; i < LIST; i++) {
+        uint32_t tried = 0;
+        do
+            stage = (stage + 1) % chart.count;
+        while (!now.marks[stage] && ++tried < chart.count);
+        stages[i] = stage;
+        now = plain_complete_indexed(book, book_length, index_image, index_length, now, stage).snapshot;
+    }
+}
+
+// 256 completions of a derived book of 64 events in one call, and in as many.
+static void print_lists(const char *input, size_t (*write)(uint8_t *, uint32_t))
+{
+    const struct times none = {0, 0, 0};
+    load_chart(write, 64);
+    load_list();
+    print_row(&list_call, input, LIST, none);
+    print_row(&list_in_turn, input, LIST, none);
+}
+
 static void print_books(const char *input, size_t (*write)(uint8_t *, uint32_t))
 {
     struct times before[CALLS] = {{0, 0, 0}};
@@ -351,6 +419,10 @@ int main(void)
     printf("\n| call | input, 64 events | to the check: plain C | leaner C | ozhimka |\n|---|---|---:|---:|---:|\n");
     print_to_check("all relations", full);
     print_to_check("sparse", sparse);
+    printf("\n");
+    print_header("completions");
+    print_lists("all relations but milestones", list_chart);
+    print_lists("sparse", sparse_chart);
     printf("\n");
     print_header("rules");
     print_books("layered", layered_book);

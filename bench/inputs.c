@@ -44,17 +44,28 @@ static uint32_t full_parent(uint32_t node, uint32_t n)
     return node == top ? NO_PARENT : node + 2 < top ? node + 2 : top;
 }
 
-size_t full_chart(uint8_t *image, uint32_t n)
+// With the kinds below `kinds`, and includes and excludes.
+static size_t wide_chart(uint8_t *image, uint32_t n, uint32_t kinds)
 {
     uint32_t top = 2 * n - 1, even = 2 * n - 2, odd = 2 * n - 3;
-    const uint32_t wide[7][3] = {{top, top, CONDITION}, {top, top, RESPONSE}, {top, top, MILESTONE}, {even, even, INCLUDE},
+    const uint32_t wide[7][3] = {{top, top, CONDITION}, {top, top, RESPONSE}, {top, top, kinds - 1}, {even, even, INCLUDE},
                                  {odd, odd, INCLUDE},   {even, odd, EXCLUDE}, {odd, even, EXCLUDE}};
     uint8_t *at = put_chart_header(image, 2 * n, n * n);
     for (uint32_t node = 0; node < 2 * n; node++)
         at = put_node(at, node, full_parent(node, n), node < n ? INCLUDED : 0);
     for (uint32_t i = 0; i < n * n; i++)
-        at = i < 7 ? put_relation(at, wide[i][0], wide[i][1], wide[i][2]) : put_relation(at, i / n, i % n, i % INCLUDE);
+        at = i < 7 ? put_relation(at, wide[i][0], wide[i][1], wide[i][2]) : put_relation(at, i / n, i % n, i % kinds);
     return (size_t)(at - image);
+}
+
+size_t full_chart(uint8_t *image, uint32_t n)
+{
+    return wide_chart(image, n, INCLUDE);
+}
+
+size_t list_chart(uint8_t *image, uint32_t n)
+{
+    return wide_chart(image, n, MILESTONE);
 }
 
 static uint8_t *put_sparse(uint8_t *at, uint32_t e, uint32_t n)

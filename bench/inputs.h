@@ -11,6 +11,9 @@ enum { CHART_BYTES = 25096, BOOK_BYTES = 167968, ORDER_NUMBERS = 8384, INDEX_BYT
 // milestone of every event, and includes or excludes it. Every node names a role, event 1 role 1. Gives its length.
 size_t full_chart(uint8_t *image, uint32_t n);
 
+// The same without milestones, so that some events stay open however many are completed. Gives its length.
+size_t list_chart(uint8_t *image, uint32_t n);
+
 // A chart of n events, four to a group, with two or three relations to an event. Every node names a role, event 1 role 1. Gives its length.
 size_t sparse_chart(uint8_t *image, uint32_t n);
 

@@ -709,19 +709,41 @@ static struct answer judge_indexed(const uint8_t *image, size_t length, const ui
     return any_above(book, snapshot) ? refused(28, 0, 0) : granted;
 }
 
+// Refusals 29 and 30.
+static struct answer open_stage(const struct book *book, const struct snapshot *snapshot, uint32_t stage, uint32_t place)
+{
+    if (stage >= book->stages)
+        return refused(29, place, 0);
+    return snapshot->marks[stage] ? granted : refused(30, place, 0);
+}
+
 struct settled plain_complete_indexed(const uint8_t *image, size_t length, const uint8_t *index, size_t bytes, struct snapshot snapshot,
                                       uint32_t stage)
 {
     struct settled settled = {.snapshot = snapshot};
     struct book book;
     settled.answer = judge_indexed(image, length, index, bytes, &snapshot, &book);
-    if (settled.answer.code != 0)
-        return settled;
-    if (stage >= book.stages)
-        settled.answer = refused(29, 0, 0);
-    else if (!snapshot.marks[stage])
-        settled.answer = refused(30, 0, 0);
-    else
+    if (settled.answer.code == 0)
+        settled.answer = open_stage(&book, &snapshot, stage, 0);
+    if (settled.answer.code == 0)
         go_through(&book, index, stage, &settled.snapshot);
     return settled;
+}
+
+struct listed plain_complete_list(const uint8_t *image, size_t length, const uint8_t *index, size_t bytes, struct snapshot snapshot,
+                                const uint32_t *stages, size_t count)
+{
+    struct listed listed = {.snapshot = snapshot};
+    struct book book;
+    listed.answer = judge_indexed(image, length, index, bytes, &snapshot, &book);
+    if (listed.answer.code == 0 && count > MAX_LIST)
+        listed.answer = refused(38, count < UINT32_MAX ? (uint32_t)count : UINT32_MAX, 0);
+    for (; listed.answer.code == 0 && listed.granted < count; listed.granted++) {
+        uint32_t stage = stages[listed.granted];
+        listed.answer = open_stage(&book, &listed.snapshot, stage, listed.granted);
+        if (listed.answer.code != 0)
+            break;
+        go_through(&book, index, stage, &listed.snapshot);
+    }
+    return listed;
 }

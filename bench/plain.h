@@ -53,6 +53,12 @@ struct settled {
     struct snapshot snapshot;
 };
 
+struct listed {
+    struct answer answer;
+    uint32_t granted;
+    struct snapshot snapshot;
+};
+
 struct reading plain_read_chart(const uint8_t *image, size_t length);
 struct step plain_execute(const struct flat_chart *chart, struct marking marking, uint32_t event, uint32_t role);
 struct open_count plain_count_open(const struct flat_chart *chart, struct marking marking);
@@ -65,5 +71,7 @@ struct settled plain_complete(const uint8_t *image, size_t length, const uint16_
 struct answer plain_build_index(const uint8_t *image, size_t length, uint8_t *room, size_t bytes);
 struct settled plain_complete_indexed(const uint8_t *image, size_t length, const uint8_t *index, size_t bytes, struct snapshot snapshot,
                                       uint32_t stage);
+struct listed plain_complete_list(const uint8_t *image, size_t length, const uint8_t *index, size_t bytes, struct snapshot snapshot,
+                                 const uint32_t *stages, size_t count);
 
 #endif

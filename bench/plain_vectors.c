@@ -16,11 +16,13 @@ enum { LISTING = 18, LISTED_CHART = 25097, LISTED_BOOK = 49152, AND = 65533, OR 
 #define COMPLETE lean_complete
 #define BUILD_INDEX lean_build_index
 #define COMPLETE_INDEXED lean_complete_indexed
+#define COMPLETE_LIST lean_complete_list
 #else
 #define CHECK plain_check
 #define COMPLETE plain_complete
 #define BUILD_INDEX plain_build_index
 #define COMPLETE_INDEXED plain_complete_indexed
+#define COMPLETE_LIST plain_complete_list
 #endif
 
 static uint8_t body[MAX_BODY];
@@ -208,6 +210,28 @@ static bool complete_indexed(const uint8_t *at, size_t length)
     return true;
 }
 
+static bool complete_list(const uint8_t *at, size_t length)
+{
+    if (length < 36 || number(at + 32, 4) > MAX_NUMBERS)
+        return false;
+    size_t count = number(at + 32, 4), start = 40 + 4 * count; // where the index begins
+    if (length < start || length - start < number(at + start - 4, 4))
+        return false;
+    size_t bytes = number(at + start - 4, 4), end = start + bytes;
+    uint8_t *index = filled(bytes);
+    memcpy(index, at + start, bytes);
+    uint32_t *stages = filled(4 * count);
+    for (size_t i = 0; i < count; i++)
+        stages[i] = (uint32_t)number(at + 36 + 4 * i, 4);
+    struct listed listed = COMPLETE_LIST(at + end, length - end, index, bytes, snapshot_at(at), stages, count);
+    say("list", listed.answer);
+    printf(" %" PRIu32, listed.granted);
+    say_snapshot(&listed.snapshot);
+    free(index);
+    free(stages);
+    return true;
+}
+
 // ---- the listing: what the program book_listing prints, as its length and its sum
 
 static uint32_t listed, listed_sum;
@@ -288,6 +312,8 @@ static bool serve(const uint8_t *at, size_t length)
         return build_index(at + 1, length - 1);
     case 10:
         return complete_indexed(at + 1, length - 1);
+    case 11:
+        return complete_list(at + 1, length - 1);
     case LISTING:
         listing(at + 1, length - 1);
         return true;
