@@ -22,6 +22,7 @@ MAX_CONDITIONS = 256
 MAX_WORDS = 41024
 MAX_STACK = 16
 MAX_ROLES = 8
+MAX_LIST = 4096
 CHART_HEADER = 8
 NODE_SIZE = 4
 RELATION_SIZE = 6
@@ -78,6 +79,7 @@ REFUSALS = {
     32: ('NOT_PERMITTED', 'the event names other roles, or the role is none of 0 to 7'),
     34: ('INDEX_UNFIT', "the index is not this book's: it was made for another book, or has been altered"),
     35: ('INDEX_ROOM', 'the index takes {place:,} bytes, more than there is room for'),
+    38: ('LONG_LIST', 'the list has {place:,} stages, and at most {MAX_LIST:,} are allowed'),
 }
 
 
