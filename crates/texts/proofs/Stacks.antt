@@ -1,140 +1,186 @@
--- An array of values as a stack, what a store at its top or under it makes of the stack, and what the evaluator's loop keeps. Assumes nothing.
-use Prim.Native.Nat.{ℕ, zero, suc, _+_, _-_, _*_, _<_, _≤_}
-use native.Mathlib.Numerals.{add-one}
+-- A stack of values as the digits of one number, what a word makes of the number, and what the evaluator's loop keeps. Assumes nothing.
+use Prim.Native.Nat.{ℕ, suc, _+_, _-_, _*_, _/_, _%_, _^_, _<_, _≤_}
+use native.Mathlib.Nat.{pow-suc, mod-eq-of-lt}
 use native.Mathlib.Omega.{arith}
-use mathlib.Core.Path.{_≡_, refl, sym, ap, _∙_}
-use mathlib.Core.Bool.{Bool, true, false}
+use mathlib.Core.Path.{_≡_, refl, ap, ap₂, _∙_}
+use mathlib.Core.Bool.{Bool, true, false, not, cond, _&&_, _||_}
 use mathlib.Core.List.{List, [], _∷_}
-use lib.ListN.{length, getD, set, length-set, replicate}
-use lib.Seq.{getD-set-same, getD-set-other}
+use lib.Bits.{bitAnd, bitOr, bitXor, and-block, or-block, xor-block, or-zero-r, xor-zero-r, and-mask, or-add-and, or-shifted}
+use lib.Pow.{pow-mono}
+use lib.ListN.{length}
+use mir.Val.{boolByte}
 use lib.Dec.{eqb}
 use borrow.Author.Tests.{eqb-true, ne-eqb}
 use Rattle.paper.specs.Limits.{maxMarks, maxStack, wordSize, andWord, orWord, notWord}
 use Rattle.general.specs.Cases.{cases, both}
+use Rattle.general.specs.Numbering.{byte-le}
 use Rattle.wire.specs.Wire.{u16At}
 use Rattle.book.specs.Text.{Snap, top1, top2, push, eval, top, holds}
-use Rattle.book.specs.GoodTexts.{follows, depthAfter, goodFrom, good, Legal, legal, follows-after}
+use Rattle.book.specs.GoodTexts.{follows, depthAfter, goodFrom, good, Legal, legal, follows-after, length-push, onWord}
 use Rattle.book.specs.Read.{wordsFrom, words-more, words-none, words-all}
 
--- the first d values of an array as a stack, the last of them on top
-unfoldable pub stackOf : List Bool → ℕ → List Bool
-stackOf vals zero = []
-stackOf vals (suc d) = getD vals d false ∷ stackOf vals d
+-- the values of a stack as the binary digits of a number, the top one lowest
+unfoldable pub bitsOf : List Bool → ℕ
+bitsOf [] = 0
+bitsOf (v ∷ st) = bitsOf st * 2 + boolByte v
 
--- a store at k leaves what lies below it
-stack-set : (l : List Bool) (k : ℕ) (v : Bool) (d : ℕ) → d ≤ k → stackOf (set l k v) d ≡ stackOf l d
-unfolding stackOf
-stack-set l k v zero h = refl
-stack-set l k v (suc d) h = λ i. getD-set-other l k d v false (λ e. omega arith) i ∷ stack-set l k v d (omega arith) i
+-- what the evaluator makes of its number n at the word w, where mark w has the value v
+unfoldable pub pushBits : Bool → ℕ → ℕ → ℕ
+pushBits v w n =
+    cond (eqb w andWord) (bitAnd (n / 2 ^ 1) (bitOr n (2 ^ 32 - 1 - 1)))
+    (cond (eqb w orWord) (bitOr (n / 2 ^ 1) (bitAnd n 1)) (cond (eqb w notWord) (bitXor n 1) (bitOr (n * 2 ^ 1 % 2 ^ 32) (boolByte v))))
 
-stack-put : (l : List Bool) (e : ℕ) (v : Bool) → e < length l → stackOf (set l e v) (suc e) ≡ v ∷ stackOf l e
-unfolding stackOf
-stack-put l e v h = λ i. getD-set-same l e v false h i ∷ stack-set l e v e (omega arith) i
+bit-small : (v : Bool) → boolByte v < 2
+bit-small v = omega (arith, byte-le v)
 
--- an array l of depth d has become one of depth e that stands for the stack st
-pub record Became (st : List Bool) (e : ℕ) (l : List Bool) (d : ℕ) : Type 0 where
-  pub full : length l ≡ maxStack
-  pub deep : d ≡ e
-  pub values : stackOf l d ≡ st
+bits-below : (st : List Bool) → bitsOf st < 2 ^ length st
+unfolding bitsOf
+bits-below [] = omega arith
+bits-below (v ∷ st) = let p : 2 ^ suc (length st) ≡ 2 ^ length st * 2 = pow-suc 2 (length st) in omega (arith, bits-below st, bit-small v, p)
 
-module _ (l : List Bool) (d : ℕ) (full : length l ≡ maxStack) (most : d ≤ maxStack) where
-  pub two-became : (f : Bool → Bool → Bool) → 2 ≤ d
-      → Became (top2 f (stackOf l d)) (d - 1) (set l (d - 2) (f (getD l (d - 2) false) (getD l (d - 1) false))) (d - 1)
-  unfolding stackOf top2
-  two-became f h =
-      let e : ℕ = d - 2 in
-      let p : d - 1 ≡ suc e = omega arith in
-      let q : d ≡ suc (suc e) = omega arith in
-      record {
-        full = simp length-set full;
-        deep = refl;
-        values = ap (λ (k : ℕ). stackOf (set l e (f (getD l e false) (getD l k false))) k) p ∙ stack-put l e (f (getD l e false) (getD l (suc e) false)) (omega arith)
-            ∙ ap (λ (k : ℕ). top2 f (stackOf l k)) (sym q);
-      }
+bits-fit : (st : List Bool) → length st ≤ maxStack → bitsOf st < 2 ^ 16
+bits-fit st h = omega (arith, bits-below st, pow-mono h)
 
-  pub one-became : (f : Bool → Bool) → 1 ≤ d → Became (top1 f (stackOf l d)) d (set l (d - 1) (f (getD l (d - 1) false))) d
-  unfolding stackOf top1
-  one-became f h =
-      let e : ℕ = d - 1 in
-      let q : d ≡ suc e = omega arith in
-      record {
-        full = simp length-set full;
-        deep = refl;
-        values = ap (λ (k : ℕ). stackOf (set l e (f (getD l e false))) k) q ∙ stack-put l e (f (getD l e false)) (omega arith) ∙ ap (λ (k : ℕ). top1 f (stackOf l k)) (sym q);
-      }
+-- ---- each operator on the lowest digits of a number
 
-  pub put-became : (v : Bool) → d < maxStack → Became (v ∷ stackOf l d) (d + 1) (set l d v) (d + 1)
-  put-became v room =
-      record { full = simp length-set full; deep = refl; values = ap (stackOf (set l d v)) (add-one d) ∙ stack-put l d v (omega arith) }
+bit-and : (a b : Bool) → bitAnd (boolByte a) (boolByte b) ≡ boolByte (a && b)
+bit-and true true = refl
+bit-and true false = refl
+bit-and false true = refl
+bit-and false false = refl
 
--- the same of an equal array and depth
-pub became-at : {st : List Bool} {e : ℕ} {l l′ : List Bool} {k k′ : ℕ} → l ≡ l′ → k ≡ k′ → Became st e l′ k′ → Became st e l k
-became-at p q b = rw (p, q) b
+bit-or : (a b : Bool) → bitOr (boolByte a) (boolByte b) ≡ boolByte (a || b)
+bit-or true true = refl
+bit-or true false = refl
+bit-or false true = refl
+bit-or false false = refl
+
+bit-not : (a : Bool) → bitXor (boolByte a) 1 ≡ boolByte (not a)
+bit-not true = refl
+bit-not false = refl
+
+module _ (r : ℕ) (a : Bool) where
+  put-lowest : r < 2 ^ 31 → bitOr (r * 2 % 2 ^ 32) (boolByte a) ≡ r * 2 + boolByte a
+  put-lowest h =
+      let fit : r * 2 < 2 ^ 32 = omega arith in
+      ap (λ (x : ℕ). bitOr x (boolByte a)) (mod-eq-of-lt fit) ∙ or-shifted r 1 (boolByte a) (bit-small a)
+
+  not-lowest : bitXor (r * 2 + boolByte a) 1 ≡ r * 2 + boolByte (not a)
+  not-lowest = xor-block 1 r 0 (boolByte a) 1 (bit-small a) (omega arith) ∙ ap₂ (λ (x y : ℕ). x * 2 + y) (xor-zero-r r) (bit-not a)
+
+module _ (r : ℕ) (a b : Bool) where
+  and-lowest : r < 2 ^ 30 → bitAnd (((r * 2 + boolByte b) * 2 + boolByte a) / 2) (bitOr ((r * 2 + boolByte b) * 2 + boolByte a) (2 ^ 32 - 1 - 1)) ≡ r * 2 + boolByte (b && a)
+  and-lowest h =
+      let n : ℕ = r * 2 + boolByte b in
+      let m : ℕ = 2 ^ 31 - 1 in
+      let half : (n * 2 + boolByte a) / 2 ≡ n = omega (arith, bit-small a) in
+      let fit : n < 2 ^ 31 = omega (arith, bit-small b) in
+      let all : bitOr n m ≡ m = omega (arith, or-add-and n m, and-mask n 31, mod-eq-of-lt fit) in
+      let low : bitOr (n * 2 + boolByte a) (m * 2 + 0) ≡ m * 2 + boolByte a =
+      or-block 1 n m (boolByte a) 0 (bit-small a) (omega arith) ∙ ap₂ (λ (x y : ℕ). x * 2 + y) all (or-zero-r (boolByte a)) in
+      let up : bitAnd r m ≡ r = and-mask r 31 ∙ mod-eq-of-lt (omega arith) in
+      ap₂ bitAnd half low ∙ and-block 1 r m (boolByte b) (boolByte a) (bit-small b) (bit-small a) ∙ ap₂ (λ (x y : ℕ). x * 2 + y) up (bit-and b a)
+
+  or-lowest : bitOr (((r * 2 + boolByte b) * 2 + boolByte a) / 2) (bitAnd ((r * 2 + boolByte b) * 2 + boolByte a) 1) ≡ r * 2 + boolByte (b || a)
+  or-lowest =
+      let n : ℕ = r * 2 + boolByte b in
+      let half : (n * 2 + boolByte a) / 2 ≡ n = omega (arith, bit-small a) in
+      let low : bitAnd (n * 2 + boolByte a) 1 ≡ 0 * 2 + boolByte a = and-mask (n * 2 + boolByte a) 1 ∙ omega (arith, bit-small a) in
+      ap₂ bitOr half low ∙ or-block 1 r 0 (boolByte b) (boolByte a) (bit-small b) (bit-small a) ∙ ap₂ (λ (x y : ℕ). x * 2 + y) (or-zero-r r) (bit-or b a)
+
+-- ---- one law ties number and stack, at every depth: what the evaluator makes of the number is the number of the stack after the word
+
+and-bits : (st : List Bool) → 2 ≤ length st → bitsOf st < 2 ^ 32 → bitAnd (bitsOf st / 2) (bitOr (bitsOf st) (2 ^ 32 - 1 - 1)) ≡ bitsOf (top2 _&&_ st)
+unfolding bitsOf top2
+and-bits [] h l = absurd (omega arith)
+and-bits (a ∷ []) h l = absurd (omega arith)
+and-bits (a ∷ (b ∷ st)) h l = and-lowest (bitsOf st) a b (omega arith)
+
+or-bits : (st : List Bool) → 2 ≤ length st → bitOr (bitsOf st / 2) (bitAnd (bitsOf st) 1) ≡ bitsOf (top2 _||_ st)
+unfolding bitsOf top2
+or-bits [] h = absurd (omega arith)
+or-bits (a ∷ []) h = absurd (omega arith)
+or-bits (a ∷ (b ∷ st)) h = or-lowest (bitsOf st) a b
+
+not-bits : (st : List Bool) → 1 ≤ length st → bitXor (bitsOf st) 1 ≡ bitsOf (top1 not st)
+unfolding bitsOf top1
+not-bits [] h = absurd (omega arith)
+not-bits (a ∷ st) h = not-lowest (bitsOf st) a
+
+pub push-bits : (v : Bool) (w : ℕ) (st : List Bool) → Legal maxMarks w (length st) → length st ≤ maxStack → pushBits v w (bitsOf st) ≡ bitsOf (push v w st)
+unfolding pushBits push bitsOf
+push-bits v w st l h =
+    let fit : bitsOf st < 2 ^ 16 = bits-fit st h in
+    onWord w (λ e. rw e (and-bits st (l .ands e) (omega arith))) (λ e. rw e (or-bits st (l .ors e))) (λ e. rw e (not-bits st (l .nots e)))
+    (λ a b c. rw (a, b, c) (put-lowest (bitsOf st) v (omega arith)))
 
 -- ---- the word of a good text, by the arm that takes it
 
 pub no-operator : (w : ℕ) → w < maxMarks → (eqb w andWord ≡ false) × (eqb w orWord ≡ false) × (eqb w notWord ≡ false)
 no-operator w h = (ne-eqb w andWord (λ e. omega arith), ne-eqb w orWord (λ e. omega arith), ne-eqb w notWord (λ e. omega arith))
 
-module _ {w d : ℕ} (l : Legal maxMarks w d) where
-  -- a mark has room
-  pub room-of : w < maxMarks → d < maxStack
-  room-of h = let (a, b, c) = no-operator w h in l .marks a b c .1
-
-  -- a word that is no mark, neither `and` nor `or`, is `not`
-  pub not-of : maxMarks ≤ w → (w ≡ andWord → ⊥) → (w ≡ orWord → ⊥) → w ≡ notWord
-  not-of h a b =
-      cases (eqb w notWord) (eqb-true w notWord) (λ c. absurd (omega (arith, l .marks (ne-eqb w andWord a) (ne-eqb w orWord b) c .0)))
+-- a word that is no mark, neither `and` nor `or`, is `not`
+pub not-of : {w d : ℕ} → Legal maxMarks w d → maxMarks ≤ w → (w ≡ andWord → ⊥) → (w ≡ orWord → ⊥) → w ≡ notWord
+not-of {w} l h a b =
+    cases (eqb w notWord) (eqb-true w notWord) (λ c. absurd (omega (arith, l .marks (ne-eqb w andWord a) (ne-eqb w orWord b) c .0)))
 
 -- ---- the loop
 
--- depthAfter i words: the rest is good at this depth, and says of this stack what the whole says of none
-pub record Going (s : List ℕ) (at n : ℕ) (snap : Snap) (vals : List Bool) (depth i : ℕ) : Type 0 where
+-- after i words: the number stands for a stack, the rest is good at its depth, and says of it what the whole says of none
+pub record Going (s : List ℕ) (at n : ℕ) (snap : Snap) (values i : ℕ) : Type 0 where
+  pub stack : List Bool
+  pub bits : values ≡ bitsOf stack
   pub within : i ≤ n
-  pub full : length vals ≡ maxStack
-  pub most : depth ≤ maxStack
-  pub good : goodFrom maxMarks (wordsFrom s (at + wordSize * i) (n - i)) depth ≡ true
-  pub same : eval snap (wordsFrom s (at + wordSize * i) (n - i)) (stackOf vals depth) ≡ eval snap (wordsFrom s at n) []
+  pub most : length stack ≤ maxStack
+  pub good : goodFrom maxMarks (wordsFrom s (at + wordSize * i) (n - i)) (length stack) ≡ true
+  pub same : eval snap (wordsFrom s (at + wordSize * i) (n - i)) stack ≡ eval snap (wordsFrom s at n) []
 
-pub starts : (s : List ℕ) (at n : ℕ) (snap : Snap) → good maxMarks (wordsFrom s at n) ≡ true → Going s at n snap (replicate maxStack false) 0 0
-unfolding stackOf good
+pub starts : (s : List ℕ) (at n : ℕ) (snap : Snap) → good maxMarks (wordsFrom s at n) ≡ true → Going s at n snap 0 0
+unfolding bitsOf good
 starts s at n snap v =
     record {
+      stack = [];
+      bits = refl;
       within = omega arith;
-      full = refl;
       most = omega arith;
       good = rw (words-all s at n) v;
       same = rw (words-all s at n);
     }
 
-module _ (s : List ℕ) (at n : ℕ) (snap : Snap) (vals : List Bool) (depth i : ℕ) (g : Going s at n snap vals depth i) where
-  goes : i < n → (follows maxMarks (u16At s (at + wordSize * i)) depth ≡ true)
-      × (goodFrom maxMarks (wordsFrom s (at + wordSize * (i + 1)) (n - (i + 1))) (depthAfter (u16At s (at + wordSize * i)) depth) ≡ true)
+module _ (s : List ℕ) (at n : ℕ) (snap : Snap) (values i : ℕ) (g : Going s at n snap values i) where
+  goes : i < n → (follows maxMarks (u16At s (at + wordSize * i)) (length (g .stack)) ≡ true)
+      × (goodFrom maxMarks (wordsFrom s (at + wordSize * (i + 1)) (n - (i + 1))) (depthAfter (u16At s (at + wordSize * i)) (length (g .stack))) ≡ true)
   unfolding goodFrom
-  goes h = both (follows maxMarks (u16At s (at + wordSize * i)) depth) _ (rw (words-more s at n i h) at (g .good))
+  goes h = both (follows maxMarks (u16At s (at + wordSize * i)) (length (g .stack))) _ (rw (words-more s at n i h) at (g .good))
 
-  pub legal-of : i < n → (w : ℕ) → w ≡ u16At s (at + wordSize * i) → Legal maxMarks w depth
-  legal-of h w e = rw e (legal maxMarks (u16At s (at + wordSize * i)) depth (goes h .0))
+  pub legal-of : i < n → (w : ℕ) → w ≡ u16At s (at + wordSize * i) → Legal maxMarks w (length (g .stack))
+  legal-of h w e = rw e (legal maxMarks (u16At s (at + wordSize * i)) (length (g .stack)) (goes h .0))
 
-  pub goes-on : i < n → (w : ℕ) → w ≡ u16At s (at + wordSize * i) → (vals′ : List Bool) (depth′ : ℕ) → Became (push (snap w) w (stackOf vals depth)) (depthAfter w depth) vals′ depth′
-      → Going s at n snap vals′ depth′ (i + 1)
+  pub goes-on : i < n → (w : ℕ) → w ≡ u16At s (at + wordSize * i) → (values′ : ℕ) → values′ ≡ pushBits (snap w) w values → Going s at n snap values′ (i + 1)
   unfolding eval
-  goes-on h w e vals′ depth′ b =
-      let d : depth′ ≡ depthAfter (u16At s (at + wordSize * i)) depth = b .deep ∙ ap (λ (x : ℕ). depthAfter x depth) e in
-      let z : stackOf vals′ depth′ ≡ push (snap (u16At s (at + wordSize * i))) (u16At s (at + wordSize * i)) (stackOf vals depth) = b .values
-      ∙ ap (λ (x : ℕ). push (snap x) x (stackOf vals depth)) e in
+  goes-on h w e values′ b =
+      let u : ℕ = u16At s (at + wordSize * i) in
+      let st : List Bool = push (snap u) u (g .stack) in
+      let d : length st ≡ depthAfter u (length (g .stack)) = length-push (snap u) u (g .stack) in
       record {
+        stack = st;
+        bits = b ∙ ap₂ (λ (x n : ℕ). pushBits (snap x) x n) e (g .bits) ∙ push-bits (snap u) u (g .stack) (legal-of h u refl) (g .most);
         within = omega arith;
-        full = b .full;
-        most = rw d (follows-after maxMarks (u16At s (at + wordSize * i)) depth (goes h .0) (g .most));
+        most = rw d (follows-after maxMarks u (length (g .stack)) (goes h .0) (g .most));
         good = rw d (goes h .1);
-        same = rw z (rw (words-more s at n i h) at (g .same));
+        same = rw (words-more s at n i h) at (g .same);
       }
 
-  pub ends : n ≤ i → getD vals 0 false ≡ holds snap (wordsFrom s at n)
-  unfolding eval goodFrom stackOf holds top
+  pub ends : n ≤ i → eqb values 1 ≡ holds snap (wordsFrom s at n)
+  unfolding eval goodFrom holds top bitsOf
   ends h =
       let none : wordsFrom s (at + wordSize * i) (n - i) ≡ [] = words-none s at n i h in
-      let one : depth ≡ 1 = eqb-true depth 1 (rw none at (g .good)) in
-      let last : stackOf vals depth ≡ eval snap (wordsFrom s at n) [] = rw none at (g .same) in
-      ap top (sym (ap (stackOf vals) one) ∙ last)
+      let one : length (g .stack) ≡ 1 = eqb-true (length (g .stack)) 1 (rw none at (g .good)) in
+      let last : g .stack ≡ eval snap (wordsFrom s at n) [] = rw none at (g .same) in
+      ap (λ (x : ℕ). eqb x 1) (g .bits) ∙ alone (g .stack) one ∙ ap top last
+    where
+      alone : (st : List Bool) → length st ≡ 1 → eqb (bitsOf st) 1 ≡ top st
+      alone [] e = absurd (omega arith)
+      alone (true ∷ []) e = refl
+      alone (false ∷ []) e = refl
+      alone (a ∷ (b ∷ st)) e = absurd (omega arith)

@@ -8,7 +8,6 @@ ghost use Rattle.book.specs.Text.{holds, snapOf};
 ghost use Rattle.book.specs.GoodTexts.{good};
 ghost use Rattle.book.specs.Read.{wordsFrom};
 use paper::MAX_MARKS;
-use paper::MAX_STACK;
 use paper::WORD_SIZE;
 
 const LAST_MARK: u16 = (MAX_MARKS - 1) as u16;
@@ -18,32 +17,19 @@ pub fn text_holds(image: &[u8], at: usize, count: usize, marks: &[bool; MAX_MARK
     requires { ⌜ (at + wordSize * count ≤ length (now image)) × (good maxMarks (wordsFrom (now image) at count) ≡ true) ⌝ }
     ensures { λ r. ⌜ r ≡ holds (snapOf (now (marks .entry))) (wordsFrom (now (image .entry)) at count) ⌝ }
 {
-    let mut values = [false; MAX_STACK];
-    let mut depth: usize = 0;
+    // One bit for each value, the top one lowest.
+    let mut values: u32 = 0;
     let mut i = 0;
     while i < count {
         let w = wire::u16_at(image, at + WORD_SIZE * i);
-        match w {
-            0..=LAST_MARK => {
-                values[depth] = marks[w as usize];
-                depth += 1;
-            }
-            // A good text has no other word than these.
-            _ => match w {
-                paper::AND => {
-                    values[depth - 2] = values[depth - 2] & values[depth - 1];
-                    depth -= 1;
-                }
-                paper::OR => {
-                    values[depth - 2] = values[depth - 2] | values[depth - 1];
-                    depth -= 1;
-                }
-                _ => {
-                    values[depth - 1] = !values[depth - 1];
-                }
-            },
-        }
+        values = match w {
+            0..=LAST_MARK => (values << 1) | (marks[w as usize] as u32),
+            paper::AND => (values >> 1) & (values | !1),
+            paper::OR => (values >> 1) | (values & 1),
+            // A good text has no other word.
+            _ => values ^ 1,
+        };
         i += 1;
     }
-    values[0]
+    values == 1
 }
