@@ -184,5 +184,8 @@ indexUnfit = 34
 abbrev pub indexRoom : ℕ
 indexRoom = 35
 
+abbrev pub noSuchPosition : ℕ
+noSuchPosition = 36
+
 abbrev pub longList : ℕ
 longList = 38

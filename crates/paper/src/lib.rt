@@ -122,6 +122,8 @@ pub const INDEX_UNFIT: u32 = 34;
 
 pub const INDEX_ROOM: u32 = 35;
 
+pub const NO_SUCH_POSITION: u32 = 36;
+
 pub const LONG_LIST: u32 = 38;
 
 #[repr(C)]
