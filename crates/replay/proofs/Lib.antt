@@ -1,0 +1,3 @@
+-- The root of the crate's own proofs.
+pub mod Walks
+pub mod Calls

@@ -1,0 +1,99 @@
+-- What the loop over a record keeps, and where it stops. Assumes nothing.
+use Prim.Native.Nat.{ℕ, zero, suc, _+_, _*_, _/_, _≤_, _<_}
+use mathlib.Core.Path.{_≡_, refl, sym, ap, _∙_}
+use mathlib.Core.Bool.{true}
+use mathlib.Core.List.{List, [], _∷_}
+use native.Mathlib.Omega.{arith}
+use native.Mathlib.Nat.{add-zero, add-suc, suc-add}
+use native.Mathlib.Numerals.{add-one}
+use lib.ListN.{length, getD}
+use lib.Seq.{slice, slice-cons, slice-empty}
+use Rattle.paper.specs.Limits.{maxEvents, noSuchEvent}
+use Rattle.paper.specs.Answers.{granted, refusal}
+use Rattle.paper.specs.declared.Answer.{Answer}
+use Rattle.graph.specs.Tests.{fit}
+use Rattle.graph.specs.Fitness.{fit-both, both-fit}
+use Rattle.graph.specs.Steps.{executing, refusing, steppingBy, rowOf, fit-index, step-gone, step-taken}
+use Rattle.graph.specs.Execution.{step-fit}
+use Rattle.graph.specs.declared.FlatChart.{FlatChart}
+use Rattle.graph.specs.declared.Marking.{Marking}
+use Rattle.graph.specs.declared.steps.Row.{Row}
+use Rattle.graph.specs.declared.steps.Step.{Step}
+use Rattle.replay.specs.Recorded.{Entry, recordOf, taking, reaching, reach-then, reach-until}
+use Rattle.replay.specs.Replaying.{walking}
+
+-- ---- the record, by position
+
+abbrev pub entryAt : List ℕ → ℕ → Entry
+entryAt l i = record { event = getD l (i * 2) 0; role = getD l (i * 2 + 1) 0 }
+
+pub entry-at : (l : List ℕ) (i : ℕ) (d : Entry) → i * 2 + 1 < length l → getD (recordOf l) i d ≡ entryAt l i
+unfolding recordOf
+entry-at [] i d h = absurd (omega arith)
+entry-at (e ∷ []) i d h = absurd (omega arith)
+entry-at (e ∷ r ∷ rest) zero d h = refl
+entry-at (e ∷ r ∷ rest) (suc i) d h =
+    let z : suc i * 2 ≡ suc (suc (i * 2)) = omega arith in
+    let y : suc (suc (i * 2)) + 1 ≡ suc (suc (i * 2 + 1)) = omega arith in
+    rw (z, y) (entry-at rest i d (omega arith))
+
+pub record-length : (l : List ℕ) → length (recordOf l) ≡ length l / 2
+unfolding recordOf
+record-length [] = refl
+record-length (e ∷ []) = refl
+record-length (e ∷ r ∷ rest) = omega (arith, record-length rest)
+
+pub record-holds : (l : List ℕ) (k : ℕ) → k * 2 ≤ length l → k ≤ length (recordOf l)
+record-holds l k h = omega (arith, record-length l)
+
+-- ---- a step of a chart and a marking that are known to be fit
+
+module _ (c : FlatChart) (m : Marking) (e r : ℕ) (f : fit c m ≡ true) where
+  pub known-gone : (a : Answer) → c .count ≤ e → a ≡ refusal noSuchEvent → record { answer = a; marking = m } ≡ executing c m e r
+  known-gone a h z = rw z (step-gone c m e r true (sym f) refl (refusing noSuchEvent 0 m) h refl)
+
+  pub known-index : e < c .count → e < maxEvents
+  known-index h = fit-index c m true (sym f) refl e h
+
+  pub known-taken : (s : Step) (row : Row) → e < c .count → row ≡ rowOf c e → s ≡ steppingBy m e row r → s ≡ executing c m e r
+  known-taken s row h l z = step-taken c m e r true (sym f) refl s row h l z
+
+-- ---- the loop
+
+-- at position i with marking m: what the rest gives from here is what the whole gives from the start
+pub record Going (c : FlatChart) (numbers : List ℕ) (start : Marking) (from end : ℕ) (m : Marking) (i : ℕ) : Type 0 where
+  pub fits : fit c m ≡ true
+  pub near : i ≤ end
+  pub same : walking c m (recordOf numbers) i end ≡ walking c start (recordOf numbers) from end
+
+pub going-start : (c : FlatChart) (numbers : List ℕ) (m : Marking) (from end : ℕ) → fit c m ≡ true → from ≤ end → Going c numbers m from end m from
+going-start c numbers m from end f h = record { fits = f; near = h; same = refl }
+
+module _ (c : FlatChart) (numbers : List ℕ) (start : Marking) (from end : ℕ) (m : Marking) (i : ℕ) (g : Going c numbers start from end m i) where
+  module _ (l : end * 2 ≤ length numbers) (h : i < end) (s : Step) (p : s ≡ taking c m (entryAt numbers i)) where
+    next-entry : slice i end (recordOf numbers) ≡ entryAt numbers i ∷ slice (suc i) end (recordOf numbers)
+    next-entry = slice-cons i end (recordOf numbers) (entryAt numbers i) h (record-holds numbers end l) ∙ rw (entry-at numbers i (entryAt numbers i) (omega arith))
+
+    moved : taking c m (entryAt numbers i) .answer .code ≡ 0 → walking c m (recordOf numbers) i end ≡ walking c (taking c m (entryAt numbers i) .marking) (recordOf numbers) (i + 1) end
+    unfolding walking
+    moved e = rw (next-entry, reach-then c m (entryAt numbers i) (slice (suc i) end (recordOf numbers)) e, add-one i, add-suc i _, suc-add i _)
+
+    pub going-more : s .answer .code ≡ 0 → Going c numbers start from end (s .marking) (i + 1)
+    going-more z =
+        let e : taking c m (entryAt numbers i) .answer .code ≡ 0 = ap (λ (t : Step). t .answer .code) (sym p) ∙ z in
+        record {
+          fits = rw p (both-fit c _ (fit-both c m (g .fits) .0) (step-fit c m _ _ e));
+          near = omega arith;
+          same = rw p (sym (moved e) ∙ g .same);
+        }
+
+    ended : (taking c m (entryAt numbers i) .answer .code ≡ 0 → ⊥) → walking c m (recordOf numbers) i end ≡ record { at = i; stop = taking c m (entryAt numbers i) }
+    unfolding walking
+    ended n = rw (next-entry, reach-until c m (entryAt numbers i) (slice (suc i) end (recordOf numbers)) n, add-zero)
+
+    pub going-stop : (s .answer .code ≡ 0 → ⊥) → record { at = i; stop = s } ≡ walking c start (recordOf numbers) from end
+    going-stop n = rw p (sym (ended (λ e. n (ap (λ (t : Step). t .answer .code) p ∙ e))) ∙ g .same)
+
+  pub going-end : end ≤ i → (a : Answer) → a ≡ granted → record { at = end; stop = record { answer = a; marking = m } } ≡ walking c start (recordOf numbers) from end
+  unfolding walking reaching
+  going-end h a e = let z : i ≡ end = (let k : i ≤ end = g .near in omega arith) in rw e (sym (rw (z, slice-empty end (recordOf numbers), add-zero)) ∙ g .same)

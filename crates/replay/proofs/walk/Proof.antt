@@ -1,0 +1,30 @@
+-- `replay::walk` meets its contract. Assumes nothing.
+use Prim.Native.Nat.{_-_}
+use Rattle.graph.specs.Chart.{chartOf}
+use Rattle.replay.proofs.Walks.{Going, going-start, going-more, going-stop, going-end}
+use borrow.Author.Needs.{needs}
+use native.Mathlib.Omega.{arith}
+use Rattle.replay.proofs.walk.Statement.{statement}
+use Rattle.replay.proofs.walk.Tie as tie
+
+abbrev Inv-loop : tie.InvT-loop
+Inv-loop count conditions responses milestones includes excludes roles recorded from end reached₀ at₀ reached at =
+    Going (chartOf count conditions responses milestones includes excludes roles) recorded reached₀ from end reached at
+
+abbrev μ-loop : tie.MeasureT-loop
+μ-loop count conditions responses milestones includes excludes roles recorded from end reached₀ at₀ reached at = end - at
+
+pub walk-spec : {M : Type 1} → statement M
+walk-spec =
+    tie.close
+    (tie.spec
+    Inv-loop
+    μ-loop
+    (λ c. going-start _ _ _ _ _ (c .before .pre .0) (c .before .pre .1))
+    (λ c. search needs) (λ c. search needs) (λ c. search needs) (λ c. search needs) (λ c. search needs) (λ c. search needs) (λ c. search needs)
+    (λ c κs. search needs)
+    (λ c. going-stop _ _ _ _ _ _ _ (c .before .before .before .before .before .before .loop .inv) (omega arith) (omega arith) _ (c .before .before .step-in .ensures) (λ z. omega arith))
+    (λ c. search needs) (λ c. search needs)
+    (λ c. going-more _ _ _ _ _ _ _ (c .before .before .before .before .before .before .before .loop .inv) (omega arith) (omega arith) _ (c .before .before .before .step-in .ensures) (omega arith))
+    (λ c κs. search needs)
+    (λ c. going-end _ _ _ _ _ _ _ (c .before .before .loop .inv) (omega arith) _ (c .granted .ensures)))

@@ -1,0 +1,6 @@
+-- The root of the crate's specs.
+pub mod Recorded
+pub mod Replaying
+pub mod Table
+pub mod Records
+pub mod Examples

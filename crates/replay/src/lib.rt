@@ -1,0 +1,329 @@
+// Request (vii): how far a record of steps is allowed, and whether it is allowed without one of them.
+ghost use mathlib.Core.Path.{_≡_};
+ghost use mathlib.Core.Bool.{true};
+ghost use Prim.Native.Nat.{_≤_, _<_, _*_, _/_};
+ghost use lib.ListN.{length};
+ghost use lib.Dec.{eqb};
+ghost use Rattle.sets.specs.Set.{inter};
+ghost use Rattle.graph.specs.Chart.{chartOf};
+ghost use Rattle.graph.specs.Tests.{fit};
+ghost use Rattle.graph.specs.Steps.{executing};
+ghost use Rattle.replay.specs.Recorded.{recordOf};
+ghost use Rattle.replay.specs.Replaying.{walking, walkingWithout, replaying, notStruck, striking};
+use graph::FlatChart;
+use graph::Marking;
+use graph::steps::Step;
+use graph::steps::row_at;
+use paper::Answer;
+use paper::MAX_EVENTS;
+
+// What a replay gives: how many steps of the record are allowed, the code of the next one, 0 where there is none, and the marking there.
+#[repr(C)]
+pub struct Replayed {
+    pub answer: Answer,
+    pub code: u32,
+    pub steps: u64,
+    pub marking: Marking,
+    pub finished: bool,
+}
+
+// What a strike gives: the marking of the record without the step, or the start marking beside the refusal.
+#[repr(C)]
+pub struct Struck {
+    pub answer: Answer,
+    pub marking: Marking,
+}
+
+// The position at which a walk over the record stopped, and what the step there gave. At the end there is none: code 0 and the marking reached.
+struct Walked {
+    at: usize,
+    stop: Step,
+}
+
+// A step of a chart and a marking that are known to be fit.
+fn step_in<'a>(
+    marking: Marking,
+    count: u32,
+    conditions: &'a [u64; MAX_EVENTS],
+    responses: &'a [u64; MAX_EVENTS],
+    milestones: &'a [u64; MAX_EVENTS],
+    includes: &'a [u64; MAX_EVENTS],
+    excludes: &'a [u64; MAX_EVENTS],
+    roles: &'a [u8; MAX_EVENTS],
+    event: u32,
+    role: u32,
+) -> Step
+    requires { ⌜ fit (chartOf count (now conditions) (now responses) (now milestones) (now includes) (now excludes) (now roles)) marking ≡ true ⌝ }
+    ensures { λ r. ⌜ r ≡ executing (chartOf count (now (conditions .entry)) (now (responses .entry)) (now (milestones .entry)) (now (includes .entry)) (now (excludes .entry)) (now (roles .entry))) marking event role ⌝ }
+{
+    if count <= event {
+        return Step {
+            answer: paper::refused(paper::NO_SUCH_EVENT, 0, 0),
+            marking,
+        };
+    }
+    let e = event as usize;
+    let row = row_at(
+        e,
+        conditions,
+        responses,
+        milestones,
+        includes,
+        excludes,
+        roles,
+    );
+    marking.step(e, row, role)
+}
+
+// The steps from one position to another, each from the marking that the ones before it gave, up to the first that is not allowed.
+fn walk<'a>(
+    marking: Marking,
+    count: u32,
+    conditions: &'a [u64; MAX_EVENTS],
+    responses: &'a [u64; MAX_EVENTS],
+    milestones: &'a [u64; MAX_EVENTS],
+    includes: &'a [u64; MAX_EVENTS],
+    excludes: &'a [u64; MAX_EVENTS],
+    roles: &'a [u8; MAX_EVENTS],
+    recorded: &'a [u32],
+    from: usize,
+    end: usize,
+) -> Walked
+    requires { ⌜ (fit (chartOf count (now conditions) (now responses) (now milestones) (now includes) (now excludes) (now roles)) marking ≡ true) × (from ≤ end) × (end * 2 ≤ length (now recorded)) ⌝ }
+    ensures { λ r. ⌜ r ≡ walking (chartOf count (now (conditions .entry)) (now (responses .entry)) (now (milestones .entry)) (now (includes .entry)) (now (excludes .entry)) (now (roles .entry))) marking (recordOf (now (recorded .entry))) from end ⌝ }
+{
+    let mut reached = marking;
+    let mut at = from;
+    while at < end {
+        let step = step_in(
+            reached,
+            count,
+            conditions,
+            responses,
+            milestones,
+            includes,
+            excludes,
+            roles,
+            recorded[at * 2],
+            recorded[at * 2 + 1],
+        );
+        if step.answer.code != 0 {
+            return Walked { at, stop: step };
+        }
+        reached = step.marking;
+        at += 1;
+    }
+    Walked {
+        at: end,
+        stop: Step {
+            answer: paper::granted(),
+            marking: reached,
+        },
+    }
+}
+
+// "A marking is finished if no event is both in In and in Re."
+fn is_finished(marking: Marking) -> bool
+    ensures { λ r. ⌜ r ≡ eqb (inter (marking .included) (marking .pending)) 0 ⌝ }
+{
+    marking.included & marking.pending == 0
+}
+
+// Replay over lent tables: what `replay` does, with no copy of the chart.
+pub fn replay_in<'a>(
+    count: u32,
+    conditions: &'a [u64; MAX_EVENTS],
+    responses: &'a [u64; MAX_EVENTS],
+    milestones: &'a [u64; MAX_EVENTS],
+    includes: &'a [u64; MAX_EVENTS],
+    excludes: &'a [u64; MAX_EVENTS],
+    roles: &'a [u8; MAX_EVENTS],
+    marking: Marking,
+    recorded: &'a [u32],
+) -> Replayed
+    ensures { λ r. ⌜ r ≡ replaying (chartOf count (now (conditions .entry)) (now (responses .entry)) (now (milestones .entry)) (now (includes .entry)) (now (excludes .entry)) (now (roles .entry))) marking (now (recorded .entry)) ⌝ }
+{
+    if !marking.fits(
+        count,
+        conditions,
+        responses,
+        milestones,
+        includes,
+        excludes,
+        roles,
+    ) {
+        return Replayed {
+            answer: paper::refused(paper::UNFIT, 0, 0),
+            code: 0,
+            steps: 0,
+            marking,
+            finished: false,
+        };
+    }
+    let walked = walk(
+        marking,
+        count,
+        conditions,
+        responses,
+        milestones,
+        includes,
+        excludes,
+        roles,
+        recorded,
+        0,
+        recorded.len() / 2,
+    );
+    let there = walked.stop.marking;
+    Replayed {
+        answer: paper::granted(),
+        code: walked.stop.answer.code,
+        steps: walked.at as u64,
+        marking: there,
+        finished: is_finished(there),
+    }
+}
+
+// The walk over the whole record without the step at one position.
+fn walk_without<'a>(
+    marking: Marking,
+    count: u32,
+    conditions: &'a [u64; MAX_EVENTS],
+    responses: &'a [u64; MAX_EVENTS],
+    milestones: &'a [u64; MAX_EVENTS],
+    includes: &'a [u64; MAX_EVENTS],
+    excludes: &'a [u64; MAX_EVENTS],
+    roles: &'a [u8; MAX_EVENTS],
+    recorded: &'a [u32],
+    struck: usize,
+    steps: usize,
+) -> Walked
+    requires { ⌜ (fit (chartOf count (now conditions) (now responses) (now milestones) (now includes) (now excludes) (now roles)) marking ≡ true) × (struck < steps) × (steps ≡ length (now recorded) / 2) ⌝ }
+    ensures { λ r. ⌜ r ≡ walkingWithout (chartOf count (now (conditions .entry)) (now (responses .entry)) (now (milestones .entry)) (now (includes .entry)) (now (excludes .entry)) (now (roles .entry))) marking (recordOf (now (recorded .entry))) struck ⌝ }
+{
+    let before = walk(
+        marking,
+        count,
+        conditions,
+        responses,
+        milestones,
+        includes,
+        excludes,
+        roles,
+        recorded,
+        0,
+        struck,
+    );
+    if before.stop.answer.code != 0 {
+        return before;
+    }
+    walk(
+        before.stop.marking,
+        count,
+        conditions,
+        responses,
+        milestones,
+        includes,
+        excludes,
+        roles,
+        recorded,
+        struck + 1,
+        steps,
+    )
+}
+
+fn not_struck(marking: Marking, code: u32, place: u32) -> Struck
+    ensures { λ r. ⌜ r ≡ notStruck code place marking ⌝ }
+{
+    Struck {
+        answer: paper::refused(code, place, 0),
+        marking,
+    }
+}
+
+// Strike over lent tables: what `strike` does, with no copy of the chart.
+pub fn strike_in<'a>(
+    count: u32,
+    conditions: &'a [u64; MAX_EVENTS],
+    responses: &'a [u64; MAX_EVENTS],
+    milestones: &'a [u64; MAX_EVENTS],
+    includes: &'a [u64; MAX_EVENTS],
+    excludes: &'a [u64; MAX_EVENTS],
+    roles: &'a [u8; MAX_EVENTS],
+    marking: Marking,
+    recorded: &'a [u32],
+    position: u32,
+) -> Struck
+    ensures { λ r. ⌜ r ≡ striking (chartOf count (now (conditions .entry)) (now (responses .entry)) (now (milestones .entry)) (now (includes .entry)) (now (excludes .entry)) (now (roles .entry))) marking (now (recorded .entry)) position ⌝ }
+{
+    if !marking.fits(
+        count,
+        conditions,
+        responses,
+        milestones,
+        includes,
+        excludes,
+        roles,
+    ) {
+        return not_struck(marking, paper::UNFIT, 0);
+    }
+    let steps = recorded.len() / 2;
+    let left_out = position as usize;
+    if steps <= left_out {
+        return not_struck(marking, paper::NO_SUCH_POSITION, 0);
+    }
+    let walked = walk_without(
+        marking,
+        count,
+        conditions,
+        responses,
+        milestones,
+        includes,
+        excludes,
+        roles,
+        recorded,
+        left_out,
+        steps,
+    );
+    let code = walked.stop.answer.code;
+    let shortened = walked.stop.marking;
+    if code != 0 {
+        return not_struck(marking, code, paper::place_of(walked.at));
+    }
+    Struck {
+        answer: paper::granted(),
+        marking: shortened,
+    }
+}
+
+pub fn replay(chart: FlatChart, marking: Marking, recorded: &[u32]) -> Replayed
+    ensures { λ r. ⌜ r ≡ replaying chart marking (now (recorded .entry)) ⌝ }
+{
+    replay_in(
+        chart.count,
+        &chart.conditions,
+        &chart.responses,
+        &chart.milestones,
+        &chart.includes,
+        &chart.excludes,
+        &chart.roles,
+        marking,
+        recorded,
+    )
+}
+
+pub fn strike(chart: FlatChart, marking: Marking, recorded: &[u32], position: u32) -> Struck
+    ensures { λ r. ⌜ r ≡ striking chart marking (now (recorded .entry)) position ⌝ }
+{
+    strike_in(
+        chart.count,
+        &chart.conditions,
+        &chart.responses,
+        &chart.milestones,
+        &chart.includes,
+        &chart.excludes,
+        &chart.roles,
+        marking,
+        recorded,
+        position,
+    )
+}
