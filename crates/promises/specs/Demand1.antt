@@ -40,6 +40,10 @@ use Rattle.indexed.specs.Indexed.{completingIndexed}
 use Rattle.indexed.specs.IndexedTable.{Indexed, indexed, indexed-is, indexed-hands-back}
 use Rattle.indexed.specs.InList.{grantedOf, reached, stopping, placed, beforeList, completingList}
 use Rattle.indexed.specs.ListTable.{Lists, lists, lists-is, list-answer, before-hands-back, within-hands-back}
+use Rattle.replay.specs.Replaying.{replaying, striking, untold}
+use Rattle.replay.specs.Table.{Replays, replays, replays-only, replay-kept, Strikes, strikes, strikes-only, strike-kept}
+use Rattle.replay.specs.declared.Replayed.{Replayed}
+use Rattle.replay.specs.declared.Struck.{Struck}
 use Rattle.promises.specs.Tables as table
 use Rattle.promises.specs.Tables.{Unfit, CountsOpen, counts-open, counts-only, Finishes, finishes, finishes-only, Derives, derives, derives-only}
 use Rattle.promises.specs.Matching as matching
@@ -149,6 +153,14 @@ pub record Demand1 : Type 0 where
         granted = grantedOf book (s .marks) list;
         snapshot = record { marks = reached book (s .marks) list };
       }
+  -- replay: 14; a refused one gives the marking as it was. "A replay that stops at a step is no refused call and keeps the marking reached"
+  pub replay : (c : FlatChart) (m : Marking) (numbers : List ℕ) → Replays c m numbers (replaying c m numbers)
+  pub replayOnly : (c : FlatChart) (m : Marking) (numbers : List ℕ) (r : Replayed) → Replays c m numbers r → r ≡ replaying c m numbers
+  pub replayRefused : (c : FlatChart) (m : Marking) (numbers : List ℕ) → (replaying c m numbers .answer .code ≡ 0 → ⊥) → replaying c m numbers ≡ untold m
+  -- strike: 14, 36, and the code of the first step that fails; "demand 1 reads for 14, 36 and a strike that isn't granted"
+  pub strike : (c : FlatChart) (m : Marking) (numbers : List ℕ) (p : ℕ) → Strikes c m numbers p (striking c m numbers p)
+  pub strikeOnly : (c : FlatChart) (m : Marking) (numbers : List ℕ) (p : ℕ) (s : Struck) → Strikes c m numbers p s → s ≡ striking c m numbers p
+  pub strikeRefused : (c : FlatChart) (m : Marking) (numbers : List ℕ) (p : ℕ) → (striking c m numbers p .answer .code ≡ 0 → ⊥) → striking c m numbers p .marking ≡ m
 
 pub demand-1 : Demand1
 unfolding completing completingIndexed
@@ -194,6 +206,12 @@ demand-1 =
       listOnly = λ book index s list a x. lists-is book index (s .marks) list a x ∙ sym (list-answer book index s list);
       listBefore = before-hands-back;
       listWithin = within-hands-back;
+      replay = replays;
+      replayOnly = λ c m numbers r x. replays-only c m numbers x;
+      replayRefused = replay-kept;
+      strike = strikes;
+      strikeOnly = λ c m numbers p s x. strikes-only c m numbers p x;
+      strikeRefused = strike-kept;
     }
 
 -- ---- two results that meet a contract coincide: the calls whose lemma stands here; the others' stand beside their definitions
