@@ -7,6 +7,8 @@
 // through the index that is kept beside it and has the running order of each stage.
 // A line that begins with `list` is a list of events, as `list 5 6 7 by 1`, or without `by` and the role as above: their stages are completed
 // in one call, one after another up to the first that is refused.
+// A line `strike 2` takes back the step at that position of the steps so far, from 0, if the others are allowed without it; `replay` goes
+// through them again from the start, as one does with a record that was kept, and says whether that ends where the controller stands.
 // At the start it prints the open stages, and `finished` where no included event is pending. Each step gets one line: the same after it, or
 // the refusal, which leaves everything as it was and does not count as a failure. A list gets the refusal, if there is one, with the position
 // as place, and the open stages in any case, since what was granted before it stands. A line that is no step is said on standard error and
@@ -27,6 +29,11 @@ static struct ozhimka_counts counts;
 static struct ozhimka_chart chart;
 static struct ozhimka_marking marking;
 static struct ozhimka_snapshot now; // what the marking is in the book's marks
+
+enum { LONGEST_RECORD = 4096 };
+static struct ozhimka_recorded record[LONGEST_RECORD]; // the steps that were granted since `start`
+static size_t recorded;
+static struct ozhimka_marking start;
 
 static bool granted(FILE *file, const char *call, struct ozhimka_answer answer)
 {
@@ -60,11 +67,11 @@ static bool load(void)
     if (!granted(stderr, "index", ozhimka_build_index(book, book_length, index_image, sizeof index_image))) // which checks the book, too
         return false;
     index_length = ozhimka_index_length(book);
-    struct ozhimka_settled start = ozhimka_matching(&reading.chart, reading.marking);
+    struct ozhimka_settled matching = ozhimka_matching(&reading.chart, reading.marking);
     chart = reading.chart;
-    marking = reading.marking;
-    now = start.snapshot;
-    return granted(stderr, "matching", start.answer);
+    marking = start = reading.marking;
+    now = matching.snapshot;
+    return granted(stderr, "matching", matching.answer);
 }
 
 static bool names_roles(void)
@@ -136,27 +143,6 @@ static const char *read_number(const struct line *line, size_t *at, uint32_t *nu
     return NULL;
 }
 
-// Reads the numbers of a line, none to two; says what is wrong with it, or gives null.
-static const char *read_step(const struct line *line, uint32_t numbers[2], int *count)
-{
-    size_t at = behind_spaces(line, 0);
-    const char *wrong = NULL;
-    for (*count = 0; wrong == NULL && at < line->length && *count < 2; ++*count) {
-        wrong = read_number(line, &at, &numbers[*count]);
-        at = behind_spaces(line, at);
-    }
-    if (wrong == NULL && at < line->length)
-        return "an event and a role, and something behind them";
-    if (wrong == NULL && *count == 1 && names_roles())
-        return "an event without a role, and this chart names roles";
-    return wrong;
-}
-
-struct list {
-    uint32_t events[LONGEST / 2], role;
-    size_t count;
-};
-
 // Whether this word stands at `at`; goes behind it and the spaces there.
 static bool read_word(const struct line *line, size_t *at, const char *word)
 {
@@ -166,6 +152,48 @@ static bool read_word(const struct line *line, size_t *at, const char *word)
     *at = behind_spaces(line, end);
     return true;
 }
+
+enum command { STEP, STRIKE, REPLAY };
+
+// The command that a line begins with, a step where it is no word of the others; goes behind it.
+static enum command read_command(const struct line *line, size_t *at)
+{
+    if (read_word(line, at, "strike"))
+        return STRIKE;
+    return read_word(line, at, "replay") ? REPLAY : STEP;
+}
+
+// What is wrong with so many numbers behind a command, or null.
+static const char *wrong_count(enum command command, int count)
+{
+    if (command == STRIKE && count != 1)
+        return "one position is struck";
+    if (command == REPLAY && count != 0)
+        return "nothing stands behind replay";
+    if (command == STEP && count == 1 && names_roles())
+        return "an event without a role, and this chart names roles";
+    return NULL;
+}
+
+// Reads a line: its command and the numbers behind it, none to two; says what is wrong with it, or gives null.
+static const char *read_line(const struct line *line, enum command *command, uint32_t numbers[2], int *count)
+{
+    size_t at = behind_spaces(line, 0);
+    const char *wrong = NULL;
+    *command = read_command(line, &at);
+    for (*count = 0; wrong == NULL && at < line->length && *count < 2; ++*count) {
+        wrong = read_number(line, &at, &numbers[*count]);
+        at = behind_spaces(line, at);
+    }
+    if (wrong == NULL && at < line->length)
+        return "an event and a role, and something behind them";
+    return wrong == NULL ? wrong_count(*command, *count) : wrong;
+}
+
+struct list {
+    uint32_t events[LONGEST / 2], role;
+    size_t count;
+};
 
 // Reads the events and the role of a list, from behind its first word; says what is wrong with it, or gives null.
 static const char *read_list(const struct line *line, size_t at, struct list *list)
@@ -196,6 +224,17 @@ static void say_no_step(const struct line *line, const char *wrong)
     fprintf(stderr, "no step: %.*s%s (%s)\n", (int)length, text, line->length > SHOWN ? " .." : "", wrong);
 }
 
+// Where the record is full, it begins anew from here.
+static void keep(uint32_t event, uint32_t role)
+{
+    if (recorded < LONGEST_RECORD) {
+        record[recorded++] = (struct ozhimka_recorded){event, role};
+        return;
+    }
+    start = marking;
+    recorded = 0;
+}
+
 static void take(uint32_t event, uint32_t role)
 {
     char call[64];
@@ -209,8 +248,40 @@ static void take(uint32_t event, uint32_t role)
     struct ozhimka_settled next = ozhimka_complete_indexed(book, book_length, index_image, index_length, now, event);
     marking = step.marking; // this and the snapshot as they were where the step is refused, which chart and book do alike
     now = next.snapshot;
-    if (granted(stdout, call, next.answer))
-        print_open();
+    if (!granted(stdout, call, next.answer))
+        return;
+    keep(event, role);
+    print_open();
+}
+
+static void strike(uint32_t position)
+{
+    struct ozhimka_struck struck = ozhimka_strike(&chart, start, record, recorded, position);
+    if (struck.answer.code == OZHIMKA_NO_SUCH_POSITION) {
+        printf("strike %" PRIu32 " refused: code 36: %s\n", position, ozhimka_reason(OZHIMKA_NO_SUCH_POSITION));
+        return;
+    }
+    if (struck.answer.code != OZHIMKA_GRANTED) { // the chart and the marking are fit, so the place is a position
+        printf("strike %" PRIu32 " refused: without it step %" PRIu32 " is not allowed, code %" PRIu32 "\n", position, struck.answer.place,
+               struck.answer.code);
+        return;
+    }
+    memmove(record + position, record + position + 1, (recorded - position - 1) * sizeof record[0]);
+    recorded--;
+    marking = struck.marking;
+    now = ozhimka_matching(&chart, marking).snapshot;
+    print_open();
+}
+
+static void replay(void)
+{
+    struct ozhimka_replayed replayed = ozhimka_replay(&chart, start, record, recorded);
+    if (!granted(stdout, "replay", replayed.answer))
+        return;
+    bool same = replayed.marking.executed == marking.executed && replayed.marking.pending == marking.pending
+                && replayed.marking.included == marking.included;
+    printf("replay: %" PRIu64 " of %zu steps, %s%s\n", replayed.steps, recorded, same ? "to where it stands" : "to somewhere else",
+           replayed.finished ? ", finished" : "");
 }
 
 // The chart goes along the list, too, to say how far the role is permitted: the book gets no stage from there on. Where the chart refuses for
@@ -220,12 +291,15 @@ static void take_list(const struct list *list)
     char call[64];
     struct ozhimka_step step = {.marking = marking};
     size_t stepped = 0;
-    for (; stepped < list->count && step.answer.code == OZHIMKA_GRANTED; stepped++)
-        step = ozhimka_execute(&chart, step.marking, list->events[stepped], list->role);
+    for (; stepped < list->count && step.answer.code == OZHIMKA_GRANTED; stepped++) {
+        step = ozhimka_execute(&chart, marking, list->events[stepped], list->role);
+        marking = step.marking; // as it was where the step is refused
+        if (step.answer.code == OZHIMKA_GRANTED)
+            keep(list->events[stepped], list->role);
+    }
     bool forbidden = step.answer.code == OZHIMKA_NOT_PERMITTED;
     struct ozhimka_list_completion next = ozhimka_complete_list(book, book_length, index_image, index_length, now, list->events,
                                                                 forbidden ? stepped - 1 : list->count);
-    marking = step.marking; // that of the steps granted, as a refused one hands it back
     now = next.snapshot;
     snprintf(call, sizeof call, "list, %" PRIu32 " completed,", next.granted);
     if (granted(stdout, call, next.answer) && forbidden) {
@@ -235,21 +309,32 @@ static void take_list(const struct list *list)
     print_open();
 }
 
-// Takes the step or the list of a line; says why it is none, or gives null.
+static void take_command(enum command command, const uint32_t numbers[2], int count)
+{
+    if (command == STRIKE)
+        strike(numbers[0]);
+    else if (command == REPLAY)
+        replay();
+    else if (count > 0)
+        take(numbers[0], numbers[1]);
+}
+
+// Takes the step, the list or the command of a line; says why it is none, or gives null.
 static const char *take_line(const struct line *line)
 {
     static struct list list;
+    enum command command = STEP;
     uint32_t numbers[2] = {0, 0};
     size_t at = behind_spaces(line, 0);
     int count = 0;
     if (line->cut)
         return "over 1,024 characters, nothing behind it is read";
     bool listed = read_word(line, &at, "list");
-    const char *wrong = listed ? read_list(line, at, &list) : read_step(line, numbers, &count);
+    const char *wrong = listed ? read_list(line, at, &list) : read_line(line, &command, numbers, &count);
     if (wrong == NULL && listed)
         take_list(&list);
-    else if (wrong == NULL && count > 0)
-        take(numbers[0], numbers[1]);
+    else if (wrong == NULL)
+        take_command(command, numbers, count);
     return wrong;
 }
 

@@ -1,5 +1,5 @@
 // Tries on the library what the header says of null pointers, of a book's length, of roles, of a chart's tables, of stages, of the index, of
-// lists, of the words for each code, and of the stack.
+// lists, of records, of the words for each code, and of the stack.
 // Prints what does not hold; exit status 0 if nothing, else 1. Wants POSIX contexts, to run a call on a stack that was painted before.
 #define _XOPEN_SOURCE 700
 #include "ozhimka.h"
@@ -8,7 +8,7 @@
 #include <string.h>
 #include <ucontext.h>
 
-enum { PAINT = 0xA5, ROOM = 1 << 18 };
+enum { PAINT = 0xA5, ROOM = 1 << 18, STEPS = 1000 };
 
 static int failures;
 static uint8_t image[OZHIMKA_MAX_CHART], book[OZHIMKA_MAX_BOOK];
@@ -17,6 +17,8 @@ static uint16_t order[OZHIMKA_MAX_RULES];
 static size_t image_length, book_length, index_length, ordered; // how many rules of the book count for stage 0
 static struct ozhimka_reading reading;
 static struct ozhimka_settled settled;
+static struct ozhimka_recorded steps[STEPS]; // event 0 by role 0, each time
+static const struct ozhimka_marking done = {UINT64_MAX, 0, UINT64_MAX}; // everything was executed, and nothing is pending
 static struct ozhimka_snapshot open; // stage 0 is open, and nothing else is yes
 static const uint32_t stages[4] = {0, 0, 3, 0};
 
@@ -68,6 +70,8 @@ static void count_open(void) { order[0] = (uint16_t)ozhimka_count_open(&reading.
 static void finished(void) { settled.snapshot.marks[0] = ozhimka_finished(&reading.chart, reading.marking).yes; }
 static void matching(void) { settled = ozhimka_matching(&reading.chart, reading.marking); }
 static void derive(void) { settled.answer = ozhimka_derive(&reading.chart, book, sizeof book); }
+static void replay(void) { reading.marking = ozhimka_replay(&reading.chart, done, steps, STEPS).marking; }
+static void strike(void) { reading.marking = ozhimka_strike(&reading.chart, done, steps, STEPS, 1).marking; }
 static void check(void) { settled.answer = ozhimka_check(book, book_length, 0, order, OZHIMKA_MAX_RULES); }
 static void complete(void) { settled = ozhimka_complete(book, book_length, order, ordered, open, 0); }
 static void build_index(void) { settled.answer = ozhimka_build_index(book, book_length, index_image, sizeof index_image); }
@@ -110,6 +114,8 @@ static void try_stack(void)
     expect_stack("ozhimka_execute", execute, 1);
     expect_stack("ozhimka_count_open", count_open, 1);
     expect_stack("ozhimka_finished", finished, 1);
+    expect_stack("ozhimka_replay", replay, 1);
+    expect_stack("ozhimka_strike", strike, 1);
     expect_stack("ozhimka_derive", derive, 1);
     book_length = ozhimka_book_length(book);
     ordered = ozhimka_order_length(book, 0);
@@ -323,12 +329,72 @@ static void try_index(void)
     expect(is(ozhimka_complete_indexed(three, sizeof three, lent, 36, open, 0).answer, OZHIMKA_INDEX_UNFIT, 0), "another stage's order");
 }
 
+static bool same_marking(struct ozhimka_marking one, struct ozhimka_marking other)
+{
+    return one.executed == other.executed && one.pending == other.pending && one.included == other.included;
+}
+
+static bool reaches(struct ozhimka_replayed told, uint64_t count, uint32_t code, struct ozhimka_marking marking, bool finished)
+{
+    return is(told.answer, OZHIMKA_GRANTED, 0) && told.steps == count && told.code == code && same_marking(told.marking, marking)
+           && told.finished == finished;
+}
+
+static bool strikes(struct ozhimka_struck struck, uint32_t code, uint32_t place, struct ozhimka_marking marking)
+{
+    return is(struck.answer, code, place) && same_marking(struck.marking, marking);
+}
+
+// A step that is not allowed, by code, behind one that is.
+static void try_stops(const struct ozhimka_chart *chart, struct ozhimka_marking start)
+{
+    const struct ozhimka_recorded stops[6] = {{4, 0}, {UINT32_MAX, 9}, {2, 8}, {3, 4}, {3, 5}, {1, 0}};
+    const uint32_t codes[6] = {OZHIMKA_NO_SUCH_EVENT, OZHIMKA_NO_SUCH_EVENT,  OZHIMKA_NOT_PERMITTED,
+                               OZHIMKA_NOT_PERMITTED, OZHIMKA_NOT_INCLUDED, OZHIMKA_CONDITION_WANTING};
+    for (int i = 0; i < 6; i++) {
+        struct ozhimka_recorded record[3] = {{2, 0}, stops[i], {0, 0}};
+        struct ozhimka_marking there = {4, 0, 7};
+        expect(reaches(ozhimka_replay(chart, start, record, 3), 1, codes[i], there, true), "a step that is not allowed");
+        expect(strikes(ozhimka_strike(chart, start, record, 3, 2), codes[i], 1, start), "a step that fails before the struck one");
+        expect(strikes(ozhimka_strike(chart, start, record, 3, 0), codes[i], 1, start), "one behind it, by its old position");
+        expect(is(ozhimka_strike(chart, start, record, 3, 1).answer, OZHIMKA_GRANTED, 0), "the struck step is not judged");
+    }
+}
+
+// What the header says of records: on event 0, which makes 1 pending and is a condition of it; 2 is free, and 3 for role 5 alone and out.
+static void try_records(void)
+{
+    struct ozhimka_chart chart = {.count = 4}, unfit = {.count = 0};
+    struct ozhimka_marking start = {0, 0, 7}, beyond = {16, 0, 7}, first = {1, 2, 7}, both = {5, 2, 7}, end = {7, 0, 7};
+    struct ozhimka_recorded made[3] = {{0, 0}, {2, 7}, {1, 1}};
+    chart.conditions[1] = 1, chart.responses[0] = 2, chart.roles[3] = 32;
+    expect(reaches(ozhimka_replay(&chart, start, NULL, 0), 0, 0, start, true), "an empty record");
+    expect(reaches(ozhimka_replay(&chart, start, made, 2), 2, 0, both, false), "a record that is allowed, not finished");
+    expect(reaches(ozhimka_replay(&chart, start, made, 3), 3, 0, end, true), "a record that is allowed, finished");
+    try_stops(&chart, start);
+    expect(strikes(ozhimka_strike(&chart, start, made, 3, 0), OZHIMKA_CONDITION_WANTING, 2, start), "a step that the struck one allowed");
+    expect(strikes(ozhimka_strike(&chart, start, made, 2, 1), OZHIMKA_GRANTED, 0, first), "the marking of the shortened record");
+    expect(strikes(ozhimka_strike(&chart, start, made, 3, 3), OZHIMKA_NO_SUCH_POSITION, 0, start), "no such position");
+    expect(strikes(ozhimka_strike(&chart, start, NULL, 0, 0), OZHIMKA_NO_SUCH_POSITION, 0, start), "no position of an empty record");
+    expect(strikes(ozhimka_strike(&chart, beyond, made, 3, 3), OZHIMKA_UNFIT, 0, beyond), "14 before 36");
+    struct ozhimka_replayed refused = ozhimka_replay(&chart, beyond, made, 3);
+    expect(is(refused.answer, OZHIMKA_UNFIT, 0) && refused.steps == 0 && refused.code == 0 && !refused.finished
+               && same_marking(refused.marking, beyond),
+           "an unfit marking");
+    expect(is(ozhimka_replay(&unfit, start, made, 3).answer, OZHIMKA_UNFIT, 0), "an unfit chart");
+    expect(ozhimka_replay_in(chart.count, chart.conditions, chart.responses, chart.milestones, chart.includes, chart.excludes, chart.roles,
+                             start, &made[0].event, 3)
+                   .steps
+               == 1,
+           "an odd last number is no step");
+}
+
 static void try_reasons(void)
 {
     const char *unknown = ozhimka_reason(UINT32_MAX);
     for (uint32_t code = 0; code <= OZHIMKA_LONG_LIST + 1; code++) {
         bool known = code <= OZHIMKA_BOOK_ROOM || (code >= OZHIMKA_BOOK_SHORT && code <= OZHIMKA_NOT_PERMITTED) || code == OZHIMKA_INDEX_UNFIT
-                     || code == OZHIMKA_INDEX_ROOM || code == OZHIMKA_LONG_LIST;
+                     || code == OZHIMKA_INDEX_ROOM || code == OZHIMKA_NO_SUCH_POSITION || code == OZHIMKA_LONG_LIST;
         expect((strcmp(ozhimka_reason(code), unknown) != 0) == known, "words for each code and for no other number");
     }
 }
@@ -342,6 +408,7 @@ int main(void)
     try_tables();
     try_stages();
     try_index();
+    try_records();
     try_reasons();
     return failures == 0 ? 0 : 1;
 }

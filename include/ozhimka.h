@@ -1,5 +1,5 @@
-// The controller's interface to Ozhimka: reading a chart, stepping it, deriving its rule book, checking a book, indexing it, completing a
-// stage, or a list of them.
+// The controller's interface to Ozhimka: reading a chart, stepping it, replaying a record of steps, deriving its rule book, checking a book,
+// indexing it, completing a stage, or a list of them.
 //
 // For C99 and later and C++11 and later. Link libozhimka.a (x86-64, the System V calling convention); of the C library it uses memcpy,
 // memmove and memset at most. Every call ends, keeps no memory between calls, allocates nothing, and may be made from several threads at
@@ -7,8 +7,8 @@
 //
 // The caller's duties. A slice goes in as a pointer and a count of elements. The pointer may be null where the count is 0; else it is
 // valid for as many elements as the count says, and nobody else writes them during the call. A pointer to uint16_t is even, one to
-// uint32_t a multiple of 4. A chart goes in by a pointer that is never null, and nobody writes the chart during the call. Room that is
-// lent to be written overlaps nothing else that the call is given. A `bool` is 0 or 1.
+// uint32_t or to a recorded step a multiple of 4. A chart goes in by a pointer that is never null, and nobody writes the chart during the
+// call. Room that is lent to be written overlaps nothing else that the call is given. A `bool` is 0 or 1.
 //
 // Stack, at most, with the copies that the caller's code makes there of structs that go in or come back by value (ozhimka_reading takes
 // 2,672 bytes), and without what the C library and the dynamic linker take: ozhimka_check and ozhimka_build_index 20 KiB, ozhimka_complete,
@@ -18,8 +18,9 @@
 //   - a marking or a snapshot that was handed in is handed back as it was; but where ozhimka_complete_list refuses within the list, it hands
 //     back the snapshot reached;
 //   - no byte of lent room is written.
-// Place and other are 0 where the list below names nothing. Of several reasons the lowest code is given, in ozhimka_execute the first of
-// 14, 10, 32, 11, 12, 13, in ozhimka_complete the first of 20 to 26, 29, 27, 28, 30, in ozhimka_complete_indexed the first of 20 to 26,
+// Place and other are 0 where the list below names nothing; in ozhimka_strike the place beside a step's code is that step's position. Of
+// several reasons the lowest code is given, in ozhimka_execute the first of 14, 10, 32, 11, 12, 13, in ozhimka_strike the first of 14, 36
+// and the failing step's own, in ozhimka_complete the first of 20 to 26, 29, 27, 28, 30, in ozhimka_complete_indexed the first of 20 to 26,
 // 34, 28, 29, 30, in ozhimka_complete_list the first of 20 to 26, 34, 28, 38 and then the first refused completion's 29 or 30; within a
 // code the lowest place, then the lowest other.
 //
@@ -79,8 +80,8 @@
 
 // The header's version. A new major number changes what a program written for the one before relies on; a new minor number adds to it.
 #define OZHIMKA_VERSION_MAJOR 3
-#define OZHIMKA_VERSION_MINOR 2
-#define OZHIMKA_VERSION "3.2"
+#define OZHIMKA_VERSION_MINOR 3
+#define OZHIMKA_VERSION "3.3"
 
 #ifdef __cplusplus
 extern "C" {
@@ -189,8 +190,8 @@ enum ozhimka_code {
     OZHIMKA_INCLUDE_EXCLUDE = 9,   // include and exclude of one pair; place: from event, other: to event
     OZHIMKA_NO_SUCH_EVENT = 10,
     OZHIMKA_NOT_INCLUDED = 11,
-    OZHIMKA_CONDITION_WANTING = 12, // place: lowest condition that is included and not executed
-    OZHIMKA_MILESTONE_WANTING = 13, // place: lowest milestone that is included and pending
+    OZHIMKA_CONDITION_WANTING = 12, // place: lowest condition that is included and not executed; in a strike the step's position
+    OZHIMKA_MILESTONE_WANTING = 13, // place: lowest milestone that is included and pending; in a strike the step's position
     OZHIMKA_UNFIT = 14,            // unfit flat chart or marking
     OZHIMKA_BOOK_ROOM = 15,        // room for the book too short; place: bytes needed
     OZHIMKA_BOOK_SHORT = 20,       // book under 32 bytes
@@ -211,6 +212,7 @@ enum ozhimka_code {
     OZHIMKA_NOT_PERMITTED = 32,    // the event names roles and this is none of them, or the role is above 7
     OZHIMKA_INDEX_UNFIT = 34,      // the index is not the one of this book
     OZHIMKA_INDEX_ROOM = 35,       // room for the index too short; place: bytes needed
+    OZHIMKA_NO_SUCH_POSITION = 36, // the position to strike is outside the record
     OZHIMKA_LONG_LIST = 38         // a list of over 4,096 stages; place: how many, or 4,294,967,295 for more than that
 };
 
@@ -273,12 +275,34 @@ struct ozhimka_list_completion {
     struct ozhimka_snapshot snapshot;
 };
 
+// A step that a purchase's record says was taken: the event, and the role that executed it.
+struct ozhimka_recorded {
+    uint32_t event, role;
+};
+
+// How far a record is allowed. Where `steps` is below the record's count, the step at that position is the first that is not allowed and
+// `code` says why; else `code` is 0.
+struct ozhimka_replayed {
+    struct ozhimka_answer answer;
+    uint32_t code;
+    uint64_t steps;
+    struct ozhimka_marking marking;
+    bool finished;
+};
+
+struct ozhimka_struck {
+    struct ozhimka_answer answer;
+    struct ozhimka_marking marking;
+};
+
 // The sizes that the archive is built with: a compiler that lays the structs out in another way stops here.
 typedef char ozhimka_sizes[sizeof(size_t) == 8 && sizeof(struct ozhimka_answer) == 12 && sizeof(struct ozhimka_chart) == 2632
                                    && sizeof(struct ozhimka_marking) == 24 && sizeof(struct ozhimka_snapshot) == 256
                                    && sizeof(struct ozhimka_reading) == 2672 && sizeof(struct ozhimka_step) == 40
                                    && sizeof(struct ozhimka_open_count) == 20 && sizeof(struct ozhimka_finish) == 16
                                    && sizeof(struct ozhimka_settled) == 268 && sizeof(struct ozhimka_list_completion) == 272
+                                   && sizeof(struct ozhimka_recorded) == 8 && sizeof(struct ozhimka_replayed) == 56
+                                   && sizeof(struct ozhimka_struck) == 40
                                ? 1
                                : -1];
 
@@ -308,13 +332,21 @@ struct ozhimka_settled ozhimka_matching_in(uint32_t count, const uint64_t *condi
 struct ozhimka_answer ozhimka_derive_in(uint32_t count, const uint64_t *conditions, const uint64_t *responses, const uint64_t *milestones,
                                         const uint64_t *includes, const uint64_t *excludes, const uint8_t *roles, uint8_t *room,
                                         size_t length);
+// Of a record these take the numbers, event and role in turn, and how many numbers there are; an odd last number is no step.
+struct ozhimka_replayed ozhimka_replay_in(uint32_t count, const uint64_t *conditions, const uint64_t *responses, const uint64_t *milestones,
+                                          const uint64_t *includes, const uint64_t *excludes, const uint8_t *roles,
+                                          struct ozhimka_marking start, const uint32_t *recorded, size_t numbers);
+struct ozhimka_struck ozhimka_strike_in(uint32_t count, const uint64_t *conditions, const uint64_t *responses, const uint64_t *milestones,
+                                        const uint64_t *includes, const uint64_t *excludes, const uint8_t *roles,
+                                        struct ozhimka_marking start, const uint32_t *recorded, size_t numbers, uint32_t position);
 
 // The marking after an event is executed by a role. The role has to be permitted: 0 to 7, and one of roles[event] unless that is 0; for a
 // chart that names no roles any of 0 to 7 will do. The event has to be open: included, each included condition of it executed, no included
 // milestone of it pending. It is then executed and, unless it is its own response, pending no more; its responses are pending, what it
 // excludes is excluded, what it includes included. Refuses with the first that holds of 14 (unfit chart or marking), 10 (no such event), 32
 // (role not permitted), 11 (not included), 12 (condition wanting), 13 (milestone wanting), and then hands the marking back.
-// No other call takes a role, and a rule book carries none: a controller that runs the book asks here whether the role is permitted.
+// Replay and strike take the roles of a record's steps. No other call takes a role, and a rule book carries none: a controller that runs
+// the book asks here whether the role is permitted.
 static inline struct ozhimka_step ozhimka_execute(const struct ozhimka_chart *chart, struct ozhimka_marking marking, uint32_t event,
                                                   uint32_t role)
 {
@@ -351,6 +383,32 @@ static inline struct ozhimka_answer ozhimka_derive(const struct ozhimka_chart *c
 {
     return ozhimka_derive_in(chart->count, chart->conditions, chart->responses, chart->milestones, chart->includes, chart->excludes,
                              chart->roles, room, length);
+}
+
+// How far a record of `count` steps is allowed from a start marking: the chart's own or any other fit one. Each step is what
+// ozhimka_execute does, from the marking that the steps before it gave; chart and marking are tested once, so that a step costs less than a
+// call of it. The first step that is not allowed ends the replay and refuses nothing: the answer is granted, `steps` is how many were
+// allowed, which is that step's position from 0, `code` is its code, the first that holds of 10, 32, 11, 12, 13, and marking and finished
+// are those reached before it; ozhimka_execute of the step from that marking also gives the place that goes with 12 and 13. Where all are
+// allowed, as in an empty record, `steps` is `count`, `code` is 0, and marking and finished are those at the end.
+// Refuses with 14 (unfit chart or marking) alone, before any step, and then hands the marking back beside 0 steps, code 0, not finished.
+static inline struct ozhimka_replayed ozhimka_replay(const struct ozhimka_chart *chart, struct ozhimka_marking start,
+                                                     const struct ozhimka_recorded *steps, size_t count)
+{
+    return ozhimka_replay_in(chart->count, chart->conditions, chart->responses, chart->milestones, chart->includes, chart->excludes,
+                             chart->roles, start, (const uint32_t *)(const void *)steps, 2 * count);
+}
+
+// Whether the record is allowed without the step at one position, from 0, and the marking that the shortened record then ends in. The steps
+// before the struck one are judged as well, the struck one is not. Refuses with the first that holds of 14 (unfit chart or marking), 36 (no
+// such position; always where the record is empty), both before any step, and then the code of the first step that is not allowed, 10, 32,
+// 11, 12 or 13, with that step's position in the whole record as place (4,294,967,295 for that position and all behind it) and 0 as other.
+// What is refused hands the start marking back.
+static inline struct ozhimka_struck ozhimka_strike(const struct ozhimka_chart *chart, struct ozhimka_marking start,
+                                                   const struct ozhimka_recorded *steps, size_t count, uint32_t position)
+{
+    return ozhimka_strike_in(chart->count, chart->conditions, chart->responses, chart->milestones, chart->includes, chart->excludes,
+                             chart->roles, start, (const uint32_t *)(const void *)steps, 2 * count, position);
 }
 
 // Checks a book of `length` bytes, for all of its stages, and writes the running order of one stage to the start of the room, which has
@@ -457,8 +515,8 @@ static inline const char *ozhimka_reason(uint32_t code)
     case OZHIMKA_INCLUDE_EXCLUDE: return "an event both includes and excludes another (place: the one, other: the other)";
     case OZHIMKA_NO_SUCH_EVENT: return "the chart has no such event";
     case OZHIMKA_NOT_INCLUDED: return "the event is not included";
-    case OZHIMKA_CONDITION_WANTING: return "a condition of the event was not executed (place: the lowest such)";
-    case OZHIMKA_MILESTONE_WANTING: return "a milestone of the event is pending (place: the lowest such)";
+    case OZHIMKA_CONDITION_WANTING: return "a condition of the event was not executed (place: the lowest such, in a strike the step's position)";
+    case OZHIMKA_MILESTONE_WANTING: return "a milestone of the event is pending (place: the lowest such, in a strike the step's position)";
     case OZHIMKA_UNFIT: return "the flat chart or the marking is unfit";
     case OZHIMKA_BOOK_ROOM: return "the room for the book is too short (place: bytes needed)";
     case OZHIMKA_BOOK_SHORT: return "the book is too short to have a header";
@@ -476,6 +534,7 @@ static inline const char *ozhimka_reason(uint32_t code)
     case OZHIMKA_NOT_PERMITTED: return "the event names other roles, or the role is none of 0 to 7";
     case OZHIMKA_INDEX_UNFIT: return "the index is not this book's";
     case OZHIMKA_INDEX_ROOM: return "the room for the index is too short (place: bytes needed)";
+    case OZHIMKA_NO_SUCH_POSITION: return "the record has no such position";
     case OZHIMKA_LONG_LIST: return "the list has over 4,096 stages (place: how many)";
     default: return "no code of this library";
     }

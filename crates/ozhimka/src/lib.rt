@@ -5,6 +5,7 @@ ghost use lib.ListN.{length};
 ghost use Rattle.graph.specs.Chart.{chartOf};
 ghost use Rattle.graph.specs.Steps.{executing, counting, finishing};
 ghost use Rattle.chart.specs.Reading.{reading};
+ghost use Rattle.replay.specs.Replaying.{replaying, striking};
 ghost use Rattle.deriver.specs.Deriving.{derivingAnswer, derivedRoom};
 ghost use Rattle.deriver.specs.Matching.{matchingOf};
 ghost use Rattle.judge.specs.Checking.{checking, checkedRoom};
@@ -22,6 +23,8 @@ use graph::steps::Step;
 use indexed::ListCompletion;
 use paper::Answer;
 use paper::MAX_EVENTS;
+use replay::Replayed;
+use replay::Struck;
 use runner::Completion;
 
 #[no_mangle]
@@ -154,6 +157,63 @@ pub extern "C" fn ozhimka_derive_in<'a>(
         excludes,
         roles,
         room,
+    )
+}
+
+// The record is event and role in turn.
+#[no_mangle]
+pub extern "C" fn ozhimka_replay_in<'a>(
+    count: u32,
+    conditions: &'a [u64; MAX_EVENTS],
+    responses: &'a [u64; MAX_EVENTS],
+    milestones: &'a [u64; MAX_EVENTS],
+    includes: &'a [u64; MAX_EVENTS],
+    excludes: &'a [u64; MAX_EVENTS],
+    roles: &'a [u8; MAX_EVENTS],
+    start: Marking,
+    recorded: &'a [u32],
+) -> Replayed
+    ensures { λ r. ⌜ r ≡ replaying (chartOf count (now (conditions .entry)) (now (responses .entry)) (now (milestones .entry)) (now (includes .entry)) (now (excludes .entry)) (now (roles .entry))) start (now (recorded .entry)) ⌝ }
+{
+    replay::replay_in(
+        count,
+        conditions,
+        responses,
+        milestones,
+        includes,
+        excludes,
+        roles,
+        start,
+        recorded,
+    )
+}
+
+#[no_mangle]
+pub extern "C" fn ozhimka_strike_in<'a>(
+    count: u32,
+    conditions: &'a [u64; MAX_EVENTS],
+    responses: &'a [u64; MAX_EVENTS],
+    milestones: &'a [u64; MAX_EVENTS],
+    includes: &'a [u64; MAX_EVENTS],
+    excludes: &'a [u64; MAX_EVENTS],
+    roles: &'a [u8; MAX_EVENTS],
+    start: Marking,
+    recorded: &'a [u32],
+    position: u32,
+) -> Struck
+    ensures { λ r. ⌜ r ≡ striking (chartOf count (now (conditions .entry)) (now (responses .entry)) (now (milestones .entry)) (now (includes .entry)) (now (excludes .entry)) (now (roles .entry))) start (now (recorded .entry)) position ⌝ }
+{
+    replay::strike_in(
+        count,
+        conditions,
+        responses,
+        milestones,
+        includes,
+        excludes,
+        roles,
+        start,
+        recorded,
+        position,
     )
 }
 
