@@ -8,9 +8,9 @@ from chances import (NO_ROLES, in_turn, random_chart_image, random_flat, random_
                      sound_book)
 from ozhimka import (AND, BECOME_NO, BECOME_YES, CLEAR, COMPLETED, CONDITION, EXCLUDE, GRANTED, INCLUDE, MILESTONE, NONE, NOT,
                      OR, SET, Book, FlatChart, Marking, Rule, book_image, chart_image, on_completion, without_trigger)
-from protocol import (BAD, MAX_BODY, MAX_ROOM_BYTES, MAX_ROOM_NUMBERS, bytes16, bytes32, check_request, complete_request,
+from protocol import (BAD, MAX_BODY, MAX_ROOM_BYTES, MAX_ROOM_NUMBERS, MAX_STEPS, bytes16, bytes32, check_request, complete_request,
                       count_request, derive_request, execute_request, finished_request, index_request, indexed_request,
-                      list_request, listing_request, matching_request, read_request)
+                      list_request, listing_request, matching_request, read_request, replay_request, strike_request)
 
 FREE = (NONE, 4)
 HUGE = 0xFFFFFFFF
@@ -1124,6 +1124,131 @@ def request_limits(rng):
     yield GRANTED, bodies[0] + bytes(MAX_BODY - len(bodies[0]))
 
 
+# ---- records
+
+ALWAYS = (0, 0)  # a step that is allowed wherever it stands
+
+
+def recorded_flat():
+    """Six events: 2 is a condition of 3 and includes 5, which excludes 2; 1 is a milestone of 4, which names role 2 and makes 1 pending."""
+    chart = model.empty_chart(6)
+    chart.conditions[3].add(2)
+    chart.milestones[4].add(1)
+    chart.responses[4].add(1)
+    chart.includes[2].add(5)
+    chart.excludes[5].add(2)
+    return with_roles(chart, {4: {2}})
+
+
+def recorded_start():
+    return Marking(set(), {1}, {0, 1, 2, 3, 4})
+
+
+# each code of a step, from the start marking on, by each of its causes
+STOPS = ((10, (6, 0)), (10, (64, 0)), (10, (65536, 0)), (10, (HUGE, HUGE)), (32, (0, 8)), (32, (4, 3)), (32, (5, 256)), (32, (3, HUGE)),
+         (11, (5, 0)), (12, (3, 7)), (13, (4, 2)))
+# a step that the one before it makes allowed, and its code without that one; and one that it forbids, with its code
+NEEDS = ((12, (2, 0), (3, 0)), (11, (2, 1), (5, 1)), (13, (1, 0), (4, 2)))
+FORBIDS = ((11, [(2, 0), (5, 0), (2, 0)], 1), (13, [(1, 0), (4, 2), (4, 2)], 1))
+
+
+def of_replay(chart, start, record, steps, code, done):
+    """A replay that is granted, with how far it is meant to go, the code there, and whether it is finished there."""
+    meant = (GRANTED, steps, code, done)
+    answer, told, stopped, marking, finished = model.replay(chart, start, record)
+    assert (answer, told, stopped, finished) == meant, (record, meant)
+    return GRANTED, replay_request(chart, start, record)
+
+
+def replay_causes(rng):
+    """How far a record is allowed: whole or to a step of each code, at each place in it, finished or not; an empty record."""
+    chart, start = recorded_flat(), recorded_start()
+    paid = Marking(set(), set(), start.included)
+    for marking, done in ((start, False), (paid, True)):
+        yield of_replay(chart, marking, [], 0, 0, done)
+        for count in (1, 2, 7):
+            yield of_replay(chart, marking, [ALWAYS] * count, count, 0, done)
+    for code, bad in STOPS:
+        for before, behind in ((0, 0), (0, 3), (3, 0), (2, 2)):
+            yield of_replay(chart, start, [ALWAYS] * before + [bad] + [ALWAYS] * behind, before, code, False)
+        if code != 13:
+            yield of_replay(chart, start, [(1, 0), bad, (4, 2)], 1, code, True)
+        yield of_replay(chart, start, [(2, 0), bad, bad], *((3, 0) if bad in ((5, 0), (3, 7)) else (1, code)), False)
+    for code, need, step in NEEDS:
+        yield of_replay(chart, start, [need, step], 2, 0, False)
+        yield of_replay(chart, start, [step, need], 0, code, False)
+    for code, record, _ in FORBIDS:
+        yield of_replay(chart, start, record, 2, code, False)
+    yield of_replay(chart, start, [(1, 0), (4, 2)], 2, 0, False)  # the last step makes 1 pending again
+    yield of_replay(chart, start, [(1, 0), (4, 2), (1, 3), (2, 0)], 4, 0, True)
+    wide = model.empty_chart(64)
+    everyone = Marking(set(), set(), set(range(64)))
+    yield of_replay(wide, everyone, [(e, e % 8) for e in range(64)], 64, 0, True)
+    yield of_replay(wide, everyone, [(e, e % 8) for e in range(66)], 64, 10, True)
+
+
+def strike_causes(rng):
+    """Codes 36 and those of a step, before the struck position and behind it; what is granted."""
+    chart, start = recorded_flat(), recorded_start()
+    for record in ([], [ALWAYS], [ALWAYS] * 3, [(6, 0)], [(3, 0), (2, 0)]):
+        for position in (len(record), len(record) + 1, len(record) + 65536, 1 << 31, HUGE):
+            yield plain(36), strike_request(chart, start, position, record)  # before any step
+    for code, bad in STOPS:
+        for before, behind in ((0, 1), (1, 0), (2, 3)):
+            record = [ALWAYS] * before + [bad] + [ALWAYS] * behind
+            for position in range(len(record)):
+                yield plain(code, before) if position != before else GRANTED, strike_request(chart, start, position, record)
+        yield plain(code, 1), strike_request(chart, start, 2, [ALWAYS, bad, bad])  # the first of two, and the second once it is struck
+        yield plain(code, 2), strike_request(chart, start, 1, [ALWAYS, bad, bad])
+    for code, need, step in NEEDS:
+        record = [ALWAYS, need, step]
+        for position, answer in ((0, GRANTED), (1, plain(code, 2)), (2, GRANTED)):
+            yield answer, strike_request(chart, start, position, record)
+        yield plain(code, 3), strike_request(chart, start, 1, [ALWAYS, need, ALWAYS, step])
+        yield GRANTED, strike_request(chart, start, 0, [step, need, step])  # not judged where it is struck
+    for code, record, struck in FORBIDS:
+        for position in range(3):
+            answer = strike_request(chart, start, position, record)
+            yield (GRANTED, answer) if position in (struck, 2) else (None, answer)
+    for position in (0, 1, 63):
+        yield GRANTED, strike_request(model.empty_chart(64), Marking(set(), set(), set(range(64))), position, [(e, 7) for e in range(64)])
+
+
+def unfit_record_causes(rng):
+    """Code 14 by chart and by marking in both calls, before 36 and before any step."""
+    records = ([], [(0, 0)], [(0, 8), (HUGE, 0)])
+    for chart in unfit_flats(rng):
+        fit = Marking({0}, {0}, {0}) if chart.count else model.empty_marking()
+        yield plain(14), replay_request(chart, fit, rng.choice(records))
+        yield plain(14), strike_request(chart, fit, rng.choice((0, 1, 2, HUGE)), rng.choice(records))
+    for part in range(3):
+        for bit in (6, 40, 63):
+            marking = Marking(*[set(entry) for entry in recorded_start()])
+            marking[part].add(bit)
+            for record in records:
+                yield plain(14), replay_request(recorded_flat(), marking, record)
+                yield plain(14), strike_request(recorded_flat(), marking, rng.choice((0, 1, 2, HUGE)), record)
+
+
+def record_limits(rng):
+    """The longest record, allowed whole and up to its last step; one step more; bodies that are cut short."""
+    chart, start = recorded_flat(), recorded_start()
+    longest = [ALWAYS] * MAX_STEPS
+    yield of_replay(chart, start, longest, MAX_STEPS, 0, False)
+    yield of_replay(chart, start, longest[:-1] + [(3, 0)], MAX_STEPS - 1, 12, False)
+    yield plain(12, MAX_STEPS - 1), strike_request(chart, start, 0, longest[:-1] + [(3, 0)])
+    yield GRANTED, strike_request(chart, start, MAX_STEPS - 1, longest[:-1] + [(3, 0)])
+    yield plain(36), strike_request(chart, start, MAX_STEPS, longest)
+    for make in (lambda record: replay_request(chart, start, record), lambda record: strike_request(chart, start, 0, record)):
+        whole, empty = make([ALWAYS, ALWAYS]), make([])
+        yield BAD, make(longest + [ALWAYS])
+        yield BAD, with_number32(whole, len(empty) - 4, HUGE)
+        yield BAD, with_number32(whole, len(empty) - 4, 3)
+        yield GRANTED, whole + rng.randbytes(5)
+        for body in (whole[:-1], whole[:-4], empty[:-1], empty[:-4], empty[:-28], empty[:1]):
+            yield BAD, body
+
+
 # ---- the largest sizes
 
 def largest_chart(rng):
@@ -1316,5 +1441,7 @@ def listing_causes(rng):
 CAUSES = (header_causes, node_causes, group_causes, conflict_causes, accepted_charts, charts_with_roles, unfit_causes, step_causes,
           role_causes, marking_causes, derive_causes, book_header_causes, rule_causes, condition_causes, loop_causes, stage_loop_causes,
           looping_stage_causes, whole_book_causes, clash_causes, order_causes, order_room_causes, pair_causes, index_room_causes,
-          unfit_index_causes, indexed_causes, list_causes, list_order_causes, running_order_causes, firing_causes, bad_requests, request_limits, listing_causes)
-LARGEST = (largest_charts, largest_derivings, largest_derived_book, largest_indexes, largest_lists, largest_hand_made, completions_with_conditions, wide_conditions)
+          unfit_index_causes, indexed_causes, list_causes, list_order_causes, running_order_causes, firing_causes,
+          bad_requests, request_limits, listing_causes, replay_causes, strike_causes, unfit_record_causes)
+LARGEST = (largest_charts, largest_derivings, largest_derived_book, largest_indexes, largest_lists, largest_hand_made,
+           completions_with_conditions, wide_conditions, record_limits)

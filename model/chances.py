@@ -3,7 +3,8 @@
 import ozhimka as model
 from ozhimka import AND, NONE, NOT, OR, Book, Marking, Rule
 from protocol import (FLAT_BYTES, check_request, complete_request, count_request, derive_request, execute_request,
-                      finished_request, index_request, indexed_request, list_request, listing_request, matching_request, read_request)
+                      finished_request, index_request, indexed_request, list_request, listing_request, matching_request, read_request,
+                      replay_request, strike_request)
 
 
 def some(rng, population, chance):
@@ -396,6 +397,30 @@ def steps(rng):
     yield rng.choice(makers)(chart, marking)
 
 
+def random_record(rng, chart, marking):
+    """Steps of which most are granted where they stand."""
+    record = []
+    for _ in range(rng.choice((0, 1, 2, 5, 10, 20))):
+        opened = model.open_events(chart, marking)
+        event = rng.choice(opened) if opened and rng.random() < 0.97 else rng.randrange(chart.count + 1)
+        named = sorted(chart.roles[event]) if event < chart.count else []
+        role = rng.choice(named or range(8)) if rng.random() < 0.97 else random_role(rng, chart, event)
+        record.append((event, role))
+        marking = model.step(chart, marking, event, role)[1]
+    return record
+
+
+def records(rng):
+    """A record replayed, and replayed without one step; at times without a step that it needs."""
+    chart = random_flat(rng, chance=rng.choice((0.02, 0.05, 0.1)))
+    marking = random_marking(rng, chart.count)
+    record = random_record(rng, chart, marking)
+    if record and rng.random() < 0.2:
+        del record[rng.randrange(len(record))]
+    yield replay_request(chart, marking, record)
+    yield strike_request(chart, marking, rng.randrange(len(record) + 1), record)
+
+
 def derivings(rng):
     chart = random_flat(rng)
     needed = len(model.book_image(model.derived_book(chart)))
@@ -647,4 +672,4 @@ def damaged_flats(rng):
 
 SMALL = (charts, wild_checks, wild_completions, circles, crowded_books, sound_books, sound_runs, indexes, lists,
          damaged_charts, badly_flagged, damaged_books, listings)
-WIDE = (steps, derivings, side_by_side, damaged_flats)  # their requests carry a flat chart of 2,628 bytes
+WIDE = (steps, derivings, side_by_side, damaged_flats, records)  # their requests carry a flat chart of 2,628 bytes

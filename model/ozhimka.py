@@ -195,9 +195,9 @@ def is_permitted(chart, event, role):
     return role <= 7 and (not chart.roles[event] or role in chart.roles[event])
 
 
-def execute(chart, marking, event, role):
+def step(chart, marking, event, role):
+    """A step of a chart and a marking that are fit."""
     try:
-        refuse_unfit(chart, marking)
         refuse_if(10, event >= chart.count)
         refuse_if(32, not is_permitted(chart, event, role))
         refuse_if(11, event not in marking.included)
@@ -208,6 +208,14 @@ def execute(chart, marking, event, role):
     return GRANTED, Marking(executed=marking.executed | {event},
                             pending=(marking.pending - {event}) | chart.responses[event],
                             included=(marking.included - chart.excludes[event]) | chart.includes[event])
+
+
+def execute(chart, marking, event, role):
+    try:
+        refuse_unfit(chart, marking)
+    except Refused as refused:
+        return refused.answer, marking
+    return step(chart, marking, event, role)
 
 
 def count_open(chart, marking):
@@ -225,6 +233,42 @@ def finished(chart, marking):
     except Refused as refused:
         return refused.answer, False
     return GRANTED, not any(e in marking.included and e in marking.pending for e in range(chart.count))
+
+
+# ---- Replaying a recorded purchase: a record is a list of (event, role) pairs
+
+def how_far(chart, start, record):
+    """How many steps are allowed, the code of the first that is not (the record's length and 0 if all are), the marking there."""
+    marking = start
+    for position, (event, role) in enumerate(record):
+        answer, after = step(chart, marking, event, role)
+        if answer != GRANTED:
+            return position, answer[0], marking
+        marking = after
+    return len(record), 0, marking
+
+
+def replay(chart, start, record):
+    """A replay that stops at a step is no refused call and keeps the marking reached."""
+    try:
+        refuse_unfit(chart, start)
+    except Refused as refused:
+        return refused.answer, 0, 0, start, False
+    steps, code, marking = how_far(chart, start, record)
+    return GRANTED, steps, code, marking, finished(chart, marking)[1]
+
+
+def strike(chart, start, position, record):
+    """Replays the record without the step at one position; a step that fails is named by its old position."""
+    try:
+        refuse_unfit(chart, start)
+        refuse_if(36, position >= len(record))
+        steps, code, marking = how_far(chart, start, record[:position] + record[position + 1:])
+        if code:
+            raise Refused(code, steps if steps < position else steps + 1)
+    except Refused as refused:
+        return refused.answer, start
+    return GRANTED, marking
 
 
 # ---- Rule book
@@ -831,6 +875,27 @@ def list_examples():
         assert worth(complete_list(image, index_of(image), snapshot, stages)[2]) == ends
 
 
+def replay_examples():
+    """A purchase that stood still: event 0, ordering, makes 1, delivery, pending and is a condition of it; 2 may be left out."""
+    chart = empty_chart(3)
+    chart.conditions[1].add(0)
+    chart.responses[0].add(1)
+    start, made = Marking(set(), set(), {0, 1, 2}), [(0, 0), (2, 5), (1, 7)]
+    end = Marking({0, 1, 2}, set(), {0, 1, 2})
+    assert replay(chart, start, made) == (GRANTED, 3, 0, end, True) and replay(chart, start, []) == (GRANTED, 0, 0, start, True)
+    ordered = Marking({0}, {1}, {0, 1, 2})
+    assert replay(chart, start, [(0, 0), (3, 0), (1, 0)]) == (GRANTED, 1, 10, ordered, False)
+    assert replay(chart, start, [(0, 0), (1, 8)]) == (GRANTED, 1, 32, ordered, False)
+    assert replay(chart, start, [(2, 0), (1, 0)]) == (GRANTED, 1, 12, Marking({2}, set(), {0, 1, 2}), True)
+    assert strike(chart, start, 1, made) == (GRANTED, Marking({0, 1}, set(), {0, 1, 2}))
+    assert strike(chart, start, 0, made) == ((12, 2, 0), start) and strike(chart, start, 2, made[:2] + [(9, 0)])[0] == GRANTED
+    assert strike(chart, start, 2, [(1, 0)] + made) == ((12, 0, 0), start)
+    for position, record in ((3, made), (0, []), ((1 << 32) - 1, made)):
+        assert strike(chart, start, position, record) == ((36, 0, 0), start)
+    beyond = Marking({3}, set(), set())
+    assert replay(chart, beyond, made) == ((14, 0, 0), 0, 0, beyond, False) and strike(chart, beyond, 3, made) == ((14, 0, 0), beyond)
+
+
 def orders_agree():
     """Small random books without a loop, also over all rules, get one running order from both functions that make it."""
     rng = random.Random(1)
@@ -862,5 +927,6 @@ if __name__ == '__main__':
         stage_examples()
         index_examples()
         list_examples()
+        replay_examples()
         orders_agree()
         print('the settled examples hold')

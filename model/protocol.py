@@ -11,6 +11,7 @@ MARKING_BYTES = 3 * 8
 MAX_BODY = 262144
 MAX_ROOM_BYTES = 200000
 MAX_ROOM_NUMBERS = 10000
+MAX_STEPS = 10000  # of a record
 BAD = 'bad request'
 LISTING = 18  # the operation that lists a chart's book
 
@@ -80,6 +81,18 @@ def list_request(snapshot, stages, index, image):
             + bytes32(len(index)) + index + image)
 
 
+def record_bytes(record):
+    return bytes32(len(record)) + b''.join(bytes32(event) + bytes32(role) for event, role in record)
+
+
+def replay_request(chart, marking, record):
+    return b'\x0c' + flat_bytes(chart) + marking_bytes(marking) + record_bytes(record)
+
+
+def strike_request(chart, marking, position, record):
+    return b'\x0d' + flat_bytes(chart) + marking_bytes(marking) + bytes32(position) + record_bytes(record)
+
+
 def listing_request(image):
     return bytes([LISTING]) + image
 
@@ -145,6 +158,9 @@ def line_for(body):
         return indexed_line(body) if len(body) >= 41 else BAD
     if operation == 11:
         return list_line(body) if len(body) >= 37 else BAD
+    if operation in (12, 13):
+        record = record_at(body, 1 + FLAT_BYTES + MARKING_BYTES + (4 if operation == 13 else 0))
+        return BAD if record is None else record_line(operation, body, record)
     if operation == LISTING:
         return listing_line(body)
     return BAD
@@ -229,6 +245,22 @@ def list_line(body):
     stages, end = [model.number32(body, i) for i in range(37, at - 4, 4)], at + model.number32(body, at - 4)
     answer, granted, after = model.complete_list(body[end:], body[at:end], snapshot, stages)
     return line('list', answer, [granted] + snapshot_words(after))
+
+
+def record_at(body, at):
+    """The record that begins there; None if it is too long or cut short."""
+    if len(body) < at + 4 or model.number32(body, at) > MAX_STEPS or len(body) < at + 4 + 8 * model.number32(body, at):
+        return None
+    return [(model.number32(body, i), model.number32(body, i + 4)) for i in range(at + 4, at + 4 + 8 * model.number32(body, at), 8)]
+
+
+def record_line(operation, body, record):
+    chart, start = flat_at(body, 1), marking_at(body, 1 + FLAT_BYTES)
+    if operation == 12:
+        answer, steps, code, marking, yes = model.replay(chart, start, record)
+        return line('replay', answer, [steps, code] + [worth(entry) for entry in marking] + ['yes' if yes else 'no'])
+    answer, marking = model.strike(chart, start, model.number32(body, 1 + FLAT_BYTES + MARKING_BYTES), record)
+    return line('strike', answer, [worth(entry) for entry in marking])
 
 
 def listing_line(body):

@@ -2,6 +2,7 @@
 mod adler;
 mod calls;
 mod fields;
+mod replays;
 mod rooms;
 mod show;
 
@@ -30,6 +31,8 @@ fn serve(body: &[u8], line: &mut [u8; LINE]) -> usize {
         9 => calls::index(body, line),
         10 => calls::indexed(body, line),
         11 => calls::complete_list(body, line),
+        12 => replays::replay(body, line),
+        13 => replays::strike(body, line),
         18 => calls::list(body, line),
         _ => show::bad_request(line),
     }
