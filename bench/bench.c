@@ -1,4 +1,4 @@
-// Times each call of the library, of the plain C and of the leaner plain C on the same buffers, and prints four tables.
+// Times each call of the library, of the plain C and of the leaner plain C on the same buffers, and prints five tables.
 #define _POSIX_C_SOURCE 199309L
 #include "inputs.h"
 #include "lean.h"
@@ -23,17 +23,24 @@ static struct snapshot snapshot;
 static uint32_t stages[LIST]; // a list of completions that are all granted
 static const uint32_t event = 1, role = 1; // the event is the stage that is checked and completed, too
 
-// the same chart, marking and snapshot under the library's names
+enum { LONGEST_RECORD = 10000 };
+static struct recorded record[LONGEST_RECORD]; // allowed whole
+static size_t steps;
+static uint32_t struck; // a position without which it is, too
+
+// the same chart, marking, snapshot and record under the library's names
 static struct ozhimka_chart own_chart;
 static struct ozhimka_marking own_marking;
 static struct ozhimka_snapshot own_snapshot;
+static struct ozhimka_recorded own_record[LONGEST_RECORD];
 
 _Static_assert(sizeof own_chart == sizeof chart && sizeof own_marking == sizeof marking && sizeof own_snapshot == sizeof snapshot
                    && sizeof(struct ozhimka_reading) == sizeof(struct reading) && sizeof(struct ozhimka_step) == sizeof(struct step)
                    && sizeof(struct ozhimka_open_count) == sizeof(struct open_count)
                    && sizeof(struct ozhimka_finish) == sizeof(struct finish)
                    && sizeof(struct ozhimka_settled) == sizeof(struct settled)
-                   && sizeof(struct ozhimka_list_completion) == sizeof(struct listed),
+                   && sizeof(struct ozhimka_list_completion) == sizeof(struct listed) && sizeof own_record == sizeof record
+                   && sizeof(struct ozhimka_replayed) == sizeof(struct replayed) && sizeof(struct ozhimka_struck) == sizeof(struct step),
                "both sides pass as many bytes");
 
 static void share(void)
@@ -59,6 +66,7 @@ static union {
     struct finish finish;
     struct settled settled;
     struct listed listed;
+    struct replayed replayed;
 } plain_out;
 
 static union {
@@ -69,6 +77,8 @@ static union {
     struct ozhimka_finish finish;
     struct ozhimka_settled settled;
     struct ozhimka_list_completion listed;
+    struct ozhimka_replayed replayed;
+    struct ozhimka_struck struck;
 } own_out;
 
 static void plain_1(void) { plain_out.reading = plain_read_chart(image, image_length); }
@@ -127,6 +137,26 @@ static void own_12(void)
     own_out.listed = (struct ozhimka_list_completion){next.answer, granted, next.snapshot};
 }
 
+static void plain_13(void) { plain_out.replayed = plain_replay(&chart, marking, record, steps); }
+static void own_13(void) { own_out.replayed = ozhimka_replay(&own_chart, own_marking, own_record, steps); }
+static void plain_14(void) { plain_out.step = plain_strike(&chart, marking, record, steps, struck); }
+static void own_14(void) { own_out.struck = ozhimka_strike(&own_chart, own_marking, own_record, steps, struck); }
+
+// The record by a call of execute for each step.
+static void plain_each(void)
+{
+    plain_out.step.marking = marking;
+    for (size_t i = 0; i < steps; i++)
+        plain_out.step = plain_execute(&chart, plain_out.step.marking, record[i].event, record[i].role);
+}
+
+static void own_each(void)
+{
+    own_out.step.marking = own_marking;
+    for (size_t i = 0; i < steps; i++)
+        own_out.step = ozhimka_execute(&own_chart, own_out.step.marking, own_record[i].event, own_record[i].role);
+}
+
 // ---- whether both results are the same, field by field, since the bytes between fields may be any
 
 static bool same_answer(void)
@@ -174,6 +204,16 @@ static bool same_list(void)
            && memcmp(plain_out.listed.snapshot.marks, own_out.listed.snapshot.marks, sizeof snapshot.marks) == 0;
 }
 
+static bool same_replay(void)
+{
+    const struct replayed *plain = &plain_out.replayed;
+    const struct ozhimka_replayed *own = &own_out.replayed;
+    return plain->code == own->code && plain->steps == own->steps && plain->finished == own->finished
+           && same_marking(&plain->marking, &own->marking);
+}
+
+static bool same_strike(void) { return same_marking(&plain_out.step.marking, &own_out.struck.marking); }
+
 struct call {
     const char *name;
     void (*plain)(void), (*lean)(void), (*own)(void); // lean is null where plain C has no shortcut to take
@@ -197,6 +237,14 @@ enum { CALLS = sizeof calls / sizeof calls[0], CHECK = 6, LAST = CALLS - 1 };
 
 static const struct call list_call = {"complete_list", plain_11, lean_11, own_11, same_list},
                          list_in_turn = {"complete_indexed, 256 calls", plain_12, lean_12, own_12, same_list};
+
+static const struct call record_calls[] = {
+    {"replay", plain_13, NULL, own_13, same_replay},
+    {"strike", plain_14, NULL, own_14, same_strike},
+    {"execute for each step", plain_each, NULL, own_each, same_step},
+};
+
+enum { RECORD_CALLS = sizeof record_calls / sizeof record_calls[0] };
 
 // ---- timing
 
@@ -354,6 +402,28 @@ static void load_book(size_t (*write)(uint8_t *, uint32_t), uint32_t rules)
     load_order();
 }
 
+// A record of steps that are granted one after the other: each time the next event, round and round, that is open, by its lowest role.
+static void load_record(size_t count)
+{
+    struct marking reached = marking;
+    uint32_t e = 0, tried = 0;
+    for (steps = 0; steps < count && tried <= chart.count; e = (e + 1) % chart.count, tried++) {
+        struct recorded next = {e, chart.roles[e] == 0 ? 0 : (uint32_t)__builtin_ctz(chart.roles[e])};
+        struct step step = plain_execute(&chart, reached, next.event, next.role);
+        if (step.answer.code == 0) {
+            own_record[steps] = (struct ozhimka_recorded){next.event, next.role};
+            record[steps++] = next;
+            reached = step.marking;
+            tried = 0;
+        }
+    }
+    struck = (uint32_t)(count / 2);
+    while (struck < steps && plain_strike(&chart, marking, record, steps, struck).answer.code != 0)
+        struck++;
+    if (steps < count || struck >= steps)
+        abort();
+}
+
 // Leaves the times of the largest chart in `last`.
 static void print_charts(const char *input, size_t (*write)(uint8_t *, uint32_t), struct times last[CALLS])
 {
@@ -410,6 +480,17 @@ static void print_books(const char *input, size_t (*write)(uint8_t *, uint32_t))
     }
 }
 
+static void print_records(const char *input, size_t (*write)(uint8_t *, uint32_t))
+{
+    struct times before[RECORD_CALLS] = {{0, 0, 0}};
+    load_chart(write, 64);
+    for (size_t count = LONGEST_RECORD / 8; count <= LONGEST_RECORD; count *= 2) {
+        load_record(count);
+        for (int i = 0; i < RECORD_CALLS; i++)
+            before[i] = print_row(&record_calls[i], input, (unsigned)count, before[i]);
+    }
+}
+
 int main(void)
 {
     struct times full[CALLS], sparse[CALLS];
@@ -430,5 +511,8 @@ int main(void)
     print_books("one mark, one condition", one_condition_book);
     print_books("one stage", one_stage_book);
     print_books("every stage", staged_book);
+    printf("\n");
+    print_header("steps");
+    print_records("sparse, 64 events", sparse_chart);
     return 0;
 }

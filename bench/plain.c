@@ -180,13 +180,10 @@ static bool permitted(uint8_t roles, uint32_t role)
     return role < MAX_ROLES && (roles == 0 || (roles >> role & 1) != 0);
 }
 
-struct step plain_execute(const struct flat_chart *chart, struct marking marking, uint32_t event, uint32_t role)
+// A step of a chart and a marking that are fit.
+static inline struct step take(const struct flat_chart *chart, struct marking marking, uint32_t event, uint32_t role)
 {
     struct step step = {granted, marking};
-    if (!fit(chart, marking)) {
-        step.answer = refused(14, 0, 0);
-        return step;
-    }
     if (event >= chart->count) {
         step.answer = refused(10, 0, 0);
         return step;
@@ -215,6 +212,11 @@ struct step plain_execute(const struct flat_chart *chart, struct marking marking
     return step;
 }
 
+struct step plain_execute(const struct flat_chart *chart, struct marking marking, uint32_t event, uint32_t role)
+{
+    return fit(chart, marking) ? take(chart, marking, event, role) : (struct step){refused(14, 0, 0), marking};
+}
+
 struct open_count plain_count_open(const struct flat_chart *chart, struct marking marking)
 {
     if (!fit(chart, marking))
@@ -228,6 +230,44 @@ struct finish plain_finished(const struct flat_chart *chart, struct marking mark
     if (!fit(chart, marking))
         return (struct finish){refused(14, 0, 0), false};
     return (struct finish){granted, (marking.included & marking.pending) == 0};
+}
+
+// ---- replaying a record
+
+// Takes the steps from one position to another; gives the position of the first that is not allowed, or the other one.
+static size_t walk(const struct flat_chart *chart, struct step *reached, const struct recorded *steps, size_t from, size_t end)
+{
+    for (size_t at = from; at < end; at++) {
+        *reached = take(chart, reached->marking, steps[at].event, steps[at].role);
+        if (reached->answer.code != 0)
+            return at;
+    }
+    return end;
+}
+
+struct replayed plain_replay(const struct flat_chart *chart, struct marking start, const struct recorded *steps, size_t count)
+{
+    if (!fit(chart, start))
+        return (struct replayed){refused(14, 0, 0), 0, 0, start, false};
+    struct step reached = {granted, start};
+    size_t allowed = walk(chart, &reached, steps, 0, count);
+    bool finished = (reached.marking.included & reached.marking.pending) == 0;
+    return (struct replayed){granted, reached.answer.code, allowed, reached.marking, finished};
+}
+
+struct step plain_strike(const struct flat_chart *chart, struct marking start, const struct recorded *steps, size_t count, uint32_t position)
+{
+    if (!fit(chart, start))
+        return (struct step){refused(14, 0, 0), start};
+    if (position >= count)
+        return (struct step){refused(36, 0, 0), start};
+    struct step reached = {granted, start};
+    size_t at = walk(chart, &reached, steps, 0, position);
+    if (reached.answer.code == 0)
+        at = walk(chart, &reached, steps, position + (size_t)1, count);
+    if (reached.answer.code != 0)
+        return (struct step){refused(reached.answer.code, at < UINT32_MAX ? (uint32_t)at : UINT32_MAX, 0), start};
+    return reached;
 }
 
 struct settled plain_matching(const struct flat_chart *chart, struct marking marking)

@@ -59,6 +59,18 @@ struct listed {
     struct snapshot snapshot;
 };
 
+struct recorded {
+    uint32_t event, role;
+};
+
+struct replayed {
+    struct answer answer;
+    uint32_t code;
+    uint64_t steps;
+    struct marking marking;
+    bool finished;
+};
+
 struct reading plain_read_chart(const uint8_t *image, size_t length);
 struct step plain_execute(const struct flat_chart *chart, struct marking marking, uint32_t event, uint32_t role);
 struct open_count plain_count_open(const struct flat_chart *chart, struct marking marking);
@@ -73,5 +85,9 @@ struct settled plain_complete_indexed(const uint8_t *image, size_t length, const
                                       uint32_t stage);
 struct listed plain_complete_list(const uint8_t *image, size_t length, const uint8_t *index, size_t bytes, struct snapshot snapshot,
                                  const uint32_t *stages, size_t count);
+
+// A strike gives what a step does.
+struct replayed plain_replay(const struct flat_chart *chart, struct marking start, const struct recorded *steps, size_t count);
+struct step plain_strike(const struct flat_chart *chart, struct marking start, const struct recorded *steps, size_t count, uint32_t position);
 
 #endif

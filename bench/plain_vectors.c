@@ -8,7 +8,7 @@
 #include <stdlib.h>
 #include <string.h>
 
-enum { MAX_BODY = 262144, MAX_BYTES = 200000, MAX_NUMBERS = 10000, FLAT = 4 + 5 * 64 * 8 + 64, MARKING = 24, FILL = 165 };
+enum { MAX_BODY = 262144, MAX_BYTES = 200000, MAX_NUMBERS = 10000, MAX_STEPS = 10000, FLAT = 4 + 5 * 64 * 8 + 64, MARKING = 24, FILL = 165 };
 enum { LISTING = 18, LISTED_CHART = 25097, LISTED_BOOK = 49152, AND = 65533, OR = 65534, NOT = 65535 };
 
 #ifdef LEAN
@@ -232,6 +232,33 @@ static bool complete_list(const uint8_t *at, size_t length)
     return true;
 }
 
+// A strike has its position before the record.
+static bool on_record(int operation, const uint8_t *at, size_t length)
+{
+    size_t behind = FLAT + MARKING + (operation == 13 ? 4 : 0);
+    if (length < behind + 4 || number(at + behind, 4) > MAX_STEPS || length < behind + 4 + 8 * number(at + behind, 4))
+        return false;
+    size_t count = number(at + behind, 4);
+    struct flat_chart chart = flat_at(at);
+    struct marking start = marking_at(at + FLAT);
+    struct recorded *steps = filled(8 * count);
+    for (size_t i = 0; i < count; i++)
+        steps[i] = (struct recorded){(uint32_t)number(at + behind + 4 + 8 * i, 4), (uint32_t)number(at + behind + 8 + 8 * i, 4)};
+    if (operation == 12) {
+        struct replayed replayed = plain_replay(&chart, start, steps, count);
+        say("replay", replayed.answer);
+        printf(" %" PRIu64 " %" PRIu32, replayed.steps, replayed.code);
+        say_marking(replayed.marking);
+        printf(replayed.finished ? " yes" : " no");
+    } else {
+        struct step struck = plain_strike(&chart, start, steps, count, (uint32_t)number(at + FLAT + MARKING, 4));
+        say("strike", struck.answer);
+        say_marking(struck.marking);
+    }
+    free(steps);
+    return true;
+}
+
 // ---- the listing: what the program book_listing prints, as its length and its sum
 
 static uint32_t listed, listed_sum;
@@ -314,6 +341,8 @@ static bool serve(const uint8_t *at, size_t length)
         return complete_indexed(at + 1, length - 1);
     case 11:
         return complete_list(at + 1, length - 1);
+    case 12: case 13:
+        return on_record(at[0], at + 1, length - 1);
     case LISTING:
         listing(at + 1, length - 1);
         return true;
