@@ -79,6 +79,7 @@ REFUSALS = {
     32: ('NOT_PERMITTED', 'the event names other roles, or the role is none of 0 to 7'),
     34: ('INDEX_UNFIT', "the index is not this book's: it was made for another book, or has been altered"),
     35: ('INDEX_ROOM', 'the index takes {place:,} bytes, more than there is room for'),
+    36: ('NO_SUCH_POSITION', 'there is no such position in the record'),
     38: ('LONG_LIST', 'the list has {place:,} stages, and at most {MAX_LIST:,} are allowed'),
 }
 
