@@ -5,22 +5,25 @@ use mathlib.Core.Path.{_≡_, refl, sym, ap, subst, _∙_}
 use mathlib.Core.Logic.{_↔_}
 use mathlib.Core.Bool.{true}
 use mathlib.Core.List.{List, [], _∷_}
+use native.Mathlib.Omega.{arith}
 use lib.Dec.{eqb}
 use lib.ListN.{length}
 use borrow.Author.Tests.{eqb-true, eqb-false}
-use Rattle.paper.specs.Limits.{maxList}
+use Rattle.paper.specs.Limits.{maxList, unfit}
 use Rattle.general.specs.Cases.{cases}
-use Rattle.graph.specs.Chart.{Fit, FitMarking}
+use Rattle.graph.specs.Chart.{In, Fit, FitMarking}
 use Rattle.graph.specs.Fitness.{fit-both}
 use Rattle.graph.specs.Tests.{fit}
-use Rattle.graph.specs.Execution.{refused-kept}
+use Rattle.graph.specs.Steps.{executing}
+use Rattle.graph.specs.Execution.{Executes, isUnfit, isGone, isForbidden, isExcluded, isWanting, isAwaiting, isDone, executes, refused-kept, finished-when}
 use Rattle.graph.specs.declared.FlatChart.{FlatChart}
 use Rattle.graph.specs.declared.Marking.{Marking}
+use Rattle.graph.specs.declared.steps.Step.{Step}
 use Rattle.deriver.specs.Deriving.{derivedImage}
 use Rattle.deriver.specs.Matching.{matchingOf}
 use Rattle.indexed.specs.Building.{indexOf}
 use Rattle.indexed.specs.InList.{completingList}
-use Rattle.replay.specs.Recorded.{Entry, recordOf, taking, Allowed, reaching}
+use Rattle.replay.specs.Recorded.{Entry, recordOf, taking, Allowed, reaching, reach-fit}
 use Rattle.replay.specs.Replaying.{replaying, striking, without}
 use Rattle.replay.specs.Table.{allWith, replay-allowed, strike-replay, strike-marking}
 use Rattle.promises.specs.Lists.{StepsInTurn, end, step, stop, eventsOf, Permitted, lists-in-turn}
@@ -45,7 +48,33 @@ told-marking : (c : FlatChart) (m : Marking) (numbers : List ℕ) → fit c m �
 unfolding replaying
 told-marking c m numbers e = rw e (refl, refl)
 
+-- a step of a fit chart and marking is never refused for being unfit
+step-not-unfit : (c : FlatChart) (m : Marking) (e r : ℕ) → fit c m ≡ true → executing c m e r .answer .code ≡ unfit → ⊥
+step-not-unfit c m e r t z = go (executes c m e r) z
+  where
+    go : {s : Step} → Executes c m e r s → s .answer .code ≡ unfit → ⊥
+    go (isUnfit n) x = let (f, k) = fit-both c m t in n f k
+    go (isGone f k h) x = absurd (omega arith)
+    go (isForbidden a n) x = absurd (omega arith)
+    go (isExcluded a n) x = absurd (omega arith)
+    go (isWanting a i l) x = absurd (omega arith)
+    go (isAwaiting a i n l) x = absurd (omega arith)
+    go (isDone a b d) x = absurd (omega arith)
+
+not-unfit : (c : FlatChart) (l : List Entry) (m : Marking) → fit c m ≡ true → reaching c m l .stop .answer .code ≡ unfit → ⊥
+unfolding reaching
+not-unfit c [] m t = λ z. absurd (omega arith)
+not-unfit c (x ∷ l) m t =
+    cases (eqb (taking c m x .answer .code) 0)
+    (λ e. rw e (not-unfit c l (taking c m x .marking) (rw e at (reach-fit c (x ∷ []) m t))))
+    (λ e. rw e (step-not-unfit c m (x .event) (x .role) t))
+
 pub record Replaying : Type 0 where
+  -- "and whether the purchase was finished at that point": no event is both included and pending there
+  pub finished : (c : FlatChart) (m : Marking) (numbers : List ℕ) → fit c m ≡ true
+      → (replaying c m numbers .finished ≡ true) ↔ ((e : ℕ) → In (replaying c m numbers .marking .included) e → In (replaying c m numbers .marking .pending) e → ⊥)
+  -- the code of the step that stops a replay is the step's own, 10, 32, 11, 12 or 13: 14 is said of the call alone
+  pub never : (c : FlatChart) (m : Marking) (numbers : List ℕ) → fit c m ≡ true → replaying c m numbers .code ≡ unfit → ⊥
   -- replay of a record that was made by granted steps is allowed whole and ends in their marking
   pub made : (c : FlatChart) (m n : Marking) (numbers : List ℕ) → Fit c → FitMarking (c .count) m → Allowed c m (recordOf numbers) n → replaying c m numbers ≡ allWith c numbers n
   -- "The strike is granted exactly if all remaining steps are allowed in their order, and then the marking is the one the shortened record gives"
@@ -58,8 +87,11 @@ pub record Replaying : Type 0 where
       × (completingList (derivedImage c) (indexOf (derivedImage c)) (matchingOf c m .snapshot) (eventsOf (stepsOf (recordOf numbers))) .snapshot ≡ matchingOf c (replaying c m numbers .marking) .snapshot)
 
 pub replays-as-promised : Replaying
+unfolding replaying
 replays-as-promised =
     record {
+      finished = λ c m numbers e. let (f, t) = fit-both c (reaching c m (recordOf numbers) .stop .marking) (reach-fit c (recordOf numbers) m e) in rw e (finished-when c (reaching c m (recordOf numbers) .stop .marking) f t);
+      never = λ c m numbers e. rw e (not-unfit c (recordOf numbers) m e);
       made = λ c m n numbers f t a. replay-allowed c m numbers f t a;
       strike = λ c m numbers shorter p h s. (strike-replay c m numbers shorter p h s, strike-marking c m numbers shorter p h s);
       list = λ c m numbers e p l.
