@@ -3,6 +3,7 @@ pub mod Order
 pub mod Loops
 pub mod Written
 pub mod Running
+pub mod Rising
 pub mod Settle
 pub mod Snapshots
 pub mod Index
