@@ -167,6 +167,9 @@ module _ (s : List ℕ) (h : Counts) (refs table : List ℕ) (common : ℕ) (ind
       length-order (bookOf s) k ∙ ap
       (λ (m : ℕ). indexRule * m) (sym (e ∙ size-is s table common (g .opened .formed) (g .counted) (g .acyclic) k (rw (ready-stages s h refs table common g) at l)))
 
+  pub order-counts : (k n : ℕ) → k < h .stages → n ≡ orderSize table common k → n ≡ countedRules (rulesOf s k)
+  order-counts k n l e = e ∙ g .counted .each k (rw (ready-stages s h refs table common g) at l)
+
   module _ (at k next : ℕ) (i : Stand (orderBytes (bookOf s)) (h .stages) index at k next) where
     pub orders-fits : Fits index at orders → k < h .stages → Fits index next (orderBytes (bookOf s) k)
     orders-fits f l = stand-fits _ _ _ _ _ _ i l f

@@ -1,5 +1,8 @@
 // Whether given bytes are the index image, compared run by run while the orders are made: no copy of the image is kept.
+pub mod rising;
+
 ghost use mathlib.Core.Path.{_≡_};
+ghost use mathlib.Core.Bool.{true};
 ghost use mathlib.Core.List.{_++_};
 ghost use Prim.Native.Nat.{_+_, _≤_};
 ghost use lib.ListN.{length};
@@ -7,7 +10,8 @@ ghost use Rattle.general.specs.Comparing.{sameBytes, standsAt};
 ghost use Rattle.general.specs.Lists.{flat};
 ghost use Rattle.general.specs.Writing.{Fits};
 ghost use Rattle.wire.specs.Wire.{bytes16, bytes32};
-ghost use Rattle.order_theory.specs.Order.{NoLoop};
+ghost use Rattle.order_theory.specs.Order.{countedRules, NoLoop};
+ghost use Rattle.order_theory.specs.Rising.{Rising};
 ghost use Rattle.book.specs.Image.{rulesIn, bookOf};
 ghost use Rattle.book.specs.WellFormed.{WellFormed};
 ghost use Rattle.texts.specs.Noted.{References};
@@ -15,6 +19,8 @@ ghost use Rattle.rule_order.specs.Nets.{rulesOf};
 ghost use Rattle.index.specs.Index.{orderBytes, indexImage};
 ghost use Rattle.index.specs.Sizes.{entryFrom, Sized};
 ghost use Rattle.index.specs.Ready.{IndexReady};
+use crate::rising::ascends;
+use crate::rising::entries_rise;
 use book::Counts;
 use index::sizes::index_size;
 use index::sizes::order_size;
@@ -109,6 +115,28 @@ pub fn order_same(
     true
 }
 
+// The order of a stage for which so many rules count, by its entries where orders rise.
+fn stage_same(
+    image: &[u8],
+    rules: usize,
+    stage: u32,
+    counted: usize,
+    refs: &[u64],
+    rising: bool,
+    index: &[u8],
+    at: usize,
+) -> bool
+    requires { ⌜ (WellFormed (now image)) × (rules ≡ rulesIn (now image)) × (References (now image) (now refs)) × (NoLoop (rulesOf (now image) stage))
+        × (counted ≡ countedRules (rulesOf (now image) stage)) × (rising ≡ true → Rising (rulesOf (now image) stage))
+        × Fits (now index) at (orderBytes (bookOf (now image)) stage) ⌝ }
+    ensures { λ r. ⌜ r ≡ standsAt (now (index .entry)) at (orderBytes (bookOf (now (image .entry))) stage) ⌝ }
+{
+    if rising {
+        return entries_rise(image, rules, stage, counted, index, at);
+    }
+    order_same(image, rules, stage, refs, index, at)
+}
+
 fn orders_same(
     image: &[u8],
     counts: Counts,
@@ -123,12 +151,23 @@ fn orders_same(
 {
     let rules = counts.rules as usize;
     let stages = counts.stages as usize;
+    let rising = ascends(image, rules, refs);
     let mut next = at;
     for stage in 0..stages {
-        if !order_same(image, rules, stage as u32, refs, index, next) {
+        let counted = order_size(table, common, stage);
+        if !stage_same(
+            image,
+            rules,
+            stage as u32,
+            counted,
+            refs,
+            rising,
+            index,
+            next,
+        ) {
             return false;
         }
-        next += INDEX_RULE * order_size(table, common, stage);
+        next += INDEX_RULE * counted;
     }
     true
 }
