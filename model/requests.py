@@ -20,6 +20,13 @@ from protocol import BAD, LISTING, MAX_BODY, answer_of, bytes32, framed, line_fo
 
 BATCH = 5000  # requests that one run of the program gets
 
+BOOK_CODES = (20, 21, 22, 23, 24, 25, 26)
+STEP_CODES = (10, 32, 11, 12, 13)
+# of each operation with an answer: the codes that its call gives
+CODES = {1: range(10), 2: (0, 14) + STEP_CODES, 3: (0, 14), 4: (0, 14), 5: (0, 14), 6: (0, 14, 15), 7: (0,) + BOOK_CODES + (29, 31),
+         8: (0,) + BOOK_CODES + (29, 27, 28, 30), 9: (0,) + BOOK_CODES + (35,), 10: (0,) + BOOK_CODES + (34, 28, 29, 30),
+         11: (0,) + BOOK_CODES + (34, 28, 38, 29, 30), 12: (0, 14), 13: (0, 14, 36) + STEP_CODES}
+
 
 def expected(job):
     """A list of (body, line) from a list of (answer meant or None, body)."""
@@ -55,13 +62,20 @@ def selection():
     rng = random.Random('the stored requests')
     for make in causes.CAUSES + causes.LARGEST:
         yield from expected(make(rng))
-    for _ in range(4):
-        yield from expected(unmeant(chances.long_runs(rng, 60)))
-    for make, times in [(make, 60) for make in chances.SMALL] + [(make, 40) for make in chances.WIDE]:
+    yield from expected(unmeant(chances.long_runs(rng, 40)))
+    for make, times in [(make, 30) for make in chances.SMALL] + [(make, 20) for make in chances.WIDE]:
         if make is chances.side_by_side:
-            make, times = (lambda rng: chances.side_by_side(rng, longest=12)), 12
+            make, times = (lambda rng: chances.side_by_side(rng, longest=12)), 8
         for _ in range(times):
             yield from expected(unmeant(make(rng)))
+
+
+def all_codes(pairs):
+    """Stops the program unless every call gives, among these requests, each of its codes and no other."""
+    given = {(body[0], int(line.split()[1])) for body, line in pairs if line != BAD and body[0] != LISTING}
+    meant = {(operation, code) for operation, codes in CODES.items() for code in codes}
+    if given != meant:
+        raise AssertionError('operation and code: missing %s, not meant %s' % (sorted(meant - given), sorted(given - meant)))
 
 
 MORE = framed(b'\x00')  # a request that is never reached
@@ -131,6 +145,7 @@ def compare(count, seed, program):
 def write(folder):
     os.makedirs(folder, exist_ok=True)
     pairs = list(selection())
+    all_codes(pairs)
     with open(os.path.join(folder, 'stdin'), 'wb') as requests:
         requests.write(b''.join(framed(body) for body, line in pairs) + NO_LENGTH[0])
     with open(os.path.join(folder, 'stdout'), 'w') as lines:
