@@ -2,7 +2,7 @@
 use mathlib.Core.Path.{_≡_, refl, sym, ap, _∙_}
 use mathlib.Core.Bool.{Bool, true, false}
 use mathlib.Core.List.{List, _∷_}
-use Prim.Native.Nat.{ℕ, _+_, _≤_, _<_}
+use Prim.Native.Nat.{ℕ, _+_, _≤_, _<_, _^_}
 use native.Mathlib.Numerals.{add-one}
 use native.Mathlib.Omega.{arith}
 use lib.Dec.{eqb, ltb}
@@ -15,16 +15,17 @@ use Rattle.paper.specs.declared.Answer.{Answer}
 use Rattle.general.specs.Cases.{cases}
 use Rattle.book.specs.Image.{stagesIn, marksIn, bookOf}
 use Rattle.book.specs.Judging.{countsOf}
+use Rattle.book.specs.WellFormed.{WellFormed}
 use Rattle.book.specs.WellRead.{Opened}
 use Rattle.book.specs.declared.Counts.{Counts}
 use Rattle.book.specs.declared.Snapshot.{Snapshot}
 use Rattle.runner.specs.Completing.{anyFrom}
 use Rattle.runner.specs.Table.{Passes}
-use Rattle.index.specs.Index.{indexImage, NoLoops}
+use Rattle.index.specs.Index.{orderOf, indexImage, NoLoops}
 use Rattle.indexed.specs.Building.{indexOf}
-use Rattle.indexed.specs.Indexed.{indexAnswer, openAnswer}
-use Rattle.indexed.specs.IndexedTable.{index-passes}
-use Rattle.indexed.specs.InList.{completedMarks, grantedOf, reached, stopping, placed, beforeList, completingList}
+use Rattle.indexed.specs.Indexed.{indexAnswer, openAnswer, lookedAt}
+use Rattle.indexed.specs.IndexedTable.{index-passes, looked-count}
+use Rattle.indexed.specs.InList.{completedMarks, grantedOf, reached, lookedIn, stopping, placed, beforeList, completingList, opens-known, looked-in-small}
 use Rattle.indexed.specs.declared.ListCompletion.{ListCompletion}
 
 -- ---- before the list
@@ -65,29 +66,36 @@ module _ (s index : List ℕ) (marks : List Bool) (many : ℕ) where
 
 abbrev pub Walks : List ℕ → List Bool → List ℕ → ListCompletion
 Walks s marks list =
-    record { answer = placed (stopping s marks list) (grantedOf s marks list); granted = grantedOf s marks list; snapshot = record { marks = reached s marks list } }
+    record {
+      answer = placed (stopping s marks list) (grantedOf s marks list);
+      granted = grantedOf s marks list;
+      snapshot = record { marks = reached s marks list };
+      evaluated = lookedIn s marks list;
+    }
 
 module _ (s : List ℕ) (began : List Bool) (list : List ℕ) where
-  pub record Gone (marks : List Bool) (j : ℕ) : Type 0 where
+  pub record Gone (marks : List Bool) (looked j : ℕ) : Type 0 where
     pub few : j ≤ length list
     pub many : grantedOf s began list ≡ j + grantedOf s marks (drop j list)
     pub end : reached s began list ≡ reached s marks (drop j list)
+    pub sum : lookedIn s began list ≡ looked + lookedIn s marks (drop j list)
     pub code : stopping s began list ≡ stopping s marks (drop j list)
 
-  pub gone-first : Gone began 0
-  gone-first = record { few = omega arith; many = omega arith; end = refl; code = refl }
+  pub gone-first : Gone began 0 0
+  gone-first = record { few = omega arith; many = omega arith; end = refl; sum = omega arith; code = refl }
 
-  module _ (marks : List Bool) (j : ℕ) (g : Gone marks j) where
+  module _ (marks : List Bool) (looked j : ℕ) (g : Gone marks looked j) where
     -- every entry was granted
     pub gone-all : (a : Answer) (n : ℕ) (held : Snapshot) → length list ≤ j → a ≡ granted → n ≡ length list → held .marks ≡ marks
-        → record { answer = a; granted = n; snapshot = held } ≡ Walks s began list
-    unfolding grantedOf reached stopping placed
+        → record { answer = a; granted = n; snapshot = held; evaluated = looked } ≡ Walks s began list
+    unfolding grantedOf reached lookedIn stopping placed
     gone-all a n held l p q m =
         let f : j ≤ length list = g .few in
         let x : n ≡ j = omega arith in
         let y : j + 0 ≡ j = omega arith in
+        let v : looked + 0 ≡ looked = omega arith in
         let k : held ≡ record { marks = marks } = ap (λ (v : List Bool). record { marks = v }) m in
-        rw (g .many, g .end, g .code, drop-of-length-le list l, p, x, y, k)
+        rw (g .many, g .end, g .sum, g .code, drop-of-length-le list l, p, x, y, v, k)
 
     module _ (l : j < length list) (t : ℕ) (q : t ≡ getD list j 0) (a : Answer) (e : a ≡ openAnswer s marks t) where
       here : drop j list ≡ t ∷ drop (j + 1) list
@@ -95,31 +103,36 @@ module _ (s : List ℕ) (began : List Bool) (list : List ℕ) where
 
       -- the entry is not granted
       pub gone-stops : (b : Answer) (held : Snapshot) → (a .code ≡ 0 → ⊥) → b ≡ answer (a .code) j 0 → held .marks ≡ marks
-          → record { answer = b; granted = j; snapshot = held } ≡ Walks s began list
-      unfolding grantedOf reached stopping placed
+          → record { answer = b; granted = j; snapshot = held; evaluated = looked } ≡ Walks s began list
+      unfolding grantedOf reached lookedIn stopping placed
       gone-stops b held n p m =
           let x : grantedOf s began list ≡ j = g .many ∙ rw (here, ← e, ne-eqb (a .code) 0 n) (omega arith) in
           let y : reached s began list ≡ marks = g .end ∙ rw (here, ← e, ne-eqb (a .code) 0 n) in
+          let w : lookedIn s began list ≡ looked = g .sum ∙ rw (here, ← e, ne-eqb (a .code) 0 n) (omega arith) in
           let v : stopping s began list ≡ a .code = g .code ∙ rw (here, ← e, ne-eqb (a .code) 0 n) in
           let k : held ≡ record { marks = marks } = ap (λ (u : List Bool). record { marks = u }) m in
-          rw (x, y, v, ne-eqb (a .code) 0 n, p, k)
+          rw (x, y, w, v, ne-eqb (a .code) 0 n, p, k)
 
-      pub gone-on : a .code ≡ 0 → (marks′ : List Bool) → marks′ ≡ completedMarks s marks t → Gone marks′ (j + 1)
-      unfolding grantedOf reached stopping
-      gone-on z marks′ m =
-          record {
-            few = omega arith;
-            many = g .many ∙ rw (here, ← e, z, ← m) (omega arith);
-            end = g .end ∙ rw (here, ← e, z, ← m);
-            code = g .code ∙ rw (here, ← e, z, ← m);
-          }
+      module _ (z : a .code ≡ 0) (turned : ℕ) (c : turned ≡ length (orderOf (bookOf s) t)) where
+        -- the sum with what the entry's completion looked at
+        more : lookedIn s began list ≡ looked + turned + lookedIn s (completedMarks s marks t) (drop (j + 1) list)
+        unfolding lookedIn
+        more = g .sum ∙ rw (here, ← e, z) (omega (arith, looked-count s marks t))
 
--- the stage of an entry that is granted is one of the book's
-pub open-known : (s : List ℕ) (marks : List Bool) (stage : ℕ) (a : Answer) → a ≡ openAnswer s marks stage → a .code ≡ 0 → stage < stagesIn s
-unfolding openAnswer
-open-known s marks stage a e z =
-    let y : openAnswer s marks stage .code ≡ 0 = sym (ap (λ (x : Answer). x .code) e) ∙ z in
-    cases (ltb stage (stagesIn s)) (λ t. ltb-true stage (stagesIn s) t) (λ t. let w : noSuchStage ≡ 0 = rw t at y in absurd (omega arith))
+        -- it fits 32 bits
+        pub gone-fits : WellFormed s → NoLoops (bookOf s) → length list ≤ maxList → looked + turned < 2 ^ 32
+        gone-fits f n h = omega (arith, more, looked-in-small s f n list began h)
+
+        pub gone-on : (marks′ : List Bool) → marks′ ≡ completedMarks s marks t → Gone marks′ (looked + turned) (j + 1)
+        unfolding grantedOf reached stopping
+        gone-on marks′ m =
+            record {
+              few = omega arith;
+              many = g .many ∙ rw (here, ← e, z, ← m) (omega arith);
+              end = g .end ∙ rw (here, ← e, z, ← m);
+              sum = rw m more;
+              code = g .code ∙ rw (here, ← e, z, ← m);
+            }
 
 pub stages-few : (s : List ℕ) (h : Counts) → Opened s h → h .stages ≤ maxEvents
 stages-few s h o = rw (o .counts) (o .formed .headed .counted .stages)
@@ -130,7 +143,7 @@ pub turn-asks : (s index : List ℕ) (h : Counts) (many : ℕ) → (Opened s h) 
     → (Opened s h) × (NoLoops (bookOf s)) × (index ≡ indexImage (bookOf s)) × (stage < h .stages)
 turn-asks s index h many p marks stage a f z =
     let e : h .stages ≡ stagesIn s = ap (λ (x : Counts). x .stages) (p .0 .counts) in
-    (p .0, p .1, p .2, rw e (open-known s marks stage a (f s e) z))
+    (p .0, p .1, p .2, rw e (opens-known s marks stage (eq-eqb (openAnswer s marks stage .code) 0 (sym (ap (λ (x : Answer). x .code) (f s e)) ∙ z))))
 
 -- ---- the whole call
 
@@ -148,7 +161,7 @@ module _ (s index : List ℕ) (marks : List Bool) (many : ℕ) (a : Answer) (e :
   walk-begins h c = let (p, q, l) = begins in (record { formed = p .formed; counts = c }, p .acyclic, q, l)
 
 module _ (s index : List ℕ) (snapshot : Snapshot) (list : List ℕ) (a : Answer) (e : a ≡ beforeList s index (snapshot .marks) (length list)) where
-  pub list-refused : (a .code ≡ 0 → ⊥) → record { answer = a; granted = 0; snapshot = snapshot } ≡ completingList s index snapshot list
+  pub list-refused : (a .code ≡ 0 → ⊥) → record { answer = a; granted = 0; snapshot = snapshot; evaluated = 0 } ≡ completingList s index snapshot list
   unfolding completingList
   list-refused n = rw (← e, ne-eqb (a .code) 0 n)
 

@@ -32,7 +32,7 @@ use Rattle.index.specs.Sizes.{startFrom, Sized, StageCounts}
 use Rattle.index.specs.Ready.{IndexReady, ready-sized, ready-length}
 use Rattle.indexed.specs.Building.{indexOf, roomAnswer, building, builtRoom, granted-index, refused-index}
 use Rattle.indexed.specs.Indexed.{indexAnswer, openAnswer, marksAnswer, indexedAnswer, completingIndexed}
-use Rattle.indexed.specs.IndexedTable.{index-passes}
+use Rattle.indexed.specs.IndexedTable.{index-passes, looked-count}
 
 -- ---- behind 20 to 26
 
@@ -161,11 +161,11 @@ module _ (s index : List ℕ) (o : Answer) (e : o ≡ indexAnswer s index) (z : 
 
 module _ (s index : List ℕ) (snapshot : Snapshot) (stage : ℕ) where
   handing-back : (a : Answer) → a ≡ indexedAnswer s index (snapshot .marks) stage → (a .code ≡ 0 → ⊥)
-      → record { answer = a; snapshot = snapshot } ≡ completingIndexed s index snapshot stage
+      → record { answer = a; snapshot = snapshot; evaluated = 0 } ≡ completingIndexed s index snapshot stage
   unfolding completingIndexed
   handing-back a e n = rw (← e, ne-eqb (a .code) 0 n)
 
-  pub index-refused : (a : Answer) → a ≡ indexAnswer s index → (a .code ≡ 0 → ⊥) → record { answer = a; snapshot = snapshot } ≡ completingIndexed s index snapshot stage
+  pub index-refused : (a : Answer) → a ≡ indexAnswer s index → (a .code ≡ 0 → ⊥) → record { answer = a; snapshot = snapshot; evaluated = 0 } ≡ completingIndexed s index snapshot stage
   unfolding indexedAnswer
   index-refused a e n = handing-back a (rw (← e, ne-eqb (a .code) 0 n)) n
 
@@ -175,12 +175,12 @@ module _ (s index : List ℕ) (snapshot : Snapshot) (stage : ℕ) where
     unfolding indexedAnswer
     then-marks = f s c ∙ rw (← e, eq-eqb (o .code) 0 z)
 
-    pub marks-refused : (a .code ≡ 0 → ⊥) → record { answer = a; snapshot = snapshot } ≡ completingIndexed s index snapshot stage
+    pub marks-refused : (a .code ≡ 0 → ⊥) → record { answer = a; snapshot = snapshot; evaluated = 0 } ≡ completingIndexed s index snapshot stage
     marks-refused n = handing-back a then-marks n
 
-    pub completed-so : (after : Snapshot) → a .code ≡ 0 → after .marks ≡ through s (snapshot .marks) stage (snapshot .marks) (orderOf (bookOf s) stage)
-        → record { answer = a; snapshot = after } ≡ completingIndexed s index snapshot stage
+    pub completed-so : (after : Snapshot) (looked : ℕ) → a .code ≡ 0 → after .marks ≡ through s (snapshot .marks) stage (snapshot .marks) (orderOf (bookOf s) stage)
+        → looked ≡ length (orderOf (bookOf s) stage) → record { answer = a; snapshot = after; evaluated = looked } ≡ completingIndexed s index snapshot stage
     unfolding completingIndexed
-    completed-so after n g =
+    completed-so after looked n g l =
         let y : after ≡ record { marks = through s (snapshot .marks) stage (snapshot .marks) (orderOf (bookOf s) stage) } = ap (λ (m : List Bool). record { marks = m }) g in
-        rw (← then-marks, eq-eqb (a .code) 0 n, ← y)
+        rw (← then-marks, eq-eqb (a .code) 0 n, ← y, looked-count s (snapshot .marks) stage, ← l)

@@ -3,7 +3,7 @@ use mathlib.Core.Path.{_≡_, refl, sym, ap, _∙_}
 use mathlib.Core.Logic.{_↔_}
 use mathlib.Core.Bool.{Bool, true, false}
 use mathlib.Core.List.{List}
-use Prim.Native.Nat.{ℕ, _+_, _*_, _≤_, _<_}
+use Prim.Native.Nat.{ℕ, _+_, _*_, _≤_, _<_, _^_}
 use native.Mathlib.Omega.{arith}
 use lib.ListN.{length, getD, drop}
 use Rattle.paper.specs.Limits.{maxMarks, indexHeader, indexStage, indexRule}
@@ -27,7 +27,7 @@ use Rattle.judge.specs.Checking.{stages-many}
 use Rattle.runner.specs.Completing.{through}
 use Rattle.runner.proofs.Turns.{turn-fired, turn-kept}
 use Rattle.index.specs.Index.{orderOf, orderBytes, offsetOf, indexImage, length-order, index-ends, NoLoops}
-use Rattle.index.specs.Reading.{read-offset, read-count, read-rule}
+use Rattle.index.specs.Reading.{read-offset, read-count, read-rule, count-small}
 
 -- ---- what the index says of a stage
 
@@ -62,7 +62,13 @@ module _ (s index : List ℕ) (h : Counts) (stage : ℕ) (o : Opened s h) (n : N
     pub many-is : many ≡ length (orderOf (bookOf s) stage)
     many-is = m ∙ rw fit (read-count (bookOf s) stage its)
 
+    many-small : many < 2 ^ 32
+    many-small = omega (arith, many-is, count-small s (o .formed) n stage (rw (stages-many s) at its))
+
     module _ (j : ℕ) (l : j < many) where
+      pub count-fits : (looked : ℕ) → looked ≡ j → looked + 1 < 2 ^ 32
+      count-fits looked e = omega (arith, many-small)
+
       pub rule-inside-index : at + indexRule * j + 2 ≤ length index
       rule-inside-index = omega (arith, at-is, many-is, order-ends)
 

@@ -2,18 +2,19 @@
 use mathlib.Core.Path.{_≡_, refl, sym, ap, subst, _∙_}
 use mathlib.Core.Bool.{Bool, true, false, cond}
 use mathlib.Core.List.{List, [], _∷_}
-use Prim.Native.Nat.{ℕ, zero, suc, _≤_, _<_}
+use Prim.Native.Nat.{ℕ, zero, suc, _+_, _*_, _≤_, _<_, _^_}
 use native.Mathlib.Omega.{arith}
 use lib.Dec.{eqb, ltb}
 use lib.ListN.{length}
 use borrow.Author.Tests.{eqb-true, eqb-false, eq-eqb, ne-eqb, ltb-true, ltb-false, lt-ltb, le-ltb}
-use Rattle.paper.specs.Limits.{maxMarks, maxList, markAbove, longList}
+use Rattle.paper.specs.Limits.{maxMarks, maxRules, maxList, markAbove, longList}
 use Rattle.paper.specs.Answers.{answer, granted, refusal, placeOf}
 use Rattle.paper.specs.declared.Answer.{Answer}
 use Rattle.general.specs.Cases.{cases, contra}
 use Rattle.order_theory.specs.Order.{Fit}
 use Rattle.book.specs.Text.{snapOf}
 use Rattle.book.specs.Image.{stagesIn, marksIn, bookOf}
+use Rattle.book.specs.WellFormed.{WellFormed}
 use Rattle.book.specs.declared.Snapshot.{Snapshot}
 use Rattle.rule_order.specs.Nets.{rulesOf}
 use Rattle.judge.specs.Checking.{order-fit, acyclic-at}
@@ -21,10 +22,10 @@ use Rattle.runner.specs.Completing.{anyFrom, through}
 use Rattle.runner.specs.Table.{Passes, Belongs}
 use Rattle.runner.specs.Completion.{Open, completes, completed-marks}
 use Rattle.runner.specs.declared.Completion.{Completion}
-use Rattle.index.specs.Index.{orderOf}
+use Rattle.index.specs.Index.{orderOf, NoLoops}
 use Rattle.indexed.specs.Building.{indexOf}
-use Rattle.indexed.specs.Indexed.{indexAnswer, openAnswer, completingIndexed}
-use Rattle.indexed.specs.IndexedTable.{then-open, indexed-hands-back}
+use Rattle.indexed.specs.Indexed.{indexAnswer, openAnswer, lookedAt, completingIndexed}
+use Rattle.indexed.specs.IndexedTable.{then-open, indexed-hands-back, looked-most}
 use Rattle.indexed.specs.declared.ListCompletion.{ListCompletion}
 
 -- ---- within the list
@@ -48,10 +49,33 @@ module _ (s : List ℕ) where
   reached marks [] = marks
   reached marks (t ∷ list) = cond (opens marks t) (reached (completedMarks marks t) list) marks
 
+  -- request (vi): "The call for a list reports the sum over the granted ones."
+  unfoldable pub lookedIn : List Bool → List ℕ → ℕ
+  lookedIn marks [] = 0
+  lookedIn marks (t ∷ list) = cond (opens marks t) (lookedAt s marks t + lookedIn (completedMarks marks t) list) 0
+
   -- 29 or 30 of the first that is not granted, or 0
   unfoldable pub stopping : List Bool → List ℕ → ℕ
   stopping marks [] = 0
   stopping marks (t ∷ list) = cond (opens marks t) (stopping (completedMarks marks t) list) (openAnswer s marks t .code)
+
+-- an entry that is granted is a stage of the book
+pub opens-known : (s : List ℕ) (marks : List Bool) (stage : ℕ) → opens s marks stage ≡ true → stage < stagesIn s
+unfolding openAnswer
+opens-known s marks stage e = cases (ltb stage (stagesIn s)) (λ h. ltb-true stage (stagesIn s) h) (λ h. contra (rw h at e) refl)
+
+-- the sum is at most 8,384 for each entry, and so never exceeds 32 bits
+module _ (s : List ℕ) (g : WellFormed s) (n : NoLoops (bookOf s)) where
+  pub looked-in-most : (list : List ℕ) (marks : List Bool) → lookedIn s marks list ≤ length list * maxRules
+  unfolding lookedIn
+  looked-in-most [] marks = omega arith
+  looked-in-most (t ∷ list) marks =
+      cases (opens s marks t)
+      (λ e. rw e (omega (arith, looked-most s g n marks t (opens-known s marks t e), looked-in-most list (completedMarks s marks t))))
+      (λ e. rw e (omega arith))
+
+  pub looked-in-small : (list : List ℕ) (marks : List Bool) → length list ≤ maxList → lookedIn s marks list < 2 ^ 32
+  looked-in-small list marks l = omega (arith, looked-in-most list marks)
 
 -- "The refused one is named by its place in the list."
 unfoldable pub placed : ℕ → ℕ → Answer
@@ -77,15 +101,18 @@ completingList s index snapshot list =
       answer = placed (stopping s (snapshot .marks) list) (grantedOf s (snapshot .marks) list);
       granted = grantedOf s (snapshot .marks) list;
       snapshot = record { marks = reached s (snapshot .marks) list };
+      evaluated = lookedIn s (snapshot .marks) list;
     })
-    (record { answer = beforeList s index (snapshot .marks) (length list); granted = 0; snapshot = snapshot })
+    (record { answer = beforeList s index (snapshot .marks) (length list); granted = 0; snapshot = snapshot; evaluated = 0 })
 
--- ---- "The end snapshot and the number granted are the same as one call after another, stopping at the first that is refused."
+-- ---- "The end snapshot and the number granted are the same as one call after another, stopping at the first that is refused."; the rules evaluated are the sum of
+-- what the granted calls report
 
-pub data InTurn (s index : List ℕ) : Snapshot → List ℕ → ℕ → Snapshot → Type 0 where
-  ended : {x : Snapshot} → InTurn s index x [] 0 x
-  goes : {x y : Snapshot} {t n : ℕ} {list : List ℕ} → completingIndexed s index x t .answer .code ≡ 0 → InTurn s index (completingIndexed s index x t .snapshot) list n y → InTurn s index x (t ∷ list) (suc n) y
-  stops : {x : Snapshot} {t : ℕ} {list : List ℕ} → (completingIndexed s index x t .answer .code ≡ 0 → ⊥) → InTurn s index x (t ∷ list) 0 (completingIndexed s index x t .snapshot)
+pub data InTurn (s index : List ℕ) : Snapshot → List ℕ → ℕ → Snapshot → ℕ → Type 0 where
+  ended : {x : Snapshot} → InTurn s index x [] 0 x 0
+  goes : {x y : Snapshot} {t n k : ℕ} {list : List ℕ} → completingIndexed s index x t .answer .code ≡ 0 → InTurn s index (completingIndexed s index x t .snapshot) list n y k
+      → InTurn s index x (t ∷ list) (suc n) y (completingIndexed s index x t .evaluated + k)
+  stops : {x : Snapshot} {t : ℕ} {list : List ℕ} → (completingIndexed s index x t .answer .code ≡ 0 → ⊥) → InTurn s index x (t ∷ list) 0 (completingIndexed s index x t .snapshot) 0
 
 module _ (s index : List ℕ) (p : Passes s) (q : index ≡ indexOf s) where
   -- a completion of an open stage keeps 256 marks that belong to the book
@@ -118,16 +145,21 @@ module _ (s index : List ℕ) (p : Passes s) (q : index ≡ indexOf s) where
     unfolding completingIndexed
     next e = rw (asked, e)
 
+    looked : opens s (x .marks) t ≡ true → completingIndexed s index x t .evaluated ≡ lookedAt s (x .marks) t
+    unfolding completingIndexed
+    looked e = rw (asked, e)
+
   -- from marks that belong to the book, the walk is one call after another
   pub in-turn : (list : List ℕ) (x : Snapshot) → length (x .marks) ≡ maxMarks → Belongs s (x .marks)
-      → InTurn s index x list (grantedOf s (x .marks) list) (record { marks = reached s (x .marks) list })
-  unfolding grantedOf reached
+      → InTurn s index x list (grantedOf s (x .marks) list) (record { marks = reached s (x .marks) list }) (lookedIn s (x .marks) list)
+  unfolding grantedOf reached lookedIn
   in-turn [] x w b = ended
   in-turn (t ∷ list) x w b =
+      let u : List Bool = completedMarks s (x .marks) t in
       cases (opens s (x .marks) t)
       (λ e. let k = kept x t (is-open x w b t e) in
-      rw e (goes (code-is x w b t ∙ eqb-true (openAnswer s (x .marks) t .code) 0 e)
-      (subst (λ (y : Snapshot). InTurn s index y list (grantedOf s (completedMarks s (x .marks) t) list) (record { marks = reached s (completedMarks s (x .marks) t) list }))
-      (sym (next x w b t e)) (in-turn list (record { marks = completedMarks s (x .marks) t }) (k .0) (k .1)))))
+      rw (e, ← looked x w b t e) (goes (code-is x w b t ∙ eqb-true (openAnswer s (x .marks) t .code) 0 e)
+      (subst (λ (y : Snapshot). InTurn s index y list (grantedOf s u list) (record { marks = reached s u list }) (lookedIn s u list)) (sym (next x w b t e))
+      (in-turn list (record { marks = u }) (k .0) (k .1)))))
       (λ e. let n : completingIndexed s index x t .answer .code ≡ 0 → ⊥ = λ z. eqb-false (openAnswer s (x .marks) t .code) 0 e (sym (code-is x w b t) ∙ z) in
-      rw e (subst (λ (y : Snapshot). InTurn s index x (t ∷ list) 0 y) (indexed-hands-back s index x t n) (stops n)))
+      rw e (subst (λ (y : Snapshot). InTurn s index x (t ∷ list) 0 y 0) (indexed-hands-back s index x t n) (stops n)))

@@ -9,23 +9,26 @@ use lib.Dec.{eqb, ltb}
 use lib.ListN.{length, take, drop}
 use lib.Seq.{take-at}
 use borrow.Author.Tests.{eqb-true, eqb-false, eq-eqb, ne-eqb, ltb-true, ltb-false, lt-ltb, le-ltb}
-use Rattle.paper.specs.Limits.{maxMarks, clash, markAbove, noSuchStage, stageClosed, indexUnfit}
+use Rattle.paper.specs.Limits.{maxMarks, maxRules, clash, markAbove, noSuchStage, stageClosed, indexUnfit}
 use Rattle.paper.specs.Answers.{granted, refusal}
 use Rattle.paper.specs.declared.Answer.{Answer}
 use Rattle.general.specs.Cases.{contra, cases, coincide, not-so}
 use Rattle.order_theory.specs.Order.{countedRules, Fit}
 use Rattle.book.specs.Text.{snapOf}
 use Rattle.book.specs.Image.{stagesIn, marksIn, rulesIn, bookOf}
+use Rattle.book.specs.WellFormed.{WellFormed}
 use Rattle.book.specs.declared.Snapshot.{Snapshot}
 use Rattle.rule_order.specs.Nets.{rulesOf}
 use Rattle.judge.specs.Checking.{bookAnswer, Checked, checking, checkedRoom, book-passes, book-is, is-book, granted-room, passed-is, order-fit, acyclic-at}
 use Rattle.runner.specs.Completing.{anyFrom, orderAnswer, snapshotAnswer, completionAnswer, completing}
 use Rattle.runner.specs.Table.{Passes, Belongs, belongs-none, none-belongs, some-above, above-some, order-granted}
-use Rattle.runner.specs.declared.Completion.{Completion}
-use Rattle.index.specs.Index.{orderOf}
+use Rattle.runner.specs.Walks.{looks-length, goes-run}
+use Rattle.index.specs.Index.{orderOf, NoLoops}
+use Rattle.index.specs.Reading.{count-small}
 use Rattle.general.specs.Comparing.{sameBytes, same-so, so-same}
 use Rattle.indexed.specs.Building.{indexOf, passes-zero, building, builtRoom, build-passes, built-is}
-use Rattle.indexed.specs.Indexed.{indexAnswer, openAnswer, marksAnswer, indexedAnswer, completingIndexed}
+use Rattle.indexed.specs.Indexed.{indexAnswer, openAnswer, marksAnswer, indexedAnswer, lookedAt, completingIndexed, completionOf}
+use Rattle.indexed.specs.declared.IndexedCompletion.{IndexedCompletion}
 
 pub data Indexed (s index : List ℕ) (marks : List Bool) (stage : ℕ) : Answer → Type 0 where
   -- 20 to 26, of the book alone
@@ -103,6 +106,17 @@ module _ (s index : List ℕ) where
   unfolding completingIndexed
   indexed-hands-back snapshot stage n = rw (ne-eqb (indexedAnswer s index (snapshot .marks) stage .code) 0 n)
 
+  -- "A refused completion reports 0."
+  pub indexed-none : (snapshot : Snapshot) (stage : ℕ) → (completingIndexed s index snapshot stage .answer .code ≡ 0 → ⊥) → completingIndexed s index snapshot stage .evaluated ≡ 0
+  unfolding completingIndexed
+  indexed-none snapshot stage n = rw (ne-eqb (indexedAnswer s index (snapshot .marks) stage .code) 0 n)
+
+  -- and one that is granted the length of the walk
+  pub indexed-looked : (snapshot : Snapshot) (stage : ℕ) → completingIndexed s index snapshot stage .answer .code ≡ 0
+      → completingIndexed s index snapshot stage .evaluated ≡ lookedAt s (snapshot .marks) stage
+  unfolding completingIndexed
+  indexed-looked snapshot stage e = rw (eq-eqb (indexedAnswer s index (snapshot .marks) stage .code) 0 e)
+
   -- what is granted is a stage of the book
   pub indexed-known : (snapshot : Snapshot) (stage : ℕ) → completingIndexed s index snapshot stage .answer .code ≡ 0 → stage < stagesIn s
   unfolding completingIndexed
@@ -117,16 +131,27 @@ module _ (s index : List ℕ) where
       go a (completed p q b h x) e = h
 
   -- two results that meet the contract coincide
-  pub indexed-determined : (snapshot : Snapshot) (stage : ℕ) (x y : Completion) → x ≡ completingIndexed s index snapshot stage → y ≡ completingIndexed s index snapshot stage → x ≡ y
+  pub indexed-determined : (snapshot : Snapshot) (stage : ℕ) (x y : IndexedCompletion) → x ≡ completingIndexed s index snapshot stage → y ≡ completingIndexed s index snapshot stage → x ≡ y
   indexed-determined snapshot stage x y e f = coincide e f
 
 -- a completion through the index is the completion along the stage's running order
 pub along-order : (s index : List ℕ) → Passes s → index ≡ indexOf s → (snapshot : Snapshot) (stage : ℕ) → stage < stagesIn s
-    → completingIndexed s index snapshot stage ≡ completing s (orderOf (bookOf s) stage) snapshot stage
+    → completionOf (completingIndexed s index snapshot stage) ≡ completing s (orderOf (bookOf s) stage) snapshot stage
 unfolding completingIndexed completing completionAnswer snapshotAnswer marksAnswer openAnswer
 along-order s index p q snapshot stage h =
     let f = order-fit s (p .formed) stage (acyclic-at s stage (p .acyclic) h) in
     rw (then s index (snapshot .marks) stage p q, order-granted s (orderOf (bookOf s) stage) stage p h f, lt-ltb stage (stagesIn s) h)
+
+-- ---- how many rules are looked at
+
+-- as many as the stage's order has, whatever the snapshot
+pub looked-count : (s : List ℕ) (marks : List Bool) (stage : ℕ) → lookedAt s marks stage ≡ length (orderOf (bookOf s) stage)
+unfolding lookedAt
+looked-count s marks stage = looks-length (bookOf s) (snapOf marks) stage (goes-run (bookOf s) (snapOf marks) stage (orderOf (bookOf s) stage) (snapOf marks))
+
+-- at most 8,384
+pub looked-most : (s : List ℕ) → WellFormed s → NoLoops (bookOf s) → (marks : List Bool) (stage : ℕ) → stage < stagesIn s → lookedAt s marks stage ≤ maxRules
+looked-most s g n marks stage h = rw (looked-count s marks stage) (count-small s g n stage h)
 
 -- ---- "For a stage the book has, a completion through the index gives the same answer and snapshot as one with the order from the check."
 
@@ -141,7 +166,7 @@ module _ (s : List ℕ) (stage : ℕ) (room : List ℕ) (e : checking s stage (l
       let (w, f, l) = granted-room s stage room e in
       ap (take n) w ∙ take-at (orderOf (bookOf s) stage) (drop n room) n l
 
-  pub through-index : (index : List ℕ) → index ≡ indexOf s → (snapshot : Snapshot) → completingIndexed s index snapshot stage ≡ completing s checkedOrder snapshot stage
+  pub through-index : (index : List ℕ) → index ≡ indexOf s → (snapshot : Snapshot) → completionOf (completingIndexed s index snapshot stage) ≡ completing s checkedOrder snapshot stage
   through-index index q snapshot =
       let p = passed-is s stage (length room) e in
       along-order s index (record { formed = p .formed; acyclic = p .acyclic; calm = p .calm }) q snapshot stage (p .known) ∙ ap (λ (l : List ℕ). completing s l snapshot stage) (sym checked-order)
@@ -163,5 +188,5 @@ module _ (s : List ℕ) where
 
   -- and through it a stage of the book is completed as along the order from the check, whatever the snapshot
   pub through-built : (lent room : List ℕ) (stage : ℕ) → building s (length lent) .code ≡ 0 → (e : checking s stage (length room) .code ≡ 0) → (snapshot : Snapshot)
-      → completingIndexed s (builtIndex lent) snapshot stage ≡ completing s (checkedOrder s stage room e) snapshot stage
+      → completionOf (completingIndexed s (builtIndex lent) snapshot stage) ≡ completing s (checkedOrder s stage room e) snapshot stage
   through-built lent room stage b e snapshot = through-index s stage room e (builtIndex lent) (built-is s lent b) snapshot

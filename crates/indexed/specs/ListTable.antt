@@ -3,7 +3,7 @@
 use mathlib.Core.Path.{_≡_, refl, sym, ap, ap₂, subst, _∙_}
 use mathlib.Core.Bool.{Bool, true, false}
 use mathlib.Core.List.{List, [], _∷_}
-use Prim.Native.Nat.{ℕ, zero, suc, _≤_, _<_}
+use Prim.Native.Nat.{ℕ, zero, suc, _+_, _≤_, _<_}
 use native.Mathlib.Omega.{arith}
 use lib.Dec.{eqb, ltb}
 use lib.ListN.{length}
@@ -20,22 +20,23 @@ use Rattle.judge.specs.Checking.{bookAnswer, Checked, book-passes, book-is, is-
 use Rattle.runner.specs.Completing.{anyFrom}
 use Rattle.runner.specs.Table.{Passes, Belongs, belongs-none, none-belongs, some-above, above-some}
 use Rattle.indexed.specs.Building.{indexOf}
-use Rattle.indexed.specs.Indexed.{indexAnswer, openAnswer, marksAnswer, indexedAnswer, completingIndexed}
+use Rattle.indexed.specs.Indexed.{indexAnswer, openAnswer, marksAnswer, indexedAnswer, lookedAt, completingIndexed}
 use Rattle.indexed.specs.IndexedTable.{index-granted, index-unfit, index-refused, index-passes, then, indexed-hands-back}
-use Rattle.indexed.specs.InList.{completedMarks, grantedOf, reached, stopping, placed, beforeList, listAnswer, completingList, InTurn, in-turn}
+use Rattle.indexed.specs.InList.{completedMarks, grantedOf, reached, lookedIn, stopping, placed, beforeList, listAnswer, completingList, InTurn, in-turn}
 use Rattle.indexed.specs.InList as turn
 use Rattle.indexed.specs.declared.ListCompletion.{ListCompletion}
 
--- the walk along a list: how many are granted, where it ends, and the code of the first that is not granted, 0 if all are
-pub data Walk (s : List ℕ) : List Bool → List ℕ → ℕ → List Bool → ℕ → Type 0 where
-  ended : {marks : List Bool} → Walk s marks [] 0 marks 0
-  goes : {marks end : List Bool} {t n code : ℕ} {list : List ℕ} → t < stagesIn s → snapOf marks t ≡ true → Walk s (completedMarks s marks t) list n end code → Walk s marks (t ∷ list) (suc n) end code
-  nowhere : {marks : List Bool} {t : ℕ} {list : List ℕ} → stagesIn s ≤ t → Walk s marks (t ∷ list) 0 marks noSuchStage
-  closed : {marks : List Bool} {t : ℕ} {list : List ℕ} → t < stagesIn s → snapOf marks t ≡ false → Walk s marks (t ∷ list) 0 marks stageClosed
+-- the walk along a list: how many are granted, where it ends, how many rules it looks at, and the code of the first that is not granted, 0 if all are
+pub data Walk (s : List ℕ) : List Bool → List ℕ → ℕ → List Bool → ℕ → ℕ → Type 0 where
+  ended : {marks : List Bool} → Walk s marks [] 0 marks 0 0
+  goes : {marks end : List Bool} {t n k code : ℕ} {list : List ℕ} → t < stagesIn s → snapOf marks t ≡ true → Walk s (completedMarks s marks t) list n end k code
+      → Walk s marks (t ∷ list) (suc n) end (lookedAt s marks t + k) code
+  nowhere : {marks : List Bool} {t : ℕ} {list : List ℕ} → stagesIn s ≤ t → Walk s marks (t ∷ list) 0 marks 0 noSuchStage
+  closed : {marks : List Bool} {t : ℕ} {list : List ℕ} → t < stagesIn s → snapOf marks t ≡ false → Walk s marks (t ∷ list) 0 marks 0 stageClosed
 
 module _ (s : List ℕ) where
-  pub walks : (list : List ℕ) (marks : List Bool) → Walk s marks list (grantedOf s marks list) (reached s marks list) (stopping s marks list)
-  unfolding grantedOf reached stopping openAnswer
+  pub walks : (list : List ℕ) (marks : List Bool) → Walk s marks list (grantedOf s marks list) (reached s marks list) (lookedIn s marks list) (stopping s marks list)
+  unfolding grantedOf reached lookedIn stopping openAnswer
   walks [] marks = ended
   walks (t ∷ list) marks =
       cases (ltb t (stagesIn s))
@@ -43,12 +44,13 @@ module _ (s : List ℕ) where
       (λ h. rw h (nowhere (ltb-false t (stagesIn s) h)))
 
   -- it is the only one
-  pub walks-only : {list : List ℕ} {marks end : List Bool} {n code : ℕ} → Walk s marks list n end code → (n ≡ grantedOf s marks list) × (end ≡ reached s marks list) × (code ≡ stopping s marks list)
-  unfolding grantedOf reached stopping openAnswer
-  walks-only ended = (refl, refl, refl)
-  walks-only (goes {marks} {t = t} h y w) = let (a, b, c) = walks-only w in rw (lt-ltb t (stagesIn s) h, y) (ap suc a, b, c)
-  walks-only (nowhere {marks} {t} h) = rw (le-ltb t (stagesIn s) h) (refl, refl, refl)
-  walks-only (closed {marks} {t} h y) = rw (lt-ltb t (stagesIn s) h, y) (refl, refl, refl)
+  pub walks-only : {list : List ℕ} {marks end : List Bool} {n k code : ℕ} → Walk s marks list n end k code
+      → (n ≡ grantedOf s marks list) × (end ≡ reached s marks list) × (k ≡ lookedIn s marks list) × (code ≡ stopping s marks list)
+  unfolding grantedOf reached lookedIn stopping openAnswer
+  walks-only ended = (refl, refl, refl, refl)
+  walks-only (goes {marks} {t = t} h y w) = let (a, b, c, d) = walks-only w in rw (lt-ltb t (stagesIn s) h, y) (ap suc a, b, ap (λ (k : ℕ). lookedAt s marks t + k) c, d)
+  walks-only (nowhere {marks} {t} h) = rw (le-ltb t (stagesIn s) h) (refl, refl, refl, refl)
+  walks-only (closed {marks} {t} h y) = rw (lt-ltb t (stagesIn s) h, y) (refl, refl, refl, refl)
 
 pub data Lists (s index : List ℕ) (marks : List Bool) (list : List ℕ) : Answer → Type 0 where
   -- 20 to 26, of the book alone
@@ -57,7 +59,7 @@ pub data Lists (s index : List ℕ) (marks : List Bool) (list : List ℕ) : Answ
   above : Passes s → index ≡ indexOf s → (m : ℕ) → marksIn s ≤ m → m < maxMarks → snapOf marks m ≡ true → Lists s index marks list (refusal markAbove)
   long : Passes s → index ≡ indexOf s → Belongs s marks → maxList < length list → Lists s index marks list (answer longList (placeOf (length list)) 0)
   -- 0, or 29 or 30 with the position
-  within : Passes s → index ≡ indexOf s → Belongs s marks → length list ≤ maxList → {n code : ℕ} {end : List Bool} → Walk s marks list n end code → Lists s index marks list (placed code n)
+  within : Passes s → index ≡ indexOf s → Belongs s marks → length list ≤ maxList → {n k code : ℕ} {end : List Bool} → Walk s marks list n end k code → Lists s index marks list (placed code n)
 
 module _ (s index : List ℕ) (marks : List Bool) (list : List ℕ) where
   begins : Passes s → index ≡ indexOf s → Belongs s marks → length list ≤ maxList → beforeList s index marks (length list) ≡ granted
@@ -71,7 +73,7 @@ module _ (s index : List ℕ) (marks : List Bool) (list : List ℕ) where
   lists-is a (unfit p n) = rw (index-unfit s index p n)
   lists-is a (above p e m l i x) = rw (index-granted s index p e, above-some s marks m l i x)
   lists-is a (long p e b l) = rw (index-granted s index p e, belongs-none s marks b, lt-ltb maxList (length list) l)
-  lists-is a (within p e b l w) = let (x, y, z) = walks-only s w in rw (begins p e b l, x, z)
+  lists-is a (within p e b l w) = let (x, y, v, z) = walks-only s w in rw (begins p e b l, x, z)
 
   -- some row holds
   row-fit : Passes s → index ≡ indexOf s → (a : Answer) × Lists s index marks list a
@@ -100,18 +102,19 @@ module _ (s index : List ℕ) (snapshot : Snapshot) (list : List ℕ) where
   unfolding completingList listAnswer
   list-answer = cases (eqb (beforeList s index (snapshot .marks) (length list) .code) 0) (λ e. rw e) (λ e. rw e)
 
-  -- a refusal before the list: 0 granted, and the snapshot that was given
+  -- a refusal before the list: 0 granted, the snapshot that was given, and no rule evaluated
   pub before-hands-back : (beforeList s index (snapshot .marks) (length list) .code ≡ 0 → ⊥)
-      → completingList s index snapshot list ≡ record { answer = beforeList s index (snapshot .marks) (length list); granted = 0; snapshot = snapshot }
+      → completingList s index snapshot list ≡ record { answer = beforeList s index (snapshot .marks) (length list); granted = 0; snapshot = snapshot; evaluated = 0 }
   unfolding completingList
   before-hands-back n = rw (ne-eqb (beforeList s index (snapshot .marks) (length list) .code) 0 n)
 
-  -- within it: the number granted, which is the place of the refused one, and the snapshot reached
+  -- within it: the number granted, which is the place of the refused one, the snapshot reached, and the rules evaluated by the granted ones
   pub within-hands-back : beforeList s index (snapshot .marks) (length list) .code ≡ 0
       → completingList s index snapshot list ≡ record {
         answer = placed (stopping s (snapshot .marks) list) (grantedOf s (snapshot .marks) list);
         granted = grantedOf s (snapshot .marks) list;
         snapshot = record { marks = reached s (snapshot .marks) list };
+        evaluated = lookedIn s (snapshot .marks) list;
       }
   unfolding completingList
   within-hands-back e = rw (eq-eqb (beforeList s index (snapshot .marks) (length list) .code) 0 e)
@@ -120,13 +123,13 @@ module _ (s index : List ℕ) (snapshot : Snapshot) (list : List ℕ) where
   pub list-determined : (x y : ListCompletion) → x ≡ completingList s index snapshot list → y ≡ completingList s index snapshot list → x ≡ y
   list-determined x y e f = coincide e f
 
-  refused-first : (list : List ℕ) → ((t : ℕ) → completingIndexed s index snapshot t .answer .code ≡ 0 → ⊥) → InTurn s index snapshot list 0 snapshot
+  refused-first : (list : List ℕ) → ((t : ℕ) → completingIndexed s index snapshot t .answer .code ≡ 0 → ⊥) → InTurn s index snapshot list 0 snapshot 0
   refused-first [] n = turn.InTurn.ended
-  refused-first (t ∷ l) n = subst (λ (y : Snapshot). InTurn s index snapshot (t ∷ l) 0 y) (indexed-hands-back s index snapshot t (n t)) (turn.InTurn.stops (n t))
+  refused-first (t ∷ l) n = subst (λ (y : Snapshot). InTurn s index snapshot (t ∷ l) 0 y 0) (indexed-hands-back s index snapshot t (n t)) (turn.InTurn.stops (n t))
 
-  -- "The end snapshot and the number granted are the same as one call after another, stopping at the first that is refused."
+  -- "The end snapshot and the number granted are the same as one call after another, stopping at the first that is refused.", and "the sum over the granted ones"
   pub list-in-turn : length (snapshot .marks) ≡ maxMarks → length list ≤ maxList
-      → InTurn s index snapshot list (completingList s index snapshot list .granted) (completingList s index snapshot list .snapshot)
+      → InTurn s index snapshot list (completingList s index snapshot list .granted) (completingList s index snapshot list .snapshot) (completingList s index snapshot list .evaluated)
   unfolding beforeList completingIndexed indexedAnswer marksAnswer
   list-in-turn w l =
       cases (eqb (indexAnswer s index .code) 0)
@@ -138,10 +141,12 @@ module _ (s index : List ℕ) (snapshot : Snapshot) (list : List ℕ) where
       (λ e. let n = eqb-false (indexAnswer s index .code) 0 e in
       rw (before-hands-back (λ y. n (rw e at y))) (refused-first list (λ t y. n (rw e at y))))
 
--- and no other number and snapshot are those of one call after another
-pub in-turn-one : {s index : List ℕ} {x y z : Snapshot} {list : List ℕ} {n m : ℕ} → InTurn s index x list n y → InTurn s index x list m z → (n ≡ m) × (y ≡ z)
-in-turn-one turn.InTurn.ended turn.InTurn.ended = (refl, refl)
-in-turn-one (turn.InTurn.goes e g) (turn.InTurn.goes f h) = let (a, b) = in-turn-one g h in (ap suc a, b)
+-- and no other numbers and snapshot are those of one call after another
+pub in-turn-one : {s index : List ℕ} {x y z : Snapshot} {list : List ℕ} {n m k l : ℕ} → InTurn s index x list n y k → InTurn s index x list m z l → (n ≡ m) × (y ≡ z) × (k ≡ l)
+in-turn-one turn.InTurn.ended turn.InTurn.ended = (refl, refl, refl)
+in-turn-one {s} {index} {x} (turn.InTurn.goes {t = t} e g) (turn.InTurn.goes f h) =
+    let (a, b, c) = in-turn-one g h in
+    (ap suc a, b, ap (λ (k : ℕ). completingIndexed s index x t .evaluated + k) c)
 in-turn-one (turn.InTurn.goes e g) (turn.InTurn.stops n) = absurd (n e)
 in-turn-one (turn.InTurn.stops n) (turn.InTurn.goes f h) = absurd (n f)
-in-turn-one (turn.InTurn.stops n) (turn.InTurn.stops m) = (refl, refl)
+in-turn-one (turn.InTurn.stops n) (turn.InTurn.stops m) = (refl, refl, refl)

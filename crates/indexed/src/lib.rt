@@ -14,14 +14,22 @@ use book::header::counts_at;
 use judge::image::judge_head;
 use judge::sizes::is_small;
 use paper::Answer;
-use runner::Completion;
 
-// What completing a list of stages gives: the answer, how many were granted, and the snapshot reached.
+// What completing a stage through the index gives: the answer, the snapshot, and how many rules were evaluated, fired or not.
+#[repr(C)]
+pub struct IndexedCompletion {
+    pub answer: Answer,
+    pub snapshot: Snapshot,
+    pub evaluated: u32,
+}
+
+// What completing a list of stages gives: the answer, how many were granted, the snapshot reached, and how many rules the granted ones evaluated.
 #[repr(C)]
 pub struct ListCompletion {
     pub answer: Answer,
     pub granted: u32,
     pub snapshot: Snapshot,
+    pub evaluated: u32,
 }
 
 // The index of a book at the start of the room: 20 to 26 and 35, or 0 and the image.
@@ -42,33 +50,41 @@ pub fn build(book: &[u8], room: &mut [u8]) -> Answer
     building::build_large(book, h, room)
 }
 
-// 20 to 26, 34, 28, 29, 30 and the snapshot that was given, or 0 and the snapshot after every rule of the stage's running order had its turn.
+// 20 to 26, 34, 28, 29, 30, the snapshot that was given and 0 rules evaluated, or 0, the snapshot after every rule of the stage's running order had
+// its turn, and how many that were.
 // Cost: what building takes, with the index compared in place of written, and one turn for each rule in the stage's order. Stack: as for building.
-pub fn complete(book: &[u8], index: &[u8], snapshot: Snapshot, stage: u32) -> Completion
+pub fn complete(book: &[u8], index: &[u8], snapshot: Snapshot, stage: u32) -> IndexedCompletion
     ensures { λ r. ⌜ r ≡ completingIndexed (now (book .entry)) (now (index .entry)) snapshot stage ⌝ }
 {
     let fit = judging::judge_index(book, index);
     if fit.code != 0 {
-        return Completion {
+        return IndexedCompletion {
             answer: fit,
             snapshot,
+            evaluated: 0,
         };
     }
     let h = counts_at(book);
     let answer = judging::judge_marks(&snapshot.marks, h, stage);
     if answer.code != 0 {
-        return Completion { answer, snapshot };
+        return IndexedCompletion {
+            answer,
+            snapshot,
+            evaluated: 0,
+        };
     }
     let start = snapshot.marks;
-    let after = running::go_through_index(book, h, index, &start, snapshot, stage);
-    Completion {
+    let turned = running::go_through_index(book, h, index, &start, snapshot, stage);
+    let after = turned.snapshot;
+    IndexedCompletion {
         answer,
         snapshot: after,
+        evaluated: turned.evaluated,
     }
 }
 
-// 20 to 26, 34, 28 and 38 with 0 granted and the snapshot that was given, or the stages of the list completed one after another to the first
-// that is refused: 29 or 30 with its place, the number granted, and the snapshot reached; or 0.
+// 20 to 26, 34, 28 and 38 with 0 granted, the snapshot that was given and 0 rules evaluated, or the stages of the list completed one after another
+// to the first that is refused: 29 or 30 with its place, or 0; the number granted, the snapshot reached, and the rules that the granted ones evaluated.
 // Cost: the book and the index are judged once, as for one completion; then one turn for each rule in the order of each stage that is granted.
 // Stack: as for one completion.
 pub fn complete_list(book: &[u8], index: &[u8], snapshot: Snapshot, list: &[u32]) -> ListCompletion
@@ -80,6 +96,7 @@ pub fn complete_list(book: &[u8], index: &[u8], snapshot: Snapshot, list: &[u32]
             answer: before,
             granted: 0,
             snapshot,
+            evaluated: 0,
         };
     }
     let h = counts_at(book);

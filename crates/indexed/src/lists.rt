@@ -6,7 +6,7 @@ ghost use Rattle.paper.specs.Limits.{maxList};
 ghost use Rattle.book.specs.Image.{bookOf};
 ghost use Rattle.book.specs.WellRead.{Opened};
 ghost use Rattle.index.specs.Index.{indexImage, NoLoops};
-ghost use Rattle.indexed.specs.InList.{grantedOf, reached, stopping, placed, beforeList};
+ghost use Rattle.indexed.specs.InList.{grantedOf, reached, lookedIn, stopping, placed, beforeList};
 use crate::ListCompletion;
 use crate::judging::judge_index;
 use crate::judging::judge_open;
@@ -52,9 +52,11 @@ pub fn walk_list(
       answer = placed (stopping (now (book .entry)) (snapshot .marks) (now (list .entry))) (grantedOf (now (book .entry)) (snapshot .marks) (now (list .entry)));
       granted = grantedOf (now (book .entry)) (snapshot .marks) (now (list .entry));
       snapshot = record { marks = reached (now (book .entry)) (snapshot .marks) (now (list .entry)) };
+      evaluated = lookedIn (now (book .entry)) (snapshot .marks) (now (list .entry));
     } ⌝ }
 {
     let mut held = snapshot;
+    let mut evaluated = 0;
     for j in 0..list.len() {
         let stage = list[j];
         let answer = judge_open(&held.marks, counts.stages, stage);
@@ -63,15 +65,18 @@ pub fn walk_list(
                 answer: paper::refused(answer.code, j as u32, 0),
                 granted: j as u32,
                 snapshot: held,
+                evaluated,
             };
         }
         let start = held.marks;
         let next = go_through_index(book, counts, index, &start, held, stage);
-        held = next;
+        held = next.snapshot;
+        evaluated += next.evaluated;
     }
     ListCompletion {
         answer: paper::granted(),
         granted: list.len() as u32,
         snapshot: held,
+        evaluated,
     }
 }

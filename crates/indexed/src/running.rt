@@ -26,7 +26,13 @@ fn entry_at(index: &[u8], at: usize) -> usize
     wire::u16_at(index, at) as usize
 }
 
-// The snapshot after the turns; `start` has the marks at the start of the completion. A rule whose target has its value already cannot alter
+// What the turns leave: the snapshot, and how many rules had one.
+pub struct Turned {
+    pub snapshot: Snapshot,
+    pub evaluated: u32,
+}
+
+// The turns of a completion; `start` has the marks at the start of the completion. A rule whose target has its value already cannot alter
 // it, so its condition is not evaluated; one that fires goes through `applied`, whose one store is in place and which copies the 256 marks.
 pub fn go_through_index(
     book: &[u8],
@@ -35,14 +41,16 @@ pub fn go_through_index(
     start: &[bool; MAX_MARKS],
     snapshot: Snapshot,
     stage: u32,
-) -> Snapshot
+) -> Turned
     requires { ⌜ (Opened (now book) counts) × (NoLoops (bookOf (now book))) × (now index ≡ indexImage (bookOf (now book))) × (stage < counts .stages) ⌝ }
-    ensures { λ r. ⌜ r .marks ≡ through (now (book .entry)) (now (start .entry)) stage (snapshot .marks) (orderOf (bookOf (now (book .entry))) stage) ⌝ }
+    ensures { λ r. ⌜ (r .snapshot .marks ≡ through (now (book .entry)) (now (start .entry)) stage (snapshot .marks) (orderOf (bookOf (now (book .entry))) stage))
+        × (r .evaluated ≡ length (orderOf (bookOf (now (book .entry))) stage)) ⌝ }
 {
     let entry = INDEX_HEADER + INDEX_STAGE * stage as usize;
     let at = wire::u32_at(index, entry) as usize;
     let many = wire::u32_at(index, entry + 4) as usize;
     let mut held = snapshot;
+    let mut evaluated = 0;
     for j in 0..many {
         let rule = rule_in(book, counts, entry_at(index, at + INDEX_RULE * j));
         if alters(&held.marks, rule) {
@@ -51,6 +59,10 @@ pub fn go_through_index(
                 held = next;
             }
         }
+        evaluated += 1;
     }
-    held
+    Turned {
+        snapshot: held,
+        evaluated,
+    }
 }

@@ -37,8 +37,8 @@ use Rattle.runner.specs.Completing.{completing}
 use Rattle.runner.specs.Completion.{refusal-hands-back}
 use Rattle.indexed.specs.Building.{indexOf, building, builtRoom, Builds, builds, builds-is, granted-index, refused-index}
 use Rattle.indexed.specs.Indexed.{completingIndexed}
-use Rattle.indexed.specs.IndexedTable.{Indexed, indexed, indexed-is, indexed-hands-back}
-use Rattle.indexed.specs.InList.{grantedOf, reached, stopping, placed, beforeList, completingList}
+use Rattle.indexed.specs.IndexedTable.{Indexed, indexed, indexed-is, indexed-hands-back, indexed-none}
+use Rattle.indexed.specs.InList.{grantedOf, reached, lookedIn, stopping, placed, beforeList, completingList}
 use Rattle.indexed.specs.ListTable.{Lists, lists, lists-is, list-answer, before-hands-back, within-hands-back}
 use Rattle.replay.specs.Replaying.{replaying, striking, untold}
 use Rattle.replay.specs.Table.{Replays, replays, replays-only, replay-kept, Strikes, strikes, strikes-only, strike-kept}
@@ -137,21 +137,23 @@ pub record Demand1 : Type 0 where
   pub buildOnly : (book : List ℕ) (room : ℕ) (a : Answer) → Builds book room a → a ≡ building book room
   pub buildGranted : (book room : List ℕ) → building book (length room) .code ≡ 0 → builtRoom book room ≡ indexOf book ++ drop (length (indexOf book)) room
   pub buildRefused : (book room : List ℕ) → (building book (length room) .code ≡ 0 → ⊥) → builtRoom book room ≡ room
-  -- completing through the index: 20 to 26, 34, 28, 29, 30; a refusal hands back the snapshot it was given
+  -- completing through the index: 20 to 26, 34, 28, 29, 30; a refusal hands back the snapshot it was given, and "a refused completion reports 0"
   pub indexed : (book index : List ℕ) (s : Snapshot) (stage : ℕ) → Indexed book index (s .marks) stage (completingIndexed book index s stage .answer)
   pub indexedOnly : (book index : List ℕ) (s : Snapshot) (stage : ℕ) (a : Answer) → Indexed book index (s .marks) stage a → a ≡ completingIndexed book index s stage .answer
   pub indexedRefused : (book index : List ℕ) (s : Snapshot) (stage : ℕ) → (completingIndexed book index s stage .answer .code ≡ 0 → ⊥) → completingIndexed book index s stage .snapshot ≡ s
-  -- a list of completions: 20 to 26, 34, 28, 38 before the list, with 0 granted and the snapshot that was given; 29 and 30 within it, and here "a refusal within the list
-  -- hands back the snapshot reached", with the number granted, which is the place of the refused one
+  pub indexedNone : (book index : List ℕ) (s : Snapshot) (stage : ℕ) → (completingIndexed book index s stage .answer .code ≡ 0 → ⊥) → completingIndexed book index s stage .evaluated ≡ 0
+  -- a list of completions: 20 to 26, 34, 28, 38 before the list, with 0 granted, the snapshot that was given and 0 rules evaluated; 29 and 30 within it, and here "a
+  -- refusal within the list hands back the snapshot reached", with the number granted, which is the place of the refused one, and "the sum over the granted ones"
   pub list : (book index : List ℕ) (s : Snapshot) (list : List ℕ) → Lists book index (s .marks) list (completingList book index s list .answer)
   pub listOnly : (book index : List ℕ) (s : Snapshot) (list : List ℕ) (a : Answer) → Lists book index (s .marks) list a → a ≡ completingList book index s list .answer
   pub listBefore : (book index : List ℕ) (s : Snapshot) (list : List ℕ) → (beforeList book index (s .marks) (length list) .code ≡ 0 → ⊥)
-      → completingList book index s list ≡ record { answer = beforeList book index (s .marks) (length list); granted = 0; snapshot = s }
+      → completingList book index s list ≡ record { answer = beforeList book index (s .marks) (length list); granted = 0; snapshot = s; evaluated = 0 }
   pub listWithin : (book index : List ℕ) (s : Snapshot) (list : List ℕ) → beforeList book index (s .marks) (length list) .code ≡ 0
       → completingList book index s list ≡ record {
         answer = placed (stopping book (s .marks) list) (grantedOf book (s .marks) list);
         granted = grantedOf book (s .marks) list;
         snapshot = record { marks = reached book (s .marks) list };
+        evaluated = lookedIn book (s .marks) list;
       }
   -- replay: 14; a refused one gives the marking as it was. "A replay that stops at a step is no refused call and keeps the marking reached"
   pub replay : (c : FlatChart) (m : Marking) (numbers : List ℕ) → Replays c m numbers (replaying c m numbers)
@@ -202,6 +204,7 @@ demand-1 =
       indexed = λ book index s stage. indexed book index (s .marks) stage;
       indexedOnly = λ book index s stage. indexed-is book index (s .marks) stage;
       indexedRefused = indexed-hands-back;
+      indexedNone = indexed-none;
       list = λ book index s list. rw (list-answer book index s list) (lists book index (s .marks) list);
       listOnly = λ book index s list a x. lists-is book index (s .marks) list a x ∙ sym (list-answer book index s list);
       listBefore = before-hands-back;

@@ -12,7 +12,7 @@ use Rattle.judge.specs.Checking.{checking}
 use Rattle.deriver.specs.Deriving.{derivedImage}
 use Rattle.runner.specs.Completing.{completing}
 use Rattle.indexed.specs.Building.{indexOf, building, build-granted}
-use Rattle.indexed.specs.Indexed.{indexAnswer, completingIndexed}
+use Rattle.indexed.specs.Indexed.{indexAnswer, completingIndexed, completionOf}
 use Rattle.indexed.specs.IndexedTable.{checkedOrder, builtIndex, built-fit, fit-one, through-built}
 use Rattle.promises.specs.Demand2.{passes}
 
@@ -22,7 +22,7 @@ pub record Indexes : Type 0 where
   pub one : (book i j : List ℕ) → indexAnswer book i .code ≡ 0 → indexAnswer book j .code ≡ 0 → i ≡ j
   -- "For a stage the book has, a completion through the index gives the same answer and snapshot as one with the order from the check.", whatever the snapshot
   pub same : (book lent room : List ℕ) (stage : ℕ) → building book (length lent) .code ≡ 0 → (e : checking book stage (length room) .code ≡ 0) → (snapshot : Snapshot)
-      → completingIndexed book (builtIndex book lent) snapshot stage ≡ completing book (checkedOrder book stage room e) snapshot stage
+      → completionOf (completingIndexed book (builtIndex book lent) snapshot stage) ≡ completing book (checkedOrder book stage room e) snapshot stage
   -- a book derived from an accepted chart can always be indexed, given room
   pub derived : (image : List ℕ) → reading image .answer .code ≡ 0 → (room : ℕ) → length (indexOf (derivedImage (reading image .chart))) ≤ room
       → building (derivedImage (reading image .chart)) room ≡ granted

@@ -1,10 +1,11 @@
--- A completion's walk through its order, as the paper defines firing: there is one, it has one end, and how often each mark changes along it. Assumes nothing.
+-- A completion's walk through its order, as the paper defines firing: there is one, it has one end, how often each mark changes along it, and how many rules it looks at. Assumes nothing.
 use mathlib.Core.Path.{_≡_, refl, sym, ap, subst, _∙_, fun-ext}
 use mathlib.Core.Bool.{true, false, cond}
 use mathlib.Core.List.{List, [], _∷_}
-use Prim.Native.Nat.{ℕ, _+_}
+use Prim.Native.Nat.{ℕ, suc, _+_}
 use native.Mathlib.Omega.{arith}
 use lib.Dec.{eqb}
+use lib.ListN.{length}
 use Rattle.general.specs.Cases.{cases, coincide}
 use Rattle.order_theory.specs.Settle.{run, step, changes, flips, flips-same, flips-differ}
 use Rattle.book.specs.Text.{Snap}
@@ -39,6 +40,19 @@ module _ (b : Book) (start : Snap) (stage : ℕ) where
     pub turn-stays : altered b now r m ≡ now m → turns (fired {now = now} {r = r} e g) m ≡ 0 + turns g m
     unfolding turns
     turn-stays s = ap (λ (x : ℕ). x + turns g m) (flips-same (now m) (altered b now r m) s)
+
+  -- request (vi): "the length of the definition's own walk: one for each rule in the stage's order, fired or not"
+  unfoldable pub looks : {now end : Snap} {order : List ℕ} → Goes b start stage now order end → ℕ
+  looks ended = 0
+  looks (fired e g) = suc (looks g)
+  looks (waited e g) = suc (looks g)
+
+  -- so it is the same for every walk of one order
+  pub looks-length : {now end : Snap} {order : List ℕ} (g : Goes b start stage now order end) → looks g ≡ length order
+  unfolding looks
+  looks-length ended = refl
+  looks-length (fired e g) = ap suc (looks-length g)
+  looks-length (waited e g) = ap suc (looks-length g)
 
   -- ---- the walk in the words of the theorems on orders
 

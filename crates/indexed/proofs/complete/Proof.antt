@@ -18,6 +18,7 @@ complete-spec =
     (λ c κs. walk-asks _ _ _ (c .before .before .before .before .before .before .before .before .before .before .judge-index .ensures)
     (c .before .before .before .before .before .before .before .before .if1 .left) _ (c .before .before .before .before .before .before .before .counts-at .ensures) _ _ _
     (c .before .before .before .before .judge-marks .ensures) (c .before .before .if2 .left))
-    (λ c. completed-so _ _ _ _ _ (c .before .before .before .before .before .before .before .before .before .before .before .judge-index .ensures)
-    (c .before .before .before .before .before .before .before .before .before .if1 .left) _ (c .before .before .before .before .before .before .before .before .counts-at .ensures) _
-    (c .before .before .before .before .before .judge-marks .ensures) _ (c .before .before .before .if2 .left) (c .go-through-index .ensures)))
+    (λ c. completed-so _ _ _ _ _ (c .before .before .before .before .before .before .before .before .before .before .before .before .judge-index .ensures)
+    (c .before .before .before .before .before .before .before .before .before .before .if1 .left) _
+    (c .before .before .before .before .before .before .before .before .before .counts-at .ensures) _ (c .before .before .before .before .before .before .judge-marks .ensures) _ _
+    (c .before .before .before .before .if2 .left) (c .before .go-through-index .ensures .0) (c .before .go-through-index .ensures .1)))
