@@ -5,14 +5,12 @@ use mathlib.Core.List.{List, _∷_}
 use Prim.Native.Nat.{ℕ, _+_, _≤_, _<_, _^_}
 use native.Mathlib.Numerals.{add-one}
 use native.Mathlib.Omega.{arith}
-use lib.Dec.{eqb, ltb}
 use lib.ListN.{length, getD, drop, drop-of-length-le}
 use lib.Seq.{drop-cons}
-use borrow.Author.Tests.{eqb-true, eqb-false, eq-eqb, ne-eqb, ltb-true, ltb-false, lt-ltb, le-ltb}
-use Rattle.paper.specs.Limits.{maxEvents, maxList, bookHeader, markAbove, noSuchStage, longList}
+use borrow.Author.Tests.{eq-eqb, ne-eqb, lt-ltb, le-ltb}
+use Rattle.paper.specs.Limits.{maxEvents, maxList, bookHeader, markAbove, longList}
 use Rattle.paper.specs.Answers.{answer, granted, refusal, placeOf}
 use Rattle.paper.specs.declared.Answer.{Answer}
-use Rattle.general.specs.Cases.{cases}
 use Rattle.book.specs.Image.{stagesIn, marksIn, bookOf}
 use Rattle.book.specs.Judging.{countsOf}
 use Rattle.book.specs.WellFormed.{WellFormed}
@@ -23,9 +21,9 @@ use Rattle.runner.specs.Completing.{anyFrom}
 use Rattle.runner.specs.Table.{Passes}
 use Rattle.index.specs.Index.{orderOf, indexImage, NoLoops}
 use Rattle.indexed.specs.Building.{indexOf}
-use Rattle.indexed.specs.Indexed.{indexAnswer, openAnswer, lookedAt}
+use Rattle.indexed.specs.Indexed.{indexAnswer, openAnswer}
 use Rattle.indexed.specs.IndexedTable.{index-passes, looked-count}
-use Rattle.indexed.specs.InList.{completedMarks, grantedOf, reached, lookedIn, stopping, placed, beforeList, completingList, opens-known, looked-in-small}
+use Rattle.indexed.specs.InList.{completedMarks, grantedOf, reached, lookedIn, stopping, placed, beforeList, completingList, opens-known, looked-in-small, before-passes}
 use Rattle.indexed.specs.declared.ListCompletion.{ListCompletion}
 
 -- ---- before the list
@@ -51,16 +49,6 @@ module _ (s index : List ℕ) (marks : List Bool) (many : ℕ) where
       pub before-granted : many ≤ maxList → a ≡ granted → a ≡ beforeList s index marks many
       unfolding beforeList
       before-granted l q = q ∙ rw (← e, eq-eqb (o .code) 0 z, ← belongs, t, le-ltb maxList many l)
-
-  -- what is ruled out where nothing is refused before the list
-  before-passes : beforeList s index marks many .code ≡ 0 → (indexAnswer s index .code ≡ 0) × (many ≤ maxList)
-  unfolding beforeList
-  before-passes e =
-      cases (eqb (indexAnswer s index .code) 0)
-      (λ x. cases (anyFrom (marksIn s) marks) (λ y. let w : markAbove ≡ 0 = rw (x, y) at e in absurd (omega arith))
-      (λ y. cases (ltb maxList many) (λ v. let w : longList ≡ 0 = rw (x, y, v) at e in absurd (omega arith))
-      (λ v. (eqb-true (indexAnswer s index .code) 0 x, ltb-false maxList many v))))
-      (λ x. let w : indexAnswer s index .code ≡ 0 = rw x at e in absurd (eqb-false (indexAnswer s index .code) 0 x w))
 
 -- ---- the walk: j were granted, and what the rest gives from here is what the whole gives from the start
 

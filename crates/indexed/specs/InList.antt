@@ -1,12 +1,12 @@
 -- What completing a list of stages gives, in the request's order of refusals, and that it is one call through the index after another. Assumes nothing.
 use mathlib.Core.Path.{_≡_, refl, sym, ap, subst, _∙_}
-use mathlib.Core.Bool.{Bool, true, false, cond}
+use mathlib.Core.Bool.{Bool, true, cond}
 use mathlib.Core.List.{List, [], _∷_}
-use Prim.Native.Nat.{ℕ, zero, suc, _+_, _*_, _≤_, _<_, _^_}
+use Prim.Native.Nat.{ℕ, suc, _+_, _*_, _≤_, _<_, _^_}
 use native.Mathlib.Omega.{arith}
 use lib.Dec.{eqb, ltb}
 use lib.ListN.{length}
-use borrow.Author.Tests.{eqb-true, eqb-false, eq-eqb, ne-eqb, ltb-true, ltb-false, lt-ltb, le-ltb}
+use borrow.Author.Tests.{eqb-true, eqb-false, ltb-true, ltb-false}
 use Rattle.paper.specs.Limits.{maxMarks, maxRules, maxList, markAbove, longList}
 use Rattle.paper.specs.Answers.{answer, granted, refusal, placeOf}
 use Rattle.paper.specs.declared.Answer.{Answer}
@@ -88,6 +88,16 @@ beforeList s index marks n =
     cond (eqb (indexAnswer s index .code) 0)
     (cond (anyFrom (marksIn s) marks) (refusal markAbove) (cond (ltb maxList n) (answer longList (placeOf n) 0) granted))
     (indexAnswer s index)
+
+-- what is ruled out where nothing is refused before the list
+pub before-passes : (s index : List ℕ) (marks : List Bool) (many : ℕ) → beforeList s index marks many .code ≡ 0 → (indexAnswer s index .code ≡ 0) × (many ≤ maxList)
+unfolding beforeList
+before-passes s index marks many e =
+    cases (eqb (indexAnswer s index .code) 0)
+    (λ x. cases (anyFrom (marksIn s) marks) (λ y. let w : markAbove ≡ 0 = rw (x, y) at e in absurd (omega arith))
+    (λ y. cases (ltb maxList many) (λ v. let w : longList ≡ 0 = rw (x, y, v) at e in absurd (omega arith))
+    (λ v. (eqb-true (indexAnswer s index .code) 0 x, ltb-false maxList many v))))
+    (λ x. let w : indexAnswer s index .code ≡ 0 = rw x at e in absurd (eqb-false (indexAnswer s index .code) 0 x w))
 
 unfoldable pub listAnswer : List ℕ → List ℕ → List Bool → List ℕ → Answer
 listAnswer s index marks list =

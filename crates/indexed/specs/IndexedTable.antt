@@ -1,8 +1,8 @@
 -- The rows of the request's table for a completion through the index, in the order 20 to 26, 34, 28, 29, 30; that the answer is given exactly as they say; and that it is
 -- the completion along the order that the check writes. Assumes nothing.
-use mathlib.Core.Path.{_≡_, refl, sym, ap, subst, _∙_}
+use mathlib.Core.Path.{_≡_, sym, ap, subst, _∙_}
 use mathlib.Core.Bool.{Bool, true, false}
-use mathlib.Core.List.{List, _++_}
+use mathlib.Core.List.{List}
 use Prim.Native.Nat.{ℕ, _≤_, _<_}
 use native.Mathlib.Omega.{arith}
 use lib.Dec.{eqb, ltb}
@@ -13,14 +13,14 @@ use Rattle.paper.specs.Limits.{maxMarks, maxRules, clash, markAbove, noSuchStag
 use Rattle.paper.specs.Answers.{granted, refusal}
 use Rattle.paper.specs.declared.Answer.{Answer}
 use Rattle.general.specs.Cases.{contra, cases, coincide, not-so}
-use Rattle.order_theory.specs.Order.{countedRules, Fit}
+use Rattle.order_theory.specs.Order.{countedRules}
 use Rattle.book.specs.Text.{snapOf}
 use Rattle.book.specs.Image.{stagesIn, marksIn, rulesIn, bookOf}
 use Rattle.book.specs.WellFormed.{WellFormed}
 use Rattle.book.specs.declared.Snapshot.{Snapshot}
 use Rattle.rule_order.specs.Nets.{rulesOf}
 use Rattle.judge.specs.Checking.{bookAnswer, Checked, checking, checkedRoom, book-passes, book-is, is-book, granted-room, passed-is, order-fit, acyclic-at}
-use Rattle.runner.specs.Completing.{anyFrom, orderAnswer, snapshotAnswer, completionAnswer, completing}
+use Rattle.runner.specs.Completing.{anyFrom, snapshotAnswer, completionAnswer, completing}
 use Rattle.runner.specs.Table.{Passes, Belongs, belongs-none, none-belongs, some-above, above-some, order-granted}
 use Rattle.runner.specs.Walks.{looks-length, goes-run}
 use Rattle.index.specs.Index.{orderOf, NoLoops}

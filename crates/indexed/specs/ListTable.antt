@@ -1,9 +1,9 @@
 -- The rows of the request's table for a list of completions, in the order 20 to 26, 34, 28, 38, and 29 or 30 within the list; that the answer is given exactly as they say; what a refusal
 -- before and within the list hands back; and the list as one call after another. Assumes nothing.
-use mathlib.Core.Path.{_≡_, refl, sym, ap, ap₂, subst, _∙_}
+use mathlib.Core.Path.{_≡_, refl, ap, subst}
 use mathlib.Core.Bool.{Bool, true, false}
 use mathlib.Core.List.{List, [], _∷_}
-use Prim.Native.Nat.{ℕ, zero, suc, _+_, _≤_, _<_}
+use Prim.Native.Nat.{ℕ, suc, _+_, _≤_, _<_, _^_}
 use native.Mathlib.Omega.{arith}
 use lib.Dec.{eqb, ltb}
 use lib.ListN.{length}
@@ -21,8 +21,8 @@ use Rattle.runner.specs.Completing.{anyFrom}
 use Rattle.runner.specs.Table.{Passes, Belongs, belongs-none, none-belongs, some-above, above-some}
 use Rattle.indexed.specs.Building.{indexOf}
 use Rattle.indexed.specs.Indexed.{indexAnswer, openAnswer, marksAnswer, indexedAnswer, lookedAt, completingIndexed}
-use Rattle.indexed.specs.IndexedTable.{index-granted, index-unfit, index-refused, index-passes, then, indexed-hands-back}
-use Rattle.indexed.specs.InList.{completedMarks, grantedOf, reached, lookedIn, stopping, placed, beforeList, listAnswer, completingList, InTurn, in-turn}
+use Rattle.indexed.specs.IndexedTable.{index-granted, index-unfit, index-refused, index-passes, indexed-hands-back}
+use Rattle.indexed.specs.InList.{completedMarks, grantedOf, reached, lookedIn, stopping, placed, beforeList, listAnswer, completingList, looked-in-small, before-passes, InTurn, in-turn}
 use Rattle.indexed.specs.InList as turn
 use Rattle.indexed.specs.declared.ListCompletion.{ListCompletion}
 
@@ -118,6 +118,16 @@ module _ (s index : List ℕ) (snapshot : Snapshot) (list : List ℕ) where
       }
   unfolding completingList
   within-hands-back e = rw (eq-eqb (beforeList s index (snapshot .marks) (length list) .code) 0 e)
+
+  -- the rules evaluated never exceed 32 bits
+  pub list-small : completingList s index snapshot list .evaluated < 2 ^ 32
+  unfolding completingList
+  list-small =
+      cases (eqb (beforeList s index (snapshot .marks) (length list) .code) 0)
+      (λ e. let (x, l) = before-passes s index (snapshot .marks) (length list) (eqb-true (beforeList s index (snapshot .marks) (length list) .code) 0 e) in
+      let (p, _) = index-passes s index x in
+      rw e (looked-in-small s (p .formed) (p .acyclic) list (snapshot .marks) l))
+      (λ e. rw e (omega arith))
 
   -- two results that meet the contract coincide
   pub list-determined : (x y : ListCompletion) → x ≡ completingList s index snapshot list → y ≡ completingList s index snapshot list → x ≡ y

@@ -20,6 +20,7 @@ use graph::Marking;
 use graph::steps::Finished;
 use graph::steps::OpenCount;
 use graph::steps::Step;
+use indexed::IndexedCompletion;
 use indexed::ListCompletion;
 use paper::Answer;
 use paper::MAX_EVENTS;
@@ -249,7 +250,7 @@ pub extern "C" fn ozhimka_complete_indexed(
     index: &[u8],
     snapshot: Snapshot,
     stage: u32,
-) -> Completion
+) -> IndexedCompletion
     ensures { λ r. ⌜ r ≡ completingIndexed (now (book .entry)) (now (index .entry)) snapshot stage ⌝ }
 {
     indexed::complete(book, index, snapshot, stage)

@@ -7,6 +7,7 @@ pub mod Demand1
 pub mod Demand3
 pub mod Indexes
 pub mod Lists
+pub mod Looked
 pub mod Replays
 pub mod Roles
 pub mod Stages

@@ -1,5 +1,5 @@
 -- The settled examples P1 to P12 as rows under one theorem. Assumes nothing.
-use Prim.Native.Nat.{ℕ, zero, suc, _≤_, _<_}
+use Prim.Native.Nat.{ℕ, zero, suc, _+_, _*_, _≤_, _<_}
 use mathlib.Core.Path.{_≡_, refl, sym, ap, ap₂, subst, _∙_}
 use mathlib.Core.Bool.{true, false}
 use mathlib.Core.List.{List, [], _∷_}
@@ -54,6 +54,7 @@ use Rattle.runner.specs.declared.Completion.{Completion}
 use Rattle.promises.specs.Matching.{matched, marks-whole}
 use Rattle.promises.specs.Demand2.{derived-passes, stages-are, Alike, written, ordered, Demand2, demand-2}
 use Rattle.promises.specs.Demand1.{demand-1}
+use Rattle.promises.specs.Looked.{fullChart, fullCompletion, full-granted, full-reaches}
 
 -- ---- P1 to P3, of what reading the paper's chart gives
 
@@ -125,6 +126,8 @@ pub record Rows : Type 0 where
   pub pairPasses : (checking (pairBook 1 1) 0 1 ≡ granted) × (checking (pairBook 1 1) 1 1 ≡ granted)
   -- and without the trigger of the second rule: 25, place b, whichever stage is asked for, one that it has not too
   pub pairLoops : (checking (pairBook 0 0) 0 2 ≡ answer loopFound 2 0) × (checking (pairBook 0 0) 1 2 ≡ answer loopFound 2 0) × (checking (pairBook 0 0) 2 0 ≡ answer loopFound 2 0)
+  -- request (vi): where event 0 of two includes both and has both as responses, completing it looks at 4n + 1 rules, which is 9
+  pub full : (fullCompletion .answer .code ≡ 0) × (fullCompletion .evaluated ≡ 4 * fullChart .count + 1)
   -- "P11: no rules, empty order, open stage: same snapshot.": of every such book
   pub p11 : (s : List ℕ) → Passes s → rulesIn s ≡ 0 → (snapshot : Snapshot) (stage : ℕ) → Open s snapshot stage
       → completing s [] snapshot stage ≡ record { answer = granted; snapshot = snapshot }
@@ -261,6 +264,7 @@ rows =
       p10 = (p10-pass .0, p10-pass .1, p10-clash .0);
       pairPasses = (pair-pass .0, pair-pass .1);
       pairLoops = pair-loop;
+      full = (full-granted, full-reaches);
       p11 = runner.p11;
       p12 = runner.p12;
     }

@@ -167,7 +167,8 @@ pub fn indexed(body: &[u8], line: &mut [u8; LINE]) -> usize {
     let end = INDEX + n;
     let completion = indexed::complete(&body[end..], &body[INDEX..end], snapshot, stage);
     let at = show::answer(line, b"indexed", completion.answer);
-    show::snapshot(line, at, completion.snapshot)
+    let at = show::snapshot(line, at, completion.snapshot);
+    show::number(line, at, completion.evaluated as u64)
 }
 
 // The book is all that follows the index, which follows the list and its own length.
@@ -193,7 +194,8 @@ pub fn complete_list(body: &[u8], line: &mut [u8; LINE]) -> usize {
     let completion = rooms::complete_list(&body[end..], &body[start..end], snapshot, &stages, n);
     let at = show::answer(line, b"list", completion.answer);
     let at = show::number(line, at, completion.granted as u64);
-    show::snapshot(line, at, completion.snapshot)
+    let at = show::snapshot(line, at, completion.snapshot);
+    show::number(line, at, completion.evaluated as u64)
 }
 
 // What the listing program prints for the image, which is all that follows the operation: its length and its sum.
