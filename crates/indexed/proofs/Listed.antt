@@ -2,13 +2,13 @@
 use mathlib.Core.Path.{_≡_, refl, sym, ap, _∙_}
 use mathlib.Core.Bool.{Bool, true, false}
 use mathlib.Core.List.{List, _∷_}
-use Prim.Native.Nat.{ℕ, _+_, _≤_, _<_, _^_}
+use Prim.Native.Nat.{ℕ, _+_, _*_, _≤_, _<_, _^_}
 use native.Mathlib.Numerals.{add-one}
 use native.Mathlib.Omega.{arith}
 use lib.ListN.{length, getD, drop, drop-of-length-le}
 use lib.Seq.{drop-cons}
 use borrow.Author.Tests.{eq-eqb, ne-eqb, lt-ltb, le-ltb}
-use Rattle.paper.specs.Limits.{maxEvents, maxList, bookHeader, markAbove, longList}
+use Rattle.paper.specs.Limits.{maxEvents, maxRules, maxList, bookHeader, markAbove, longList}
 use Rattle.paper.specs.Answers.{answer, granted, refusal, placeOf}
 use Rattle.paper.specs.declared.Answer.{Answer}
 use Rattle.book.specs.Image.{stagesIn, marksIn, bookOf}
@@ -20,10 +20,11 @@ use Rattle.book.specs.declared.Snapshot.{Snapshot}
 use Rattle.runner.specs.Completing.{anyFrom}
 use Rattle.runner.specs.Table.{Passes}
 use Rattle.index.specs.Index.{orderOf, indexImage, NoLoops}
+use Rattle.index.specs.Reading.{count-small}
 use Rattle.indexed.specs.Building.{indexOf}
 use Rattle.indexed.specs.Indexed.{indexAnswer, openAnswer}
 use Rattle.indexed.specs.IndexedTable.{index-passes, looked-count}
-use Rattle.indexed.specs.InList.{completedMarks, grantedOf, reached, lookedIn, stopping, placed, beforeList, completingList, opens-known, looked-in-small, before-passes}
+use Rattle.indexed.specs.InList.{completedMarks, grantedOf, reached, lookedIn, stopping, placed, beforeList, completingList, opens-known, before-passes}
 use Rattle.indexed.specs.declared.ListCompletion.{ListCompletion}
 
 -- ---- before the list
@@ -67,10 +68,11 @@ module _ (s : List ℕ) (began : List Bool) (list : List ℕ) where
     pub many : grantedOf s began list ≡ j + grantedOf s marks (drop j list)
     pub end : reached s began list ≡ reached s marks (drop j list)
     pub sum : lookedIn s began list ≡ looked + lookedIn s marks (drop j list)
+    pub small : looked ≤ j * maxRules
     pub code : stopping s began list ≡ stopping s marks (drop j list)
 
   pub gone-first : Gone began 0 0
-  gone-first = record { few = omega arith; many = omega arith; end = refl; sum = omega arith; code = refl }
+  gone-first = record { few = omega arith; many = omega arith; end = refl; sum = omega arith; small = omega arith; code = refl }
 
   module _ (marks : List Bool) (looked j : ℕ) (g : Gone marks looked j) where
     -- every entry was granted
@@ -101,24 +103,24 @@ module _ (s : List ℕ) (began : List Bool) (list : List ℕ) where
           let k : held ≡ record { marks = marks } = ap (λ (u : List Bool). record { marks = u }) m in
           rw (x, y, w, v, ne-eqb (a .code) 0 n, p, k)
 
-      module _ (z : a .code ≡ 0) (turned : ℕ) (c : turned ≡ length (orderOf (bookOf s) t)) where
-        -- the sum with what the entry's completion looked at
-        more : lookedIn s began list ≡ looked + turned + lookedIn s (completedMarks s marks t) (drop (j + 1) list)
-        unfolding lookedIn
-        more = g .sum ∙ rw (here, ← e, z) (omega (arith, looked-count s marks t))
+      -- it is, and its completion looked at so many rules
+      module _ (z : a .code ≡ 0) (f : WellFormed s) (n : NoLoops (bookOf s)) (turned : ℕ) (c : turned ≡ length (orderOf (bookOf s) t)) where
+        turned-few : turned ≤ maxRules
+        turned-few = rw c (count-small s f n t (opens-known s marks t (rw (← e) (eq-eqb (a .code) 0 z))))
 
-        -- it fits 32 bits
-        pub gone-fits : WellFormed s → NoLoops (bookOf s) → length list ≤ maxList → looked + turned < 2 ^ 32
-        gone-fits f n h = omega (arith, more, looked-in-small s f n list began h)
+        pub gone-fits : length list ≤ maxList → looked + turned < 2 ^ 32
+        gone-fits h = let u : looked ≤ j * maxRules = g .small in omega (arith, turned-few)
 
         pub gone-on : (marks′ : List Bool) → marks′ ≡ completedMarks s marks t → Gone marks′ (looked + turned) (j + 1)
-        unfolding grantedOf reached stopping
+        unfolding grantedOf reached lookedIn stopping
         gone-on marks′ m =
+            let u : looked ≤ j * maxRules = g .small in
             record {
               few = omega arith;
               many = g .many ∙ rw (here, ← e, z, ← m) (omega arith);
               end = g .end ∙ rw (here, ← e, z, ← m);
-              sum = rw m more;
+              sum = g .sum ∙ rw (here, ← e, z, ← m) (omega (arith, looked-count s marks t));
+              small = omega (arith, turned-few);
               code = g .code ∙ rw (here, ← e, z, ← m);
             }
 

@@ -1,5 +1,5 @@
--- The rows of the request's table for a completion through the index, in the order 20 to 26, 34, 28, 29, 30; that the answer is given exactly as they say; and that it is
--- the completion along the order that the check writes. Assumes nothing.
+-- The rows of the request's table for a completion through the index, in the order 20 to 26, 34, 28, 29, 30; that the answer is given exactly as they say; how many rules
+-- it looks at; and that it is the completion along the order that the check writes. Assumes nothing.
 use mathlib.Core.Path.{_≡_, sym, ap, subst, _∙_}
 use mathlib.Core.Bool.{Bool, true, false}
 use mathlib.Core.List.{List}

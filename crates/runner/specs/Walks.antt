@@ -1,4 +1,5 @@
--- A completion's walk through its order, as the paper defines firing: there is one, it has one end, how often each mark changes along it, and how many rules it looks at. Assumes nothing.
+-- A completion's walk through its order, as the paper defines firing: there is one, it has one end, how often each mark changes along it, and how many rules it looks
+-- at. Assumes nothing.
 use mathlib.Core.Path.{_≡_, refl, sym, ap, subst, _∙_, fun-ext}
 use mathlib.Core.Bool.{true, false, cond}
 use mathlib.Core.List.{List, [], _∷_}

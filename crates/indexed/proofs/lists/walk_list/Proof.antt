@@ -42,8 +42,8 @@ walk-list-spec =
             .before .before .before .before .pre .3,
       );
     })
-    (λ c. gone-stops _ _ _ _ _ _ (c .before .before .before .before .before .before .before .before .loop .inv) (c .before .before .before .before .before .before .before .loop-test .taken) _
-    refl _
+    (λ c. gone-stops _ _ _ _ _ _ (c .before .before .before .before .before .before .before .before .loop .inv)
+    (c .before .before .before .before .before .before .before .loop-test .taken) _ refl _
     (c .before .before .before .judge-open .ensures _ (ap (λ (h : Counts). h .stages) (c .before .before .before .before .before .before .before .before .before .before .before .before .pre
     .0 .counts))) _ _ (c .before .if1 .taken) (c .refused .ensures) refl)
     (λ c κs. turn-asks _ _ _ _ (c .before .before .before .before .before .before .before .before .before .before .before .before .before .pre) _ _ _ (c .before .before .before .before
@@ -53,13 +53,14 @@ walk-list-spec =
     record {
       fits = gone-fits _ _ _ _ _ _ (c .before .before .before .before .before .before .before .before .before .before .before .before .loop .inv)
           (c .before .before .before .before .before .before .before .before .before .before .before .loop-test .taken) _ refl _ a
-          (c .before .before .before .before .before .if1 .left) _ (c .before .before .go-through-index .ensures .1) (p .0 .formed) (p .1) (p .3);
+          (c .before .before .before .before .before .if1 .left) (p .0 .formed) (p .1) _ (c .before .before .go-through-index .ensures .1) (p .3);
     })
     (λ c. search needs) (λ c. search needs)
     (λ c. let p = c .before .before .before .before .before .before .before .before .before .before .before .before .before .before .before .before .pre in
     let a = c .before .before .before .before .before .before .before .judge-open .ensures _ (ap (λ (h : Counts). h .stages) (p .0 .counts)) in
-    gone-on _ _ _ _ _ _ (c .before .before .before .before .before .before .before .before .before .before .before .before .loop .inv) (c .before .before .before .before .before .before .before .before .before .before .before
-    .loop-test .taken) _ refl _ a (c .before .before .before .before .before .if1 .left) _
+    gone-on _ _ _ _ _ _ (c .before .before .before .before .before .before .before .before .before .before .before .before .loop .inv)
+    (c .before .before .before .before .before .before .before .before .before .before .before
+    .loop-test .taken) _ refl _ a (c .before .before .before .before .before .if1 .left) (p .0 .formed) (p .1) _
     (c .before .before .go-through-index .ensures .1) _ (c .before .before .go-through-index .ensures .0))
     (λ c κs. search needs)
     (λ c. record { fits = omega (arith, c .before .before .before .before .before .before .pre .3) })

@@ -12,7 +12,7 @@ use Rattle.indexed.proofs.running.go_through_index.Statement.{statement
 use Rattle.indexed.proofs.running.go_through_index.Tie as tie
 
 abbrev Inv-loop : tie.InvT-loop
-Inv-loop book counts index start stage entry at many held₀ evaluated₀ j₀ held evaluated j = (Walked book start (held₀ .marks) stage (held .marks) j) × (evaluated ≡ j) × (j ≤ many)
+Inv-loop book counts index start stage entry at many held₀ evaluated₀ j₀ held evaluated j = (evaluated ≡ j) × (j ≤ many) × Walked book start (held₀ .marks) stage (held .marks) j
 
 abbrev μ-loop : tie.MeasureT-loop
 μ-loop book counts index start stage entry at many held₀ evaluated₀ j₀ held evaluated j = many - j
@@ -28,7 +28,7 @@ go-through-index-spec =
     (λ c. search needs) (λ c. search needs)
     (λ c κs. let p = c .before .before .before .pre in entry-second _ _ _ _ (p .0) (p .1) (p .2) (p .3))
     (λ c. search needs)
-    (λ c. (walked-first _ _ _ _ (search needs), refl, search needs))
+    (λ c. (refl, search needs, walked-first _ _ _ _ (search needs)))
     (λ c. let p = c .before .before .before .before .before .before .pre in
     record {
       fits = omega (
@@ -56,7 +56,7 @@ go-through-index-spec =
     (λ c κs. let p = c .before .before .before .before .before .before .before .before .before .before .pre in
     let t = entry _ _ _ _ (p .0) (p .1) (p .2) (p .3) _ _ (c .before .before .before .before .before .before .before .u32-at .ensures)
     (c .before .before .before .before .before .before .u32-at2 .ensures) _ (c .before .before .before .before .loop-test .taken) _ (c .before .before .before .entry-at .ensures) in
-    (target-so _ _ _ (p .0 .formed) (t .below) (c .before .before .rule-in .ensures), c .before .before .before .before .before .loop .inv .0 .whole))
+    (target-so _ _ _ (p .0 .formed) (t .below) (c .before .before .rule-in .ensures), c .before .before .before .before .before .loop .inv .2 .whole))
     (λ c κs. let p = c .before .before .before .before .before .before .before .before .before .before .before .before .before .before .pre in
     let t = entry _ _ _ _ (p .0) (p .1) (p .2) (p .3) _ _ (c .before .before .before .before .before .before .before .before .before .before .before .u32-at .ensures)
     (c .before .before .before .before .before .before .before .before .before .before .u32-at2 .ensures) _
@@ -68,29 +68,29 @@ go-through-index-spec =
     (c .before .before .before .before .before .before .before .before .before .before .loop-test .taken) _
     (c .before .before .before .before .before .before .before .before .before .entry-at .ensures) in
     target-so _ _ _ (p .0 .formed) (t .below) (c .before .before .before .before .before .before .before .before .rule-in .ensures))
-    (λ c. let p = c .before .before .before .before .before .before .before .before .before .before .before .before .pre in
+    (λ c. let b = c .before .before .before .before .before .before in
+    let p = b .before .before .before .before .before .before .pre in
     record {
-      fits = count-fits _ _ _ _ (p .0) (p .1) (p .2) (p .3) _ _ (c .before .before .before .before .before .before .before .before .before .u32-at .ensures)
-          (c .before .before .before .before .before .before .before .before .u32-at2 .ensures) _ (c .before .before .before .before .before .before .loop-test .taken) _
-          (c .before .before .before .before .before .before .before .loop .inv .1);
+      fits = count-fits _ _ _ _ (p .0) (p .1) (p .2) (p .3) _ _ (b .before .before .before .u32-at .ensures) (b .before .before .u32-at2 .ensures) _
+          (b .loop-test .taken) _ (b .before .loop .inv .0);
     })
     (λ c. search needs) (λ c. search needs)
     (λ c. let p = c .before .before .before .before .before .before .before .before .before .before .before .before .pre in
     let t = entry _ _ _ _ (p .0) (p .1) (p .2) (p .3) _ _ (c .before .before .before .before .before .before .before .before .before .u32-at .ensures)
     (c .before .before .before .before .before .before .before .before .u32-at2 .ensures) _ (c .before .before .before .before .before .before .loop-test .taken) _
     (c .before .before .before .before .before .entry-at .ensures) in (
+      ap (λ (n : ℕ). n + 1) (c .before .before .before .before .before .before .before .loop .inv .0),
+      omega (arith, c .before .before .before .before .before .before .loop-test .taken),
       ⊎-elim
-          (λ w. walked-fired _ _ _ _ _ _ (c .before .before .before .before .before .before .before .loop .inv .0) _ _ t _ (c .before .before .before .before .rule-in .ensures) _ (w .3 .ensures)
+          (λ w. walked-fired _ _ _ _ _ _ (c .before .before .before .before .before .before .before .loop .inv .2) _ _ t _ (c .before .before .before .before .rule-in .ensures) _ (w .3 .ensures)
           (w .4 .taken) (ap (λ (h : Snapshot). h .marks) (w .6) ∙ w .5 .ensures))
           (⊎-elim
-          (λ w. walked-kept _ _ _ _ _ _ (c .before .before .before .before .before .before .before .loop .inv .0) _ _ t _ (c .before .before .before .before .rule-in .ensures) _ (w .3 .ensures)
+          (λ w. walked-kept _ _ _ _ _ _ (c .before .before .before .before .before .before .before .loop .inv .2) _ _ t _ (c .before .before .before .before .rule-in .ensures) _ (w .3 .ensures)
           (w .4 .left) (ap (λ (h : Snapshot). h .marks) (w .5)))
-          (λ w. walked-idle _ _ _ _ _ _ (c .before .before .before .before .before .before .before .loop .inv .0) _ _ t _ (c .before .before .before .before .rule-in .ensures) _
+          (λ w. walked-idle _ _ _ _ _ _ (c .before .before .before .before .before .before .before .loop .inv .2) _ _ t _ (c .before .before .before .before .rule-in .ensures) _
           (c .before .alters .ensures) (w .0 .left) (ap (λ (h : Snapshot). h .marks) (w .1))))
           (c .if1 .came),
-      ap (λ (n : ℕ). n + 1) (c .before .before .before .before .before .before .before .loop .inv .1),
-      omega (arith, c .before .before .before .before .before .before .loop-test .taken),
     ))
     (λ c. let p = c .before .before .before .before .before .before .pre in
     let m = many-is _ _ _ _ (p .0) (p .1) (p .2) (p .3) _ _ (c .before .before .before .u32-at .ensures) (c .before .before .u32-at2 .ensures) in
-    (walked-last _ _ _ _ _ _ (c .before .loop .inv .0) _ m (c .loop-test .left), omega (arith, m, c .before .loop .inv .1, c .before .loop .inv .2, c .loop-test .left))))
+    (walked-last _ _ _ _ _ _ (c .before .loop .inv .2) _ m (c .loop-test .left), omega (arith, m, c .before .loop .inv .0, c .before .loop .inv .1, c .loop-test .left))))
