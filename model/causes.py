@@ -933,7 +933,7 @@ def indexed_causes(rng):
         full = [mark < book.marks for mark in range(256)]
         yield plain(29), indexed_request(book.stages, full, index, image)
         for stage in range(book.stages):
-            assert model.complete_indexed(image, index, full, stage) == model.complete(image, model.running_order(book, stage), full, stage)
+            assert model.complete_indexed(image, index, full, stage)[:2] == model.complete(image, model.running_order(book, stage), full, stage)
             yield GRANTED, indexed_request(stage, full, index, image)
             yield GRANTED, indexed_request(stage, [mark == stage for mark in range(256)], index, image)
         if book.marks < 256:
@@ -959,8 +959,8 @@ def list_causes(rng):
                            (plain(30, 3), [1, 2, 1, 3, 2]), (plain(29, 0), [4]), (plain(29, 0), [HUGE, 0]), (plain(29, 1), [0, 4]),
                            (plain(29, 1), [1, 64, 3]), (plain(29, 2), [0, 1, 65536, 2]), (plain(29, 2), [0, 0, 256]),
                            (plain(29, 3), [0, 1, 2, 1 << 31]), (plain(29, 1), [2, 70000, 3])):
-        granted, reached = in_turn(image, index, opened, stages)
-        assert model.complete_list(image, index, opened, stages) == (answer, granted, reached) and granted == (answer[1] if answer[0] else len(stages))
+        granted, *reached = in_turn(image, index, opened, stages)
+        assert model.complete_list(image, index, opened, stages) == (answer, granted, *reached) and granted == (answer[1] if answer[0] else len(stages))
         yield answer, list_request(opened, stages, index, image)
     closed = [mark == 3 for mark in range(256)]
     yield plain(30, 0), list_request([False] * 256, [0], index, image)
@@ -1000,6 +1000,50 @@ def list_order_causes(rng):
         full = [mark < book.marks for mark in range(256)]
         yield None, list_request(full, list(range(book.stages)), model.index_image(book), book_image(book))
         yield None, list_request(full, list(range(book.stages)) * 2, model.index_image(book), book_image(book))
+
+
+def evaluated_causes(rng):
+    """How many rules were evaluated: those of the stage's order, whether they fire or not; 0 for a refused completion, and for a list the
+    sum over the granted ones."""
+    def of_stage(book, stage, snapshot, evaluated, answer=GRANTED):
+        image, index = book_image(book), model.index_image(book)
+        assert model.complete_indexed(image, index, snapshot, stage)[2] == evaluated
+        yield answer, indexed_request(stage, snapshot, index, image)
+
+    def of_list(book, snapshot, stages, evaluated, answer=GRANTED):
+        image, index = book_image(book), model.index_image(book)
+        assert model.complete_list(image, index, snapshot, stages)[3] == evaluated
+        yield answer, list_request(snapshot, stages, index, image)
+
+    # stages 0 to 3 have three, none, one and two rules of their own; two rules ask, as written and negated, whether 0 and 1 are open
+    own = [on_completion(stage, SET, 6) for stage in (0, 0, 0, 2, 3, 3)]
+    both = [without_trigger(1, 0, SET, 7), without_trigger(2, 0, CLEAR, 7), Rule(BECOME_NO, 0, SET, 0, 6, 0, 5)]
+    quiet, asking = Book(4, 8, own, [], []), Book(4, 8, own + both, [(0, 3)], [0, 1, AND])
+    for stage, count in enumerate((3, 0, 1, 2)):
+        for marks in ([stage], range(4), range(8)):  # whichever rules fire
+            snapshot = [mark in marks for mark in range(256)]
+            yield from of_stage(quiet, stage, snapshot, count)
+            yield from of_stage(asking, stage, snapshot, count + 3)
+        for answer, marks, asked in ((plain(30), [], stage), (plain(29), range(4), 4 + stage), (plain(28), range(9), stage)):
+            yield from of_stage(asking, asked, [mark in marks for mark in range(256)], 0, answer)
+    opened, three = [mark < 4 for mark in range(256)], [mark < 3 for mark in range(256)]
+    for stages, count in (([], 0), ([1], 0), ([0], 3), ([0, 1, 2, 3], 6), ([3, 3, 0], 7)):
+        yield from of_list(quiet, opened, stages, count)
+        yield from of_list(asking, opened, stages, count + 3 * len(stages))
+        yield from of_list(asking, opened, stages + [4, 0], count + 3 * len(stages), plain(29, len(stages)))
+        if 3 not in stages:  # a closed stage is not counted, nor what stands behind it
+            yield from of_list(asking, three, stages + [3, 0], count + 3 * len(stages), plain(30, len(stages)))
+        yield from of_list(asking, [True] * 256, stages, 0, plain(28))
+    for n in (1, 3):  # a derived book's most: 4n + 1
+        chart = model.empty_chart(n)
+        for e in range(n):
+            rng.choice((chart.includes, chart.excludes))[0].add(e)
+            chart.responses[0].add(e)
+        yield from of_stage(model.derived_book(chart), 0, [mark == 0 for mark in range(256)], 4 * n + 1)
+    many = Book(2, 8, [rng.choice((on_completion(0, SET, 5), without_trigger(0, 0, SET, 4))) for _ in range(100)], [], [])
+    snapshot, bare_rules = [True] * 2 + [False] * 254, sum(rule.trigger == 0 for rule in many.rules)
+    yield from of_list(many, snapshot, [0] * 4096, 409600)
+    yield from of_list(many, snapshot, [0, 1] * 2047 + [2], 2047 * (100 + bare_rules), plain(29, 4094))
 
 
 def running_order_causes(rng):
@@ -1306,13 +1350,18 @@ def largest_indexes(rng):
 
 
 def largest_lists(rng):
-    """256 completions of a derived book of 64 events in one call: no event has an exclude or a milestone, and all are executed."""
+    """256 completions of a derived book of 64 events in one call: no event has an exclude or a milestone, and all are executed. Then nine
+    completions that evaluate 8,384 rules each."""
     chart = random_flat(rng, 64, 0.02)._replace(excludes=[set() for e in range(64)], milestones=[set() for e in range(64)])
     everyone, image = set(range(64)), book_image(model.derived_book(chart))
     snapshot = model.matching(chart, Marking(everyone, set(), everyone))[1]
     stages = [rng.randrange(64) for _ in range(256)]
     yield GRANTED, list_request(snapshot, stages, model.index_of(image), image)
     yield plain(29, 255), list_request(snapshot, stages[1:] + [64], model.index_of(image), image)
+    everything = Book(1, 256, [without_trigger(0, 0, SET, p % 256) for p in range(8384)], [], [])
+    image, index = book_image(everything), model.index_image(everything)
+    assert model.complete_list(image, index, [True] * 256, [0] * 9)[3] == 75456
+    yield GRANTED, list_request([True] * 256, [0] * 9, index, image)
 
 
 def largest_hand_made(rng):
@@ -1424,7 +1473,7 @@ def listing_causes(rng):
 CAUSES = (header_causes, node_causes, group_causes, conflict_causes, accepted_charts, charts_with_roles, unfit_causes, step_causes,
           role_causes, marking_causes, derive_causes, book_header_causes, rule_causes, condition_causes, loop_causes, stage_loop_causes,
           looping_stage_causes, whole_book_causes, clash_causes, order_causes, order_room_causes, pair_causes, index_room_causes,
-          unfit_index_causes, indexed_causes, list_causes, list_order_causes, running_order_causes, firing_causes,
+          unfit_index_causes, indexed_causes, list_causes, list_order_causes, evaluated_causes, running_order_causes, firing_causes,
           bad_requests, request_limits, listing_causes, replay_causes, strike_causes, unfit_record_causes)
 LARGEST = (largest_charts, largest_derivings, largest_derived_book, largest_indexes, largest_lists, largest_hand_made,
            completions_with_conditions, wide_conditions, record_limits)

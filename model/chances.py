@@ -517,7 +517,8 @@ def indexes(rng):
             yield indexed_request(stage, snapshot, disturbed_index(rng, book, index), image)
             if stage < book.stages and not any(snapshot[book.marks:]):
                 along = model.complete(image, model.running_order(book, stage), snapshot, stage)
-                assert model.complete_indexed(image, index, snapshot, stage) == along
+                evaluated = len(model.counted(book, stage)) if along[0] == model.GRANTED else 0
+                assert model.complete_indexed(image, index, snapshot, stage) == (*along, evaluated)
 
 
 def a_list(rng, image, index, snapshot, length):
@@ -534,12 +535,15 @@ def a_list(rng, image, index, snapshot, length):
 
 
 def in_turn(image, index, snapshot, stages):
-    """One call through the index after another, stopping at the first that is refused: how many were granted, and the snapshot there."""
+    """One call through the index after another, stopping at the first that is refused: how many were granted, the snapshot there, and the
+    rules that they evaluated together."""
+    together = 0
     for granted, stage in enumerate(stages):
-        answer, snapshot = model.complete_indexed(image, index, snapshot, stage)
+        answer, snapshot, evaluated = model.complete_indexed(image, index, snapshot, stage)
         if answer != model.GRANTED:
-            return granted, snapshot
-    return len(stages), snapshot
+            return granted, snapshot, together
+        together += evaluated
+    return len(stages), snapshot, together
 
 
 def lists(rng):
@@ -549,8 +553,7 @@ def lists(rng):
     for _ in range(2):
         snapshot = random_snapshot(rng, book.marks)
         stages = a_list(rng, image, index, snapshot, rng.choice((0, 1, 2, 3, 5, 8, 13)))
-        answer, granted, reached = model.complete_list(image, index, snapshot, stages)
-        assert (granted, reached) == in_turn(image, index, snapshot, stages)
+        assert model.complete_list(image, index, snapshot, stages)[1:] == in_turn(image, index, snapshot, stages)
         yield list_request(snapshot, stages, index, image)
     yield list_request(snapshot, stages, disturbed_index(rng, book, index), image)
     yield list_request(random_snapshot(rng, rng.choice((book.marks, 256))), stages, index, image)
@@ -605,7 +608,10 @@ def run_of_both(rng, chart, marking, steps_to_go):
         assert snapshot == model.matching(chart, marking)[1]
         taken.append(event)
         if rng.random() < 0.4:
-            yield indexed_request(event, model.matching(chart, before)[1], model.index_of(book), book)
+            begun = model.matching(chart, before)[1]
+            evaluated = model.complete_indexed(book, model.index_of(book), begun, event)[2]
+            assert evaluated <= 4 * chart.count + 1 and (evaluated == 0) == (completed != model.GRANTED)
+            yield indexed_request(event, begun, model.index_of(book), book)
         if rng.random() < 0.2:
             yield rng.choice((count_request, finished_request, matching_request))(chart, marking)
     yield list_request(first, taken, model.index_of(book), book)  # the whole run as one list, which stops at the first refused step

@@ -607,12 +607,14 @@ def fires(book, rule, stage, at_start, now):
 
 
 def gone_through(book, order, snapshot, stage):
-    now = list(snapshot)
+    """The snapshot at the end, and the rules evaluated: one for each rule in the order, fired or not."""
+    now, evaluated = list(snapshot), 0
     for p in order:
         rule = book.rules[p]
+        evaluated += 1
         if fires(book, rule, stage, snapshot, now):
             now[rule.target] = rule.effect == SET
-    return now
+    return now, evaluated
 
 
 def complete(image, order, snapshot, stage):
@@ -625,7 +627,7 @@ def complete(image, order, snapshot, stage):
         refuse_if(30, not snapshot[stage])
     except Refused as refused:
         return refused.answer, snapshot
-    return GRANTED, gone_through(book, order, snapshot, stage)
+    return GRANTED, gone_through(book, order, snapshot, stage)[0]
 
 
 # ---- An index of orders beside the book
@@ -659,7 +661,8 @@ def build_index(image, room):
 
 
 def complete_indexed(image, index, snapshot, stage):
-    """The answer and the snapshot after the call. An index is fit exactly if it is what the builder writes for this book."""
+    """The answer, the snapshot after the call, and the rules evaluated, of which a refused completion reports 0. An index is fit exactly
+    if it is what the builder writes for this book."""
     try:
         book = judged_book(image)
         refuse_if(34, index != index_of(image))
@@ -667,15 +670,15 @@ def complete_indexed(image, index, snapshot, stage):
         refuse_if(29, stage >= book.stages)
         refuse_if(30, not snapshot[stage])
     except Refused as refused:
-        return refused.answer, snapshot
-    return GRANTED, gone_through(book, running_order(book, stage), snapshot, stage)
+        return refused.answer, snapshot, 0
+    return GRANTED, *gone_through(book, running_order(book, stage), snapshot, stage)
 
 
 # ---- A list of completions in one call
 
 def complete_list(image, index, snapshot, stages):
-    """The answer, how many were granted, and the snapshot reached: one completion after another, stopping at the first that is refused,
-    which is named by its place in the list."""
+    """The answer, how many were granted, the snapshot reached, and the rules evaluated by the granted ones: one completion after another,
+    stopping at the first that is refused, which is named by its place in the list."""
     try:
         book = judged_book(image)
         refuse_if(34, index != index_of(image))
@@ -683,15 +686,17 @@ def complete_list(image, index, snapshot, stages):
         if len(stages) > 4096:
             raise Refused(38, len(stages))
     except Refused as refused:
-        return refused.answer, 0, snapshot
+        return refused.answer, 0, snapshot, 0
+    evaluated = 0
     orders = {stage: running_order(book, stage) for stage in set(stages) if stage < book.stages}
     for place, stage in enumerate(stages):
         if stage >= book.stages:
-            return (29, place, 0), place, snapshot
+            return (29, place, 0), place, snapshot, evaluated
         if not snapshot[stage]:
-            return (30, place, 0), place, snapshot
-        snapshot = gone_through(book, orders[stage], snapshot, stage)
-    return GRANTED, len(stages), snapshot
+            return (30, place, 0), place, snapshot, evaluated
+        snapshot, walk = gone_through(book, orders[stage], snapshot, stage)
+        evaluated += walk
+    return GRANTED, len(stages), snapshot, evaluated
 
 
 # ---- The program "book listing"
@@ -842,9 +847,9 @@ def index_examples():
     index = b''.join(bytes32(number) for number in numbers) + b''.join(bytes16(p) for p in (0, 1, 2, 6, 7, 8, 9, 3, 4, 5, 6, 7, 8, 9))
     assert build_index(image, bytes(60)) == (GRANTED, index + bytes(8)) and build_index(image, bytes(51)) == ((35, 52, 0), bytes(51))
     for stage, order in ((0, [0, 1, 2, 6, 7, 8, 9]), (1, [3, 4, 5, 6, 7, 8, 9])):
-        assert complete_indexed(image, index, snapshot, stage) == complete(image, order, snapshot, stage)
+        assert complete_indexed(image, index, snapshot, stage)[:2] == complete(image, order, snapshot, stage)
     for wrong in (index[:-1], index + b'\0', index[:-1] + b'\x01', b'\x03' + index[1:], b''):
-        assert complete_indexed(image, wrong, snapshot, 0) == ((34, 0, 0), snapshot)
+        assert complete_indexed(image, wrong, snapshot, 0) == ((34, 0, 0), snapshot, 0)
     everything = [True] * 256
     assert complete_indexed(image, index[1:], everything, 9)[0] == (34, 0, 0)
     assert complete_indexed(image, index, everything, 9)[0] == (28, 0, 0) and complete_indexed(image, index, snapshot, 9)[0] == (29, 0, 0)
@@ -862,17 +867,36 @@ def list_examples():
     for stages, answer, granted, ends in (([], GRANTED, 0, 113), ([0], GRANTED, 1, 119), ([0, 1], GRANTED, 2, 238), ([0, 1, 0, 1], (30, 2, 0), 2, 238),
                                           ([1, 0], (30, 0, 0), 0, 113), ([0, 2, 1], (29, 1, 0), 1, 119)):
         given = complete_list(image, index, snapshot, stages)
-        assert given[:2] == (answer, granted) and worth(given[2]) == ends
+        assert given[:2] == (answer, granted) and worth(given[2]) == ends and given[3] == 7 * granted
     assert complete_list(image, index[1:], [True] * 256, [9] * 5000)[:2] == ((34, 0, 0), 0)
     assert complete_list(image, index, [True] * 256, [9] * 5000)[:2] == ((28, 0, 0), 0)
-    assert complete_list(image, index, snapshot, [9] * 4097) == ((38, 4097, 0), 0, snapshot)
-    assert complete_list(image, index, snapshot, [9] * 4096) == ((29, 0, 0), 0, snapshot)
+    assert complete_list(image, index, snapshot, [9] * 4097) == ((38, 4097, 0), 0, snapshot, 0)
+    assert complete_list(image, index, snapshot, [9] * 4096) == ((29, 0, 0), 0, snapshot, 0)
     # mark 1 is cleared by stage 0 and set by stage 2; mark 3 is set where mark 1 became yes, and cleared where it became no
     turns = Book(3, 4, [on_completion(0, CLEAR, 1), on_completion(2, SET, 1), Rule(BECOME_YES, AS_WRITTEN, SET, 0, 1, 0, 3),
                         Rule(BECOME_NO, NEGATED, CLEAR, 0, 1, 0, 3)], [(0, 1)], [1])
     image, snapshot = book_image(turns), [True, True, True] + [False] * 253
     for stages, ends in (([0], 5), ([2], 7), ([0, 2], 15), ([0, 2, 2], 15), ([0, 2, 0], 5), ([0, 2, 0, 2, 0], 5)):
         assert worth(complete_list(image, index_of(image), snapshot, stages)[2]) == ends
+
+
+def evaluated_examples():
+    """Of a derived book of n events at most 4n + 1 rules are evaluated, and that many where an event includes or excludes all and has all
+    as responses. Rules that do not fire count; those of other stages do not."""
+    for n in (1, 2, 5):
+        chart = empty_chart(n)
+        chart.includes[0] |= set(range(n))
+        chart.responses[0] |= set(range(n))
+        image = book_image(derived_book(chart))
+        for e in range(n):
+            snapshot = [mark == e for mark in range(256)]
+            assert complete_indexed(image, index_of(image), snapshot, e)[2] == (4 * n + 1 if e == 0 else 2 * n + 2)
+            assert complete_indexed(image, index_of(image), [False] * 256, e) == ((30, 0, 0), [False] * 256, 0)
+    rules = [on_completion(0, SET, 2), Rule(BECOME_YES, NO_CONDITION, SET, 0, 1, 0, 3), on_completion(1, SET, 2), without_trigger(NO_CONDITION, 0, SET, 1)]
+    image, opened = book_image(Book(2, 4, rules, [], [])), [True, True] + [False] * 254
+    assert [complete_indexed(image, index_of(image), opened, stage)[2] for stage in (0, 1, 2)] == [3, 3, 0]
+    for stages, evaluated in (([], 0), ([0], 3), ([0, 1, 0], 9), ([0, 2, 1], 3), ([2], 0)):
+        assert complete_list(image, index_of(image), opened, stages)[3] == evaluated
 
 
 def replay_examples():
@@ -914,7 +938,7 @@ def orders_agree():
             assert order == running_order_as_said(book, stage)
             # going through all rules, as before the request, ends alike: those left out for a stage do not fire when it is completed
             snapshot, by_rank = [rng.random() < 0.5 for mark in range(256)], sorted(range(len(rules)), key=lambda p: rank[rules[p].target])
-            assert gone_through(book, order, snapshot, stage) == gone_through(book, by_rank, snapshot, stage)
+            assert gone_through(book, order, snapshot, stage)[0] == gone_through(book, by_rank, snapshot, stage)[0]
 
 
 if __name__ == '__main__':
@@ -927,6 +951,7 @@ if __name__ == '__main__':
         stage_examples()
         index_examples()
         list_examples()
+        evaluated_examples()
         replay_examples()
         orders_agree()
         print('the settled examples hold')

@@ -233,8 +233,8 @@ def indexed_line(body):
     stage, snapshot, length = model.number32(body, 1), snapshot_at(body, 5), model.number32(body, 37)
     if len(body) < 41 + length:
         return BAD
-    answer, after = model.complete_indexed(body[41 + length:], body[41:41 + length], snapshot, stage)
-    return line('indexed', answer, snapshot_words(after))
+    answer, after, evaluated = model.complete_indexed(body[41 + length:], body[41:41 + length], snapshot, stage)
+    return line('indexed', answer, snapshot_words(after) + [evaluated])
 
 
 def list_line(body):
@@ -243,8 +243,8 @@ def list_line(body):
     if count > MAX_ROOM_NUMBERS or len(body) < at or len(body) - at < model.number32(body, at - 4):
         return BAD
     stages, end = [model.number32(body, i) for i in range(37, at - 4, 4)], at + model.number32(body, at - 4)
-    answer, granted, after = model.complete_list(body[end:], body[at:end], snapshot, stages)
-    return line('list', answer, [granted] + snapshot_words(after))
+    answer, granted, after, evaluated = model.complete_list(body[end:], body[at:end], snapshot, stages)
+    return line('list', answer, [granted] + snapshot_words(after) + [evaluated])
 
 
 def record_at(body, at):
