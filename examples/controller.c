@@ -9,9 +9,9 @@
 // in one call, one after another up to the first that is refused.
 // A line `strike 2` takes back the step at that position of the steps so far, from 0, if the others are allowed without it; `replay` goes
 // through them again from the start, as one does with a record that was kept, and says whether that ends where the controller stands.
-// At the start it prints the open stages, and `finished` where no included event is pending. Each step gets one line: the same after it, or
-// the refusal, which leaves everything as it was and does not count as a failure. A list gets the refusal, if there is one, with the position
-// as place, and the open stages in any case, since what was granted before it stands. A line that is no step is said on standard error and
+// At the start it prints the open stages, and `finished` where no included event is pending. Each step gets one line: the same after it with
+// the number of rules that its completion evaluated, or the refusal, which leaves everything as it was and does not count as a failure. A list
+// gets the refusal, if there is one, with the position as place, and the open stages in any case, since what was granted before it stands. A line that is no step is said on standard error and
 // passed over, an empty one in silence; one of over 1,024 characters, which may be no text at all, ends the run.
 // Exit status: 0; 1 if the chart is refused or a line was no step; 2 usage, or no such chart; 3 if input or output failed.
 #include "ozhimka.h"
@@ -83,7 +83,7 @@ static bool names_roles(void)
 }
 
 // Marks e, n + e, 2n + e and 3n + e of a derived book of n stages: e is open, executed, included, answered.
-static void print_open(void)
+static void say_open(void)
 {
     uint32_t stages = counts.stages;
     bool none = true, finished = true;
@@ -96,7 +96,20 @@ static void print_open(void)
         if (now.marks[2 * stages + e] && !now.marks[3 * stages + e])
             finished = false;
     }
-    printf("%s%s\n", none ? " none" : "", finished ? ", finished" : "");
+    printf("%s%s", none ? " none" : "", finished ? ", finished" : "");
+}
+
+static void print_open(void)
+{
+    say_open();
+    printf("\n");
+}
+
+// After a completion, or a list of them: the open stages, and how many rules were evaluated.
+static void print_completed(uint32_t evaluated)
+{
+    say_open();
+    printf("; %" PRIu32 " rules evaluated\n", evaluated);
 }
 
 enum { LONGEST = 1024, SHOWN = 64 }; // characters of a line, and of one that is no step
@@ -245,13 +258,13 @@ static void take(uint32_t event, uint32_t role)
         return;
     }
     snprintf(call, sizeof call, "complete %" PRIu32, event);
-    struct ozhimka_settled next = ozhimka_complete_indexed(book, book_length, index_image, index_length, now, event);
+    struct ozhimka_indexed_completion next = ozhimka_complete_indexed(book, book_length, index_image, index_length, now, event);
     marking = step.marking; // this and the snapshot as they were where the step is refused, which chart and book do alike
     now = next.snapshot;
     if (!granted(stdout, call, next.answer))
         return;
     keep(event, role);
-    print_open();
+    print_completed(next.evaluated);
 }
 
 static void strike(uint32_t position)
@@ -306,7 +319,7 @@ static void take_list(const struct list *list)
         snprintf(call, sizeof call, "execute %" PRIu32 " by %" PRIu32, list->events[stepped - 1], list->role);
         granted(stdout, call, step.answer);
     }
-    print_open();
+    print_completed(next.evaluated);
 }
 
 static void take_command(enum command command, const uint32_t numbers[2], int count)

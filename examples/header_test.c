@@ -1,5 +1,5 @@
 // Tries on the library what the header says of null pointers, of a book's length, of roles, of a chart's tables, of stages, of the index, of
-// lists, of records, of the words for each code, and of the stack.
+// lists, of the rules evaluated, of records, of the words for each code, and of the stack.
 // Prints what does not hold; exit status 0 if nothing, else 1. Wants POSIX contexts, to run a call on a stack that was painted before.
 #define _XOPEN_SOURCE 700
 #include "ozhimka.h"
@@ -76,7 +76,7 @@ static void check(void) { settled.answer = ozhimka_check(book, book_length, 0, o
 static void complete(void) { settled = ozhimka_complete(book, book_length, order, ordered, open, 0); }
 static void build_index(void) { settled.answer = ozhimka_build_index(book, book_length, index_image, sizeof index_image); }
 static void complete_list(void) { settled.answer = ozhimka_complete_list(book, book_length, index_image, index_length, open, stages, 1).answer; }
-static void complete_indexed(void) { settled = ozhimka_complete_indexed(book, book_length, index_image, index_length, open, 0); }
+static void complete_indexed(void) { settled.answer = ozhimka_complete_indexed(book, book_length, index_image, index_length, open, 0).answer; }
 
 static ucontext_t here, there;
 
@@ -154,6 +154,7 @@ static void try_null(void)
     expect(is(ozhimka_complete_indexed(book, book_length, NULL, 0, open, 0).answer, OZHIMKA_INDEX_UNFIT, 0), "no index");
     expect(is(ozhimka_complete_list(NULL, 0, NULL, 0, open, NULL, 0).answer, OZHIMKA_BOOK_SHORT, 0), "no book to complete a list of");
     expect(is(ozhimka_complete_list(book, book_length, NULL, 0, open, stages, 4).answer, OZHIMKA_INDEX_UNFIT, 0), "a list, no index");
+    expect(ozhimka_complete_indexed(book, book_length, index_image, index_length, open, 0).evaluated == ordered, "every rule, fired or not");
 }
 
 // What the header says of the roles in ozhimka_chart and of the order of ozhimka_execute's refusals.
@@ -280,17 +281,22 @@ static void try_list(const uint8_t *three, size_t length, const uint8_t *lent, s
     const uint32_t closed[3] = {0, 1, 0};
     struct ozhimka_list_completion all = ozhimka_complete_list(three, length, lent, 36, open, stages, 2);
     expect(is(all.answer, OZHIMKA_GRANTED, 0) && all.granted == 2 && memcmp(&all.snapshot, &once, sizeof open) == 0, "a list, whole");
+    expect(all.evaluated == 2, "the rules of both completions");
     all = ozhimka_complete_list(three, length, lent, 36, open, stages, 4);
     expect(is(all.answer, OZHIMKA_NO_SUCH_STAGE, 2) && all.granted == 2 && memcmp(&all.snapshot, &once, sizeof open) == 0,
            "a stage that the book has not, and the snapshot reached");
+    expect(all.evaluated == 2, "the rules of the granted ones");
     all = ozhimka_complete_list(three, length, lent, 36, open, closed, 3);
     expect(is(all.answer, OZHIMKA_STAGE_CLOSED, 1) && all.granted == 1 && memcmp(&all.snapshot, &once, sizeof open) == 0,
            "a closed stage, and the snapshot reached");
+    expect(all.evaluated == 1, "the refused one evaluates nothing");
     all = ozhimka_complete_list(three, length, lent, 36, open, NULL, 0);
     expect(is(all.answer, OZHIMKA_GRANTED, 0) && all.granted == 0 && memcmp(&all.snapshot, &open, sizeof open) == 0, "an empty list");
-    expect(is(ozhimka_complete_list(three, length, lent, 36, open, many, OZHIMKA_MAX_LIST).answer, OZHIMKA_GRANTED, 0), "the longest list");
+    expect(all.evaluated == 0, "an empty list evaluates nothing");
+    all = ozhimka_complete_list(three, length, lent, 36, open, many, OZHIMKA_MAX_LIST);
+    expect(is(all.answer, OZHIMKA_GRANTED, 0) && all.evaluated == OZHIMKA_MAX_LIST, "the longest list");
     all = ozhimka_complete_list(three, length, lent, 36, open, many, OZHIMKA_MAX_LIST + 1);
-    expect(is(all.answer, OZHIMKA_LONG_LIST, OZHIMKA_MAX_LIST + 1) && all.granted == 0, "a list that is too long");
+    expect(is(all.answer, OZHIMKA_LONG_LIST, OZHIMKA_MAX_LIST + 1) && all.granted == 0 && all.evaluated == 0, "a list that is too long");
     all = ozhimka_complete_list(three, length, lent, 36, above, many, OZHIMKA_MAX_LIST + 1);
     expect(is(all.answer, OZHIMKA_MARK_ABOVE, 0) && memcmp(&all.snapshot, &above, sizeof open) == 0, "a mark above, before 38");
     expect(is(ozhimka_complete_list(three, length, lent, 35, above, stages, 4).answer, OZHIMKA_INDEX_UNFIT, 0), "a byte less, before 28");
@@ -319,11 +325,13 @@ static void try_index(void)
     expect(is(ozhimka_complete_indexed(three, sizeof three, lent, 37, above, 9).answer, OZHIMKA_INDEX_UNFIT, 0), "a byte more, before 28");
     expect(is(ozhimka_complete_indexed(three, sizeof three, lent, 36, above, 9).answer, OZHIMKA_MARK_ABOVE, 0), "a mark above, before 29");
     expect(is(ozhimka_complete_indexed(three, sizeof three, lent, 36, open, 3).answer, OZHIMKA_NO_SUCH_STAGE, 0), "no such stage");
-    expect(is(ozhimka_complete_indexed(three, sizeof three, lent, 36, open, 1).answer, OZHIMKA_STAGE_CLOSED, 0), "a closed stage");
+    struct ozhimka_indexed_completion next = ozhimka_complete_indexed(three, sizeof three, lent, 36, open, 1);
+    expect(is(next.answer, OZHIMKA_STAGE_CLOSED, 0) && next.evaluated == 0, "a closed stage, and no rule evaluated");
     expect(is(ozhimka_check(three, sizeof three, 0, lone, 1), OZHIMKA_GRANTED, 0), "the check's order");
     struct ozhimka_settled along = ozhimka_complete(three, sizeof three, lone, 1, open, 0);
-    struct ozhimka_settled next = ozhimka_complete_indexed(three, sizeof three, lent, 36, open, 0);
+    next = ozhimka_complete_indexed(three, sizeof three, lent, 36, open, 0);
     expect(is(next.answer, OZHIMKA_GRANTED, 0) && memcmp(&next.snapshot, &along.snapshot, sizeof open) == 0, "the same snapshot");
+    expect(next.evaluated == 1, "the rules of the stage's order, not of the book");
     try_list(three, sizeof three, lent, above, next.snapshot);
     lent[34] = 1; // the order of the last stage, which is not the one completed
     expect(is(ozhimka_complete_indexed(three, sizeof three, lent, 36, open, 0).answer, OZHIMKA_INDEX_UNFIT, 0), "another stage's order");

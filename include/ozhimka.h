@@ -79,9 +79,9 @@
 #include <stdint.h>
 
 // The header's version. A new major number changes what a program written for the one before relies on; a new minor number adds to it.
-#define OZHIMKA_VERSION_MAJOR 3
-#define OZHIMKA_VERSION_MINOR 3
-#define OZHIMKA_VERSION "3.3"
+#define OZHIMKA_VERSION_MAJOR 4
+#define OZHIMKA_VERSION_MINOR 0
+#define OZHIMKA_VERSION "4.0"
 
 #ifdef __cplusplus
 extern "C" {
@@ -268,11 +268,20 @@ struct ozhimka_settled {
     struct ozhimka_snapshot snapshot;
 };
 
-// What a list of completions gives: how many of it were granted, and the snapshot after these.
+// What a completion through the index gives: the snapshot after it, and how many rules were evaluated, which is one for each rule in the
+// stage's order, fired or not, and 0 where the completion is refused. Of a derived book of n events it is at most 4 n + 1.
+struct ozhimka_indexed_completion {
+    struct ozhimka_answer answer;
+    struct ozhimka_snapshot snapshot;
+    uint32_t evaluated;
+};
+
+// What a list of completions gives: how many of it were granted, the snapshot after these, and how many rules these evaluated together.
 struct ozhimka_list_completion {
     struct ozhimka_answer answer;
     uint32_t granted;
     struct ozhimka_snapshot snapshot;
+    uint32_t evaluated;
 };
 
 // A step that a purchase's record says was taken: the event, and the role that executed it.
@@ -300,9 +309,9 @@ typedef char ozhimka_sizes[sizeof(size_t) == 8 && sizeof(struct ozhimka_answer) 
                                    && sizeof(struct ozhimka_marking) == 24 && sizeof(struct ozhimka_snapshot) == 256
                                    && sizeof(struct ozhimka_reading) == 2672 && sizeof(struct ozhimka_step) == 40
                                    && sizeof(struct ozhimka_open_count) == 20 && sizeof(struct ozhimka_finish) == 16
-                                   && sizeof(struct ozhimka_settled) == 268 && sizeof(struct ozhimka_list_completion) == 272
-                                   && sizeof(struct ozhimka_recorded) == 8 && sizeof(struct ozhimka_replayed) == 56
-                                   && sizeof(struct ozhimka_struck) == 40
+                                   && sizeof(struct ozhimka_settled) == 268 && sizeof(struct ozhimka_indexed_completion) == 272
+                                   && sizeof(struct ozhimka_list_completion) == 276 && sizeof(struct ozhimka_recorded) == 8
+                                   && sizeof(struct ozhimka_replayed) == 56 && sizeof(struct ozhimka_struck) == 40
                                ? 1
                                : -1];
 
@@ -434,18 +443,20 @@ struct ozhimka_answer ozhimka_build_index(const uint8_t *book, size_t length, ui
 
 // The snapshot after a stage is completed along the order that the index has for it: for a stage that the book has, the same answer and
 // snapshot as ozhimka_complete gives with the order from ozhimka_check. `bytes` is the index's length, no more. Book and index are checked
-// anew in every call, the orders of all stages, whichever is completed.
+// anew in every call, the orders of all stages, whichever is completed. `evaluated` is how many rules the stage's order has, whether they
+// fired or not; what the check reads is not counted.
 // Refuses with the first that holds of 20 to 26, 34 (unfit index), 28 (a mark above), 29 (no such stage), 30 (stage closed), and then hands
-// the snapshot back.
-struct ozhimka_settled ozhimka_complete_indexed(const uint8_t *book, size_t length, const uint8_t *index, size_t bytes,
-                                                struct ozhimka_snapshot snapshot, uint32_t stage);
+// the snapshot back, with 0 evaluated.
+struct ozhimka_indexed_completion ozhimka_complete_indexed(const uint8_t *book, size_t length, const uint8_t *index, size_t bytes,
+                                                           struct ozhimka_snapshot snapshot, uint32_t stage);
 
-// Completes `count` stages through the index, one after another, and stops at the first that is refused: the snapshot and the number
-// granted are those of as many calls of ozhimka_complete_indexed, each with the snapshot of the one before. Book and index are checked once.
-// An empty list is granted and changes nothing.
+// Completes `count` stages through the index, one after another, and stops at the first that is refused: the snapshot, the number granted
+// and the sum of the rules evaluated are those of as many calls of ozhimka_complete_indexed, each with the snapshot of the one before. Book
+// and index are checked once. An empty list is granted, changes nothing and evaluates no rule.
 // Refuses with the first that holds of 20 to 26, 34 (unfit index), 28 (a mark above), 38 (over OZHIMKA_MAX_LIST stages, place: how many); then
-// none was granted and the snapshot is handed back as it was. Within the list it refuses with 29 (no such stage) or 30 (stage closed), with
-// the refused stage's position in the list, from 0, as place, which is also the number granted; and hands back the snapshot reached.
+// none was granted, no rule evaluated, and the snapshot is handed back as it was. Within the list it refuses with 29 (no such stage) or 30
+// (stage closed), with the refused stage's position in the list, from 0, as place, which is also the number granted; and hands back the
+// snapshot reached, with the rules that the granted ones evaluated.
 struct ozhimka_list_completion ozhimka_complete_list(const uint8_t *book, size_t length, const uint8_t *index, size_t bytes,
                                                      struct ozhimka_snapshot snapshot, const uint32_t *stages, size_t count);
 
