@@ -39,6 +39,7 @@ _Static_assert(sizeof own_chart == sizeof chart && sizeof own_marking == sizeof 
                    && sizeof(struct ozhimka_open_count) == sizeof(struct open_count)
                    && sizeof(struct ozhimka_finish) == sizeof(struct finish)
                    && sizeof(struct ozhimka_settled) == sizeof(struct settled)
+                   && sizeof(struct ozhimka_indexed_completion) == sizeof(struct indexed)
                    && sizeof(struct ozhimka_list_completion) == sizeof(struct listed) && sizeof own_record == sizeof record
                    && sizeof(struct ozhimka_replayed) == sizeof(struct replayed) && sizeof(struct ozhimka_struck) == sizeof(struct step),
                "both sides pass as many bytes");
@@ -65,6 +66,7 @@ static union {
     struct open_count open_count;
     struct finish finish;
     struct settled settled;
+    struct indexed indexed;
     struct listed listed;
     struct replayed replayed;
 } plain_out;
@@ -76,6 +78,7 @@ static union {
     struct ozhimka_open_count open_count;
     struct ozhimka_finish finish;
     struct ozhimka_settled settled;
+    struct ozhimka_indexed_completion indexed;
     struct ozhimka_list_completion listed;
     struct ozhimka_replayed replayed;
     struct ozhimka_struck struck;
@@ -102,9 +105,9 @@ static void own_8(void) { own_out.settled = ozhimka_complete(book, book_length, 
 static void plain_9(void) { plain_out.answer = plain_build_index(book, book_length, room, sizeof room); }
 static void lean_9(void) { plain_out.answer = lean_build_index(book, book_length, room, sizeof room); }
 static void own_9(void) { own_out.answer = ozhimka_build_index(book, book_length, room, sizeof room); }
-static void plain_10(void) { plain_out.settled = plain_complete_indexed(book, book_length, index_image, index_length, snapshot, event); }
-static void lean_10(void) { plain_out.settled = lean_complete_indexed(book, book_length, index_image, index_length, snapshot, event); }
-static void own_10(void) { own_out.settled = ozhimka_complete_indexed(book, book_length, index_image, index_length, own_snapshot, event); }
+static void plain_10(void) { plain_out.indexed = plain_complete_indexed(book, book_length, index_image, index_length, snapshot, event); }
+static void lean_10(void) { plain_out.indexed = lean_complete_indexed(book, book_length, index_image, index_length, snapshot, event); }
+static void own_10(void) { own_out.indexed = ozhimka_complete_indexed(book, book_length, index_image, index_length, own_snapshot, event); }
 static void plain_11(void) { plain_out.listed = plain_complete_list(book, book_length, index_image, index_length, snapshot, stages, LIST); }
 static void lean_11(void) { plain_out.listed = lean_complete_list(book, book_length, index_image, index_length, snapshot, stages, LIST); }
 static void own_11(void) { own_out.listed = ozhimka_complete_list(book, book_length, index_image, index_length, own_snapshot, stages, LIST); }
@@ -112,29 +115,29 @@ static void own_11(void) { own_out.listed = ozhimka_complete_list(book, book_len
 // The same list, one call through the index after another; the result is put where that of the list stands.
 static void plain_12(void)
 {
-    struct settled next = {.snapshot = snapshot};
-    uint32_t granted = 0;
-    for (; granted < LIST && next.answer.code == 0; granted++)
+    struct indexed next = {.snapshot = snapshot};
+    uint32_t granted = 0, evaluated = 0;
+    for (; granted < LIST && next.answer.code == 0; granted++, evaluated += next.evaluated)
         next = plain_complete_indexed(book, book_length, index_image, index_length, next.snapshot, stages[granted]);
-    plain_out.listed = (struct listed){next.answer, granted, next.snapshot};
+    plain_out.listed = (struct listed){next.answer, granted, next.snapshot, evaluated};
 }
 
 static void lean_12(void)
 {
-    struct settled next = {.snapshot = snapshot};
-    uint32_t granted = 0;
-    for (; granted < LIST && next.answer.code == 0; granted++)
+    struct indexed next = {.snapshot = snapshot};
+    uint32_t granted = 0, evaluated = 0;
+    for (; granted < LIST && next.answer.code == 0; granted++, evaluated += next.evaluated)
         next = lean_complete_indexed(book, book_length, index_image, index_length, next.snapshot, stages[granted]);
-    plain_out.listed = (struct listed){next.answer, granted, next.snapshot};
+    plain_out.listed = (struct listed){next.answer, granted, next.snapshot, evaluated};
 }
 
 static void own_12(void)
 {
-    struct ozhimka_settled next = {.snapshot = own_snapshot};
-    uint32_t granted = 0;
-    for (; granted < LIST && next.answer.code == 0; granted++)
+    struct ozhimka_indexed_completion next = {.snapshot = own_snapshot};
+    uint32_t granted = 0, evaluated = 0;
+    for (; granted < LIST && next.answer.code == 0; granted++, evaluated += next.evaluated)
         next = ozhimka_complete_indexed(book, book_length, index_image, index_length, next.snapshot, stages[granted]);
-    own_out.listed = (struct ozhimka_list_completion){next.answer, granted, next.snapshot};
+    own_out.listed = (struct ozhimka_list_completion){next.answer, granted, next.snapshot, evaluated};
 }
 
 static void plain_13(void) { plain_out.replayed = plain_replay(&chart, marking, record, steps); }
@@ -198,9 +201,15 @@ static bool same_snapshot(void)
     return memcmp(plain_out.settled.snapshot.marks, own_out.settled.snapshot.marks, sizeof snapshot.marks) == 0;
 }
 
+static bool same_indexed(void)
+{
+    return plain_out.indexed.evaluated == own_out.indexed.evaluated
+           && memcmp(plain_out.indexed.snapshot.marks, own_out.indexed.snapshot.marks, sizeof snapshot.marks) == 0;
+}
+
 static bool same_list(void)
 {
-    return plain_out.listed.granted == LIST && own_out.listed.granted == LIST
+    return plain_out.listed.granted == LIST && own_out.listed.granted == LIST && plain_out.listed.evaluated == own_out.listed.evaluated
            && memcmp(plain_out.listed.snapshot.marks, own_out.listed.snapshot.marks, sizeof snapshot.marks) == 0;
 }
 
@@ -230,7 +239,7 @@ static const struct call calls[] = {
     {"check", plain_7, lean_7, own_7, same_answer},
     {"complete", plain_8, lean_8, own_8, same_snapshot},
     {"build_index", plain_9, lean_9, own_9, same_answer},
-    {"complete_indexed", plain_10, lean_10, own_10, same_snapshot},
+    {"complete_indexed", plain_10, lean_10, own_10, same_indexed},
 };
 
 enum { CALLS = sizeof calls / sizeof calls[0], CHECK = 6, LAST = CALLS - 1 };

@@ -497,13 +497,15 @@ static struct answer judge_indexed(const uint8_t *image, size_t length, const ui
     return any_above(&found->book, snapshot) ? refused(28, 0, 0) : granted;
 }
 
-// Completes an open stage of a book with its index.
-static void go_through(const struct book *book, const uint8_t *index, uint32_t stage, struct snapshot *snapshot)
+// Completes an open stage of a book with its index; gives how many rules were evaluated.
+static uint32_t go_through(const struct book *book, const uint8_t *index, uint32_t stage, struct snapshot *snapshot)
 {
     const struct snapshot start = *snapshot;
     const uint8_t *at = index + get32(index + 8 + 8 * stage), *end = at + 2 * get32(index + 12 + 8 * stage);
-    for (; at < end; at += 2)
+    uint32_t evaluated = 0;
+    for (; at < end; at += 2, evaluated++)
         apply(book, rule_of(book, get16(at)), start.marks, snapshot->marks);
+    return evaluated;
 }
 
 // Refusals 29 and 30.
@@ -514,17 +516,17 @@ static struct answer open_stage(const struct book *book, const struct snapshot *
     return snapshot->marks[stage] ? granted : refused(30, place, 0);
 }
 
-struct settled lean_complete_indexed(const uint8_t *image, size_t length, const uint8_t *index, size_t bytes, struct snapshot snapshot,
+struct indexed lean_complete_indexed(const uint8_t *image, size_t length, const uint8_t *index, size_t bytes, struct snapshot snapshot,
                                      uint32_t stage)
 {
-    struct settled settled = {.snapshot = snapshot};
+    struct indexed indexed = {.snapshot = snapshot};
     struct found found;
-    settled.answer = judge_indexed(image, length, index, bytes, &snapshot, &found);
-    if (settled.answer.code == 0)
-        settled.answer = open_stage(&found.book, &snapshot, stage, 0);
-    if (settled.answer.code == 0)
-        go_through(&found.book, index, stage, &settled.snapshot);
-    return settled;
+    indexed.answer = judge_indexed(image, length, index, bytes, &snapshot, &found);
+    if (indexed.answer.code == 0)
+        indexed.answer = open_stage(&found.book, &snapshot, stage, 0);
+    if (indexed.answer.code == 0)
+        indexed.evaluated = go_through(&found.book, index, stage, &indexed.snapshot);
+    return indexed;
 }
 
 struct listed lean_complete_list(const uint8_t *image, size_t length, const uint8_t *index, size_t bytes, struct snapshot snapshot,
@@ -540,7 +542,7 @@ struct listed lean_complete_list(const uint8_t *image, size_t length, const uint
         listed.answer = open_stage(&found.book, &listed.snapshot, stage, listed.granted);
         if (listed.answer.code != 0)
             break;
-        go_through(&found.book, index, stage, &listed.snapshot);
+        listed.evaluated += go_through(&found.book, index, stage, &listed.snapshot);
     }
     return listed;
 }

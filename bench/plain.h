@@ -53,10 +53,17 @@ struct settled {
     struct snapshot snapshot;
 };
 
+struct indexed {
+    struct answer answer;
+    struct snapshot snapshot;
+    uint32_t evaluated; // rules of the stage's order
+};
+
 struct listed {
     struct answer answer;
     uint32_t granted;
     struct snapshot snapshot;
+    uint32_t evaluated;
 };
 
 struct recorded {
@@ -81,7 +88,7 @@ struct answer plain_check(const uint8_t *image, size_t length, uint32_t stage, u
 struct settled plain_complete(const uint8_t *image, size_t length, const uint16_t *order, size_t count, struct snapshot snapshot,
                               uint32_t stage);
 struct answer plain_build_index(const uint8_t *image, size_t length, uint8_t *room, size_t bytes);
-struct settled plain_complete_indexed(const uint8_t *image, size_t length, const uint8_t *index, size_t bytes, struct snapshot snapshot,
+struct indexed plain_complete_indexed(const uint8_t *image, size_t length, const uint8_t *index, size_t bytes, struct snapshot snapshot,
                                       uint32_t stage);
 struct listed plain_complete_list(const uint8_t *image, size_t length, const uint8_t *index, size_t bytes, struct snapshot snapshot,
                                  const uint32_t *stages, size_t count);

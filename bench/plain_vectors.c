@@ -203,9 +203,10 @@ static bool complete_indexed(const uint8_t *at, size_t length)
     size_t bytes = number(at + 36, 4), start = 40 + bytes;
     uint8_t *index = filled(bytes);
     memcpy(index, at + 40, bytes);
-    struct settled settled = COMPLETE_INDEXED(at + start, length - start, index, bytes, snapshot_at(at + 4), (uint32_t)number(at, 4));
-    say("indexed", settled.answer);
-    say_snapshot(&settled.snapshot);
+    struct indexed indexed = COMPLETE_INDEXED(at + start, length - start, index, bytes, snapshot_at(at + 4), (uint32_t)number(at, 4));
+    say("indexed", indexed.answer);
+    say_snapshot(&indexed.snapshot);
+    printf(" %" PRIu32, indexed.evaluated);
     free(index);
     return true;
 }
@@ -227,6 +228,7 @@ static bool complete_list(const uint8_t *at, size_t length)
     say("list", listed.answer);
     printf(" %" PRIu32, listed.granted);
     say_snapshot(&listed.snapshot);
+    printf(" %" PRIu32, listed.evaluated);
     free(index);
     free(stages);
     return true;
