@@ -8,7 +8,7 @@ use Rattle.paper.specs.Limits.{maxEvents}
 use Rattle.sets.specs.Set.{has}
 use Rattle.graph.specs.Roles.{permits}
 use Rattle.graph.specs.Tests.{rowSpill, spillAt, spillOf, rolesFrom, fitTables, fitChart, fitMarking, fit}
-use Rattle.graph.specs.Steps.{unmetOf, awaitedOf, afterWith, granting, stepping, steppingBy, executing}
+use Rattle.graph.specs.Steps.{unmetOf, awaitedOf, afterWith, granting, testing, stepping, steppingBy, executing}
 use Rattle.graph.specs.declared.FlatChart.{FlatChart}
 use Rattle.graph.specs.declared.Marking.{Marking}
 
@@ -32,5 +32,5 @@ pub record Examples : Type 0 where
   pub p6 : executing (pair none none (set none 1 1)) (marking 0 1 2) 1 0 ≡ granting (marking 2 1 2)
 
 pub examples : Examples
-unfolding executing steppingBy stepping permits fit fitChart fitMarking fitTables rolesFrom spillOf spillAt rowSpill has unmetOf awaitedOf afterWith trailingZeros
+unfolding executing steppingBy stepping testing permits fit fitChart fitMarking fitTables rolesFrom spillOf spillAt rowSpill has unmetOf awaitedOf afterWith trailingZeros
 examples = record { p4 = refl; p5 = refl; p6 = refl }

@@ -18,7 +18,8 @@ use Rattle.graph.specs.Chart.{condition, response, milestone, include, e
 use Rattle.graph.specs.Roles.{Permits, permits, permits-so}
 use Rattle.graph.specs.Tests.{fit}
 use Rattle.graph.specs.Fitness.{fit-both, both-fit}
-use Rattle.graph.specs.Steps.{unmetOf, awaitedOf, openWith, isOpen, afterWith, after, refusing, granting, stepping, steppingBy, executing, openAmong, openSet, counting, finishing}
+use Rattle.graph.specs.Steps.{rowOf, unmetOf, awaitedOf, openWith, isOpen, afterWith, after, refusing, granting, steppingBy, stepping-cases, executing}
+use Rattle.graph.specs.Steps.{openAmong, openSet, counting, finishing}
 use Rattle.graph.specs.declared.FlatChart.{FlatChart}
 use Rattle.graph.specs.declared.Marking.{Marking}
 use Rattle.graph.specs.declared.steps.Step.{Step}
@@ -50,6 +51,11 @@ pub record Awaiting (c : FlatChart) (m : Marking) (e f : ℕ) : Type 0 where
   pub asked : In (setOf c milestone e) f
   pub pending : In (m .pending) f
 
+-- "both whole sets: included conditions not yet executed, and included milestones still pending"
+pub record Whole (c : FlatChart) (m : Marking) (e conditions milestones : ℕ) : Type 0 where
+  pub wanting : (f : ℕ) → In conditions f ↔ Wanting c m e f
+  pub awaiting : (f : ℕ) → In milestones f ↔ Awaiting c m e f
+
 -- "Executing gives 14, 10, 11, 12, 13", and by request (i) 32 "after 10 and before 11": what the paper has a step give, case by case
 pub record Stands (c : FlatChart) (m : Marking) (e : ℕ) : Type 0 where
   pub chart : Fit c
@@ -60,14 +66,18 @@ pub record Admitted (c : FlatChart) (m : Marking) (e r : ℕ) : Type 0 where
   pub stands : Stands c m e
   pub permitted : Permits (rolesOf c e) r
 
+-- "The step hands both on with code 12 or 13"
+abbrev pub holding : ℕ → ℕ → ℕ → ℕ → Marking → Step
+holding code place conditions milestones m = record { answer = answer code place 0; marking = m; conditions = conditions; milestones = milestones }
+
 pub data Executes (c : FlatChart) (m : Marking) (e r : ℕ) : Step → Type 0 where
   isUnfit : (Fit c → FitMarking (c .count) m → ⊥) → Executes c m e r (refusing unfit 0 m)
   isGone : Fit c → FitMarking (c .count) m → c .count ≤ e → Executes c m e r (refusing noSuchEvent 0 m)
   isForbidden : Stands c m e → (Permits (rolesOf c e) r → ⊥) → Executes c m e r (refusing notPermitted 0 m)
   isExcluded : Admitted c m e r → (In (m .included) e → ⊥) → Executes c m e r (refusing notIncluded 0 m)
-  isWanting : {f : ℕ} → Admitted c m e r → In (m .included) e → Lowest (c .count) (Wanting c m e) f → Executes c m e r (refusing conditionWanting f m)
-  isAwaiting : {f : ℕ} → Admitted c m e r → In (m .included) e → ((g : ℕ) → Wanting c m e g → ⊥) → Lowest (c .count) (Awaiting c m e) f
-      → Executes c m e r (refusing milestoneWanting f m)
+  isWanting : {f x y : ℕ} → Admitted c m e r → In (m .included) e → Lowest (c .count) (Wanting c m e) f → Whole c m e x y → Executes c m e r (holding conditionWanting f x y m)
+  isAwaiting : {f x y : ℕ} → Admitted c m e r → In (m .included) e → ((g : ℕ) → Wanting c m e g → ⊥) → Lowest (c .count) (Awaiting c m e) f → Whole c m e x y
+      → Executes c m e r (holding milestoneWanting f x y m)
   isDone : {n : Marking} → Admitted c m e r → Enabled c m e → Executed c m e n → Executes c m e r (granting n)
 
 -- ---- the open rule
@@ -94,6 +104,9 @@ module _ (c : FlatChart) (m : Marking) (e : ℕ) where
         record { included = t .0; asked = t .1; pending = t .2 },
     λ w. has-awaited f ∙ rw (w .included, w .asked, w .pending),
   )
+
+  pub whole : Whole c m e (unmetOf m (setOf c condition e)) (awaitedOf m (setOf c milestone e))
+  whole = record { wanting = unmet-wanting; awaiting = awaited-awaiting }
 
   none-of : (s : ℕ) → s ≡ 0 → (f : ℕ) → In s f → ⊥
   none-of s z f h = contra h (ap (λ (x : ℕ). has x f) z ∙ has-empty f)
@@ -157,6 +170,10 @@ executed-one c m e n k a b =
     let i = same-set (n .included) (k .included) _ (a .included) (b .included) in
     ap₂ (λ (x y : ℕ). made x y (n .included)) x p ∙ ap (made (k .executed) (k .pending)) i
 
+-- both sets are one pair
+pub whole-one : (c : FlatChart) (m : Marking) (e x y : ℕ) → Whole c m e x y → (x ≡ unmetOf m (setOf c condition e)) × (y ≡ awaitedOf m (setOf c milestone e))
+whole-one c m e x y w = let k = whole c m e in (same-set x _ _ (w .wanting) (k .wanting), same-set y _ _ (w .awaiting) (k .awaiting))
+
 -- ---- executing is what the paper says
 
 module _ (c : FlatChart) (m : Marking) (e : ℕ) where
@@ -173,17 +190,17 @@ module _ (c : FlatChart) (m : Marking) (e : ℕ) where
         least = λ g l p. contra (h g .1 p) (lowest-least maxEvents s g l);
       }
 
-  lowest-wanting : Stands c m e → eqb (unmetOf m (setOf c condition e)) 0 ≡ false → Lowest (c .count) (Wanting c m e) (lowest maxEvents (unmetOf m (setOf c condition e)))
+  pub lowest-wanting : Stands c m e → eqb (unmetOf m (setOf c condition e)) 0 ≡ false → Lowest (c .count) (Wanting c m e) (lowest maxEvents (unmetOf m (setOf c condition e)))
   lowest-wanting s h = lowest-in (s .chart) (s .marking) (Wanting c m e) (unmetOf m (setOf c condition e)) (unmet-wanting c m e) (λ f x. x .included) (eqb-false _ 0 h)
 
-  lowest-awaiting : Stands c m e → eqb (awaitedOf m (setOf c milestone e)) 0 ≡ false → Lowest (c .count) (Awaiting c m e) (lowest maxEvents (awaitedOf m (setOf c milestone e)))
+  pub lowest-awaiting : Stands c m e → eqb (awaitedOf m (setOf c milestone e)) 0 ≡ false → Lowest (c .count) (Awaiting c m e) (lowest maxEvents (awaitedOf m (setOf c milestone e)))
   lowest-awaiting s h = lowest-in (s .chart) (s .marking) (Awaiting c m e) (awaitedOf m (setOf c milestone e)) (awaited-awaiting c m e) (λ f x. x .included) (eqb-false _ 0 h)
 
-  some-in : (s f : ℕ) → In s f → eqb s 0 ≡ true → ⊥
+  pub some-in : (s f : ℕ) → In s f → eqb s 0 ≡ true → ⊥
   some-in s f h z = contra h (ap (λ (x : ℕ). has x f) (eqb-true s 0 z) ∙ has-empty f)
 
   -- no test of the event's own holds it back: it is enabled
-  frees : {B : Type 0} → (((B × In (m .included) e) × (eqb (unmetOf m (setOf c condition e)) 0 ≡ true)) × (eqb (awaitedOf m (setOf c milestone e)) 0 ≡ true)) ↔ (B × Enabled c m e)
+  pub frees : {B : Type 0} → (((B × In (m .included) e) × (eqb (unmetOf m (setOf c condition e)) 0 ≡ true)) × (eqb (awaitedOf m (setOf c milestone e)) 0 ≡ true)) ↔ (B × Enabled c m e)
   unfolding openWith
   frees = (
     λ k. (k .0 .0 .0, open-enabled c m e .0 (rw (k .0 .0 .1, k .0 .1, k .1))),
@@ -201,35 +218,45 @@ module _ (c : FlatChart) (m : Marking) (e : ℕ) where
       (unless {N = Admitted c m e r} (permits (rolesOf c e) r) (refusing notPermitted 0 m) (λ k h. isForbidden k (λ x. contra (permits-so (rolesOf c e) r .1 x) h))
       (λ k. record { stands = k .0; permitted = permits-so (rolesOf c e) r .0 (k .1) }, λ k. (k .stands, permits-so (rolesOf c e) r .1 (k .permitted)))
       (unless (has (m .included) e) (refusing notIncluded 0 m) (λ k h. isExcluded k (λ x. contra x h)) (λ k. k, λ k. k)
-      (unless (eqb (unmetOf m (setOf c condition e)) 0) (refusing conditionWanting (lowest maxEvents (unmetOf m (setOf c condition e))) m)
-      (λ k h. isWanting (k .0) (k .1) (lowest-wanting (search) h)) (λ k. k, λ k. k)
-      (unless (eqb (awaitedOf m (setOf c milestone e)) 0) (refusing milestoneWanting (lowest maxEvents (awaitedOf m (setOf c milestone e))) m)
-      (λ k h. isAwaiting (k .0 .0) (k .0 .1) (λ f x. some-in _ f (unmet-wanting c m e f .1 x) (k .1)) (lowest-awaiting (search) h)) frees
+      (unless (eqb (unmetOf m (setOf c condition e)) 0) (holding conditionWanting (lowest maxEvents (unmetOf m (setOf c condition e))) _ _ m)
+      (λ k h. isWanting (k .0) (k .1) (lowest-wanting (search) h) (whole c m e)) (λ k. k, λ k. k)
+      (unless (eqb (awaitedOf m (setOf c milestone e)) 0) (holding milestoneWanting (lowest maxEvents (awaitedOf m (setOf c milestone e))) _ _ m)
+      (λ k h. isAwaiting (k .0 .0) (k .0 .1) (λ f x. some-in _ f (unmet-wanting c m e f .1 x) (k .1)) (lowest-awaiting (search) h) (whole c m e)) frees
       (otherwise (granting (after c m e)) (λ k. isDone (k .0) (k .1) (after-executed c m e))))))))
 
+  held : (code : ℕ) {f g x y : ℕ} → f ≡ g → (x ≡ unmetOf m (setOf c condition e)) × (y ≡ awaitedOf m (setOf c milestone e))
+      → holding code f x y m ≡ holding code g (unmetOf m (setOf c condition e)) (awaitedOf m (setOf c milestone e)) m
+  held code p (q, z) = rw (p, q, z)
+
+  executing-rows : (r : ℕ) → executing c m e r ≡ firstRow (executionRows r)
+  unfolding executing steppingBy executionRows firstRow
+  executing-rows r = rw (stepping-cases m e (rowOf c e))
+
   pub executes : (r : ℕ) → Executes c m e r (executing c m e r)
-  unfolding executing steppingBy stepping executionRows firstRow
-  executes r = first-told (executionRows r) tt
+  executes r = rw (executing-rows r) (first-told (executionRows r) tt)
 
   -- and nothing else: whatever the paper's cases allow is what executing gives
+  told-executing : (r : ℕ) {s : Step} → Told (executionRows r) s → s ≡ executing c m e r
+  told-executing r w = told-only (executionRows r) w ∙ sym (executing-rows r)
+
   pub executes-only : {r : ℕ} {s : Step} → Executes c m e r s → s ≡ executing c m e r
-  unfolding executing steppingBy stepping executionRows firstRow Told
-  executes-only {r} (isUnfit n) = let h = not-held (λ ok. let t = fit-both c m ok in n (t .0) (t .1)) in told-only (executionRows r) (search (inl, inr, tt) depth 12)
-  executes-only {r} (isGone f t g) = let h = le-leb (c .count) e g in told-only (executionRows r) (search (inl, inr) depth 12)
-  executes-only {r} (isForbidden s x) = let h = not-held (λ o. x (permits-so (rolesOf c e) r .0 o)) in told-only (executionRows r) (search (inl, inr) depth 12)
-  executes-only {r} (isExcluded s x) = let h = not-held x in told-only (executionRows r) (search (inl, inr) depth 12)
-  executes-only {r} (isWanting {f} s i l) =
+  unfolding executionRows Told
+  executes-only {r} (isUnfit n) = let h = not-held (λ ok. let t = fit-both c m ok in n (t .0) (t .1)) in told-executing r (search (inl, inr, tt) depth 12)
+  executes-only {r} (isGone f t g) = let h = le-leb (c .count) e g in told-executing r (search (inl, inr) depth 12)
+  executes-only {r} (isForbidden s x) = let h = not-held (λ o. x (permits-so (rolesOf c e) r .0 o)) in told-executing r (search (inl, inr) depth 12)
+  executes-only {r} (isExcluded s x) = let h = not-held x in told-executing r (search (inl, inr) depth 12)
+  executes-only {r} (isWanting {f} {x} {y} s i l w) =
       let h = some-in _ f (unmet-wanting c m e f .1 (l .holds)) in
       let k = not-held h in
-      let q = ap (λ (x : ℕ). refusing conditionWanting x m) (lowest-one (c .count) (Wanting c m e) f _ l (lowest-wanting (search) (not-so h))) in
-      told-only (executionRows r) (search (inl, inr) depth 12)
-  executes-only {r} (isAwaiting {f} s i n l) =
+      let q = held conditionWanting (lowest-one (c .count) (Wanting c m e) f _ l (lowest-wanting (search) (not-so h))) (whole-one c m e x y w) in
+      told-executing r (search (inl, inr) depth 12)
+  executes-only {r} (isAwaiting {f} {x} {y} s i n l w) =
       let z = eq-eqb _ 0 (none-zero (unmetOf m (setOf c condition e)) (λ g. not-so (λ h. n g (unmet-wanting c m e g .0 h)))) in
       let h = some-in _ f (awaited-awaiting c m e f .1 (l .holds)) in
       let k = not-held h in
-      let q = ap (λ (x : ℕ). refusing milestoneWanting x m) (lowest-one (c .count) (Awaiting c m e) f _ l (lowest-awaiting (search) (not-so h))) in
-      told-only (executionRows r) (search (inl, inr) depth 12)
-  executes-only {r} (isDone {n} s t x) = let q = ap granting (executed-one c m e n _ x (after-executed c m e)) in told-only (executionRows r) (search (inl, inr) depth 12)
+      let q = held milestoneWanting (lowest-one (c .count) (Awaiting c m e) f _ l (lowest-awaiting (search) (not-so h))) (whole-one c m e x y w) in
+      told-executing r (search (inl, inr) depth 12)
+  executes-only {r} (isDone {n} s t x) = let q = ap granting (executed-one c m e n _ x (after-executed c m e)) in told-executing r (search (inl, inr) depth 12)
 
   -- a refused step returns its marking; a granted one is that of an admitted, enabled event, and is Definition 3's
   kept-or-done : {r : ℕ} {s : Step} → Executes c m e r s → ((s .answer .code ≡ 0 → ⊥) × (s .marking ≡ m)) ⊎ (Admitted c m e r × Enabled c m e × Executed c m e (s .marking))
@@ -237,8 +264,8 @@ module _ (c : FlatChart) (m : Marking) (e : ℕ) where
   kept-or-done (isGone _ _ _) = inl (λ h. omega arith, refl)
   kept-or-done (isForbidden _ _) = inl (λ h. omega arith, refl)
   kept-or-done (isExcluded _ _) = inl (λ h. omega arith, refl)
-  kept-or-done (isWanting _ _ _) = inl (λ h. omega arith, refl)
-  kept-or-done (isAwaiting _ _ _ _) = inl (λ h. omega arith, refl)
+  kept-or-done (isWanting _ _ _ _) = inl (λ h. omega arith, refl)
+  kept-or-done (isAwaiting _ _ _ _ _) = inl (λ h. omega arith, refl)
   kept-or-done (isDone s t x) = inr (s, t, x)
 
   -- granted exactly if enabled, by a role that may

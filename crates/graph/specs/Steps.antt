@@ -12,6 +12,7 @@ use borrow.Author.Tests.{not-true, not-false, eq-eqb, ne-eqb, le-leb, lt-leb}
 use Rattle.paper.specs.Limits.{maxEvents, noSuchEvent, notIncluded, notPermitted, conditionWanting, milestoneWanting, unfit}
 use Rattle.paper.specs.Answers.{answer, granted, refusal}
 use Rattle.paper.specs.declared.Answer.{Answer}
+use Rattle.general.specs.Cases.{cases}
 use Rattle.sets.specs.Set.{has, union, inter, minus, only, lowest, size, collect, putIf}
 use Rattle.sets.specs.Laws.{collect-step, one-bit, ext, has-inter, has-collect}
 use Rattle.graph.specs.Chart.{setOf, rolesOf, condition, response, milestone, include, exclude}
@@ -21,6 +22,8 @@ use Rattle.graph.specs.Fitness.{fit-both}
 use Rattle.graph.specs.declared.FlatChart.{FlatChart}
 use Rattle.graph.specs.declared.Marking.{Marking}
 use Rattle.graph.specs.declared.steps.Row.{Row}
+use Rattle.graph.specs.declared.steps.Blocking.{Blocking}
+use Rattle.graph.specs.declared.steps.OpenTest.{OpenTest}
 use Rattle.graph.specs.declared.steps.Step.{Step}
 use Rattle.graph.specs.declared.steps.OpenCount.{OpenCount}
 use Rattle.graph.specs.declared.steps.Finished.{Finished}
@@ -35,6 +38,10 @@ unmetOf m conditions = minus (inter (m .included) conditions) (m .executed)
 unfoldable pub awaitedOf : Marking → ℕ → ℕ
 awaitedOf m milestones = inter (inter (m .included) milestones) (m .pending)
 
+-- request (viii), "both whole sets: included conditions not yet executed, and included milestones still pending"
+abbrev pub blockingOf : Marking → ℕ → ℕ → Blocking
+blockingOf m conditions milestones = record { conditions = unmetOf m conditions; milestones = awaitedOf m milestones }
+
 unfoldable pub openWith : Marking → ℕ → ℕ → ℕ → Bool
 openWith m e conditions milestones = has (m .included) e && eqb (unmetOf m conditions) 0 && eqb (awaitedOf m milestones) 0
 
@@ -42,8 +49,54 @@ openWith m e conditions milestones = has (m .included) e && eqb (unmetOf m condi
 unfoldable pub freeWith : Marking → ℕ → ℕ → Bool
 freeWith m conditions milestones = eqb (unmetOf m conditions) 0 && eqb (awaitedOf m milestones) 0
 
+pub free-sets : (m : Marking) (conditions milestones : ℕ) (by : Blocking) → by ≡ blockingOf m conditions milestones
+    → (eqb (by .conditions) 0 && eqb (by .milestones) 0) ≡ freeWith m conditions milestones
+unfolding freeWith
+free-sets m conditions milestones by p = rw p
+
 abbrev pub isOpen : FlatChart → Marking → ℕ → Bool
 isOpen c m e = openWith m e (setOf c condition e) (setOf c milestone e)
+
+-- ---- the open test
+
+-- "Other codes carry two empty sets."
+abbrev pub shut : ℕ → OpenTest
+shut code = record { answer = refusal code; conditions = 0; milestones = 0 }
+
+-- 12 and 13 carry both sets whole
+abbrev pub blocked : ℕ → ℕ → Blocking → OpenTest
+blocked code place by = record { answer = answer code place 0; conditions = by .conditions; milestones = by .milestones }
+
+abbrev pub opened : OpenTest
+opened = record { answer = granted; conditions = 0; milestones = 0 }
+
+-- the sets of event e, and the roles that it names
+abbrev pub rowOf : FlatChart → ℕ → Row
+rowOf c e =
+    record {
+      conditions = setOf c condition e;
+      responses = setOf c response e;
+      milestones = setOf c milestone e;
+      includes = setOf c include e;
+      excludes = setOf c exclude e;
+      roles = rolesOf c e;
+    }
+
+-- the test of event e after the fitness test, from the event's own sets
+unfoldable pub testing : Marking → ℕ → Row → OpenTest
+testing m e row =
+    cond (not (has (m .included) e)) (shut notIncluded)
+    (cond (not (eqb (unmetOf m (row .conditions)) 0))
+    (blocked conditionWanting (lowest maxEvents (unmetOf m (row .conditions))) (blockingOf m (row .conditions) (row .milestones)))
+    (cond (not (eqb (awaitedOf m (row .milestones)) 0))
+    (blocked milestoneWanting (lowest maxEvents (awaitedOf m (row .milestones))) (blockingOf m (row .conditions) (row .milestones)))
+    opened))
+
+unfoldable pub opening : FlatChart → Marking → ℕ → OpenTest
+opening c m e =
+    cond (not (fit c m)) (shut unfit)
+    (cond (leb (c .count) e) (shut noSuchEvent)
+    (testing m e (rowOf c e)))
 
 -- ---- executing
 
@@ -61,30 +114,34 @@ after c m e = afterWith m e (setOf c response e) (setOf c include e) (setOf c ex
 
 -- a refusal hands back the marking that it was given
 abbrev pub refusing : ℕ → ℕ → Marking → Step
-refusing code place m = record { answer = answer code place 0; marking = m }
+refusing code place m = record { answer = answer code place 0; marking = m; conditions = 0; milestones = 0 }
 
 abbrev pub granting : Marking → Step
-granting m = record { answer = granted; marking = m }
+granting m = record { answer = granted; marking = m; conditions = 0; milestones = 0 }
 
--- the sets of event e, and the roles that it names
-abbrev pub rowOf : FlatChart → ℕ → Row
-rowOf c e =
-    record {
-      conditions = setOf c condition e;
-      responses = setOf c response e;
-      milestones = setOf c milestone e;
-      includes = setOf c include e;
-      excludes = setOf c exclude e;
-      roles = rolesOf c e;
-    }
+-- "The step hands both on": answer and sets of an open test beside a marking
+abbrev pub handedOn : OpenTest → Marking → Step
+handedOn t m = record { answer = t .answer; marking = m; conditions = t .conditions; milestones = t .milestones }
 
 -- a step of event e after the fitness test, from the event's own sets
 unfoldable pub stepping : Marking → ℕ → Row → Step
 stepping m e row =
-    cond (not (has (m .included) e)) (refusing notIncluded 0 m)
-    (cond (not (eqb (unmetOf m (row .conditions)) 0)) (refusing conditionWanting (lowest maxEvents (unmetOf m (row .conditions))) m)
-    (cond (not (eqb (awaitedOf m (row .milestones)) 0)) (refusing milestoneWanting (lowest maxEvents (awaitedOf m (row .milestones))) m)
+    let t = testing m e row in
+    cond (eqb (t .answer .code) 0) (handedOn t (afterWith m e (row .responses) (row .includes) (row .excludes))) (handedOn t m)
+
+-- case by case
+pub stepping-cases : (m : Marking) (e : ℕ) (row : Row) → stepping m e row
+    ≡ cond (not (has (m .included) e)) (handedOn (shut notIncluded) m)
+    (cond (not (eqb (unmetOf m (row .conditions)) 0))
+    (handedOn (blocked conditionWanting (lowest maxEvents (unmetOf m (row .conditions))) (blockingOf m (row .conditions) (row .milestones))) m)
+    (cond (not (eqb (awaitedOf m (row .milestones)) 0))
+    (handedOn (blocked milestoneWanting (lowest maxEvents (awaitedOf m (row .milestones))) (blockingOf m (row .conditions) (row .milestones))) m)
     (granting (afterWith m e (row .responses) (row .includes) (row .excludes)))))
+unfolding stepping testing
+stepping-cases m e row =
+    cases (has (m .included) e)
+    (λ i. cases (eqb (unmetOf m (row .conditions)) 0) (λ u. cases (eqb (awaitedOf m (row .milestones)) 0) (λ w. rw (i, u, w)) (λ w. rw (i, u, w))) (λ u. rw (i, u)))
+    (λ i. rw i)
 
 -- and by role r
 unfoldable pub steppingBy : Marking → ℕ → Row → ℕ → Step
@@ -179,25 +236,46 @@ pub step-forbidden : (m : Marking) (e : ℕ) (row : Row) (r : ℕ) (o : Bool) (s
 unfolding steppingBy
 step-forbidden m e row r o s p q z = z ∙ rw (← p, not-true o q)
 
-module _ (m : Marking) (e : ℕ) (row : Row) (r : ℕ) (o : Bool) (po : o ≡ permits (row .roles) r) (qo : not o ≡ false) (i : Bool) (pi : i ≡ has (m .included) e) where
-  pub step-excluded : (s : Step) → not i ≡ true → s ≡ refusing notIncluded 0 m → s ≡ steppingBy m e row r
+module _ (m : Marking) (e : ℕ) (row : Row) (r : ℕ) (o : Bool) (po : o ≡ permits (row .roles) r) (qo : not o ≡ false) (t : OpenTest) (pt : t ≡ testing m e row) where
+  pub step-held : (t .answer .code ≡ 0 → ⊥) → (s : Step) → s ≡ handedOn t m → s ≡ steppingBy m e row r
   unfolding steppingBy stepping
-  step-excluded s qi z = z ∙ rw (← po, not-false o qo, ← pi, not-true i qi)
+  step-held n s z = z ∙ rw (← po, not-false o qo, ← pt, ne-eqb _ 0 n)
 
-  module _ (qi : not i ≡ false) (u : ℕ) (pu : u ≡ unmetOf m (row .conditions)) where
-    pub step-unmet : (u ≡ 0 → ⊥) → (l : ℕ) (s : Step) → l ≡ lowest maxEvents u → s ≡ refusing conditionWanting l m → s ≡ steppingBy m e row r
-    unfolding steppingBy stepping
-    step-unmet qu l s pl z = z ∙ rw (← po, not-false o qo, ← pi, not-false i qi, ← pu, ne-eqb u 0 qu, pl)
+  pub step-done : t .answer .code ≡ 0 → (n : Marking) (s : Step) → n ≡ afterWith m e (row .responses) (row .includes) (row .excludes) → s ≡ handedOn t n → s ≡ steppingBy m e row r
+  unfolding steppingBy stepping
+  step-done h n s p z = z ∙ rw (← po, not-false o qo, ← pt, eq-eqb _ 0 h, p)
 
-    module _ (zu : u ≡ 0) (w : ℕ) (pw : w ≡ awaitedOf m (row .milestones)) where
-      pub step-awaited : (w ≡ 0 → ⊥) → (l : ℕ) (s : Step) → l ≡ lowest maxEvents w → s ≡ refusing milestoneWanting l m → s ≡ steppingBy m e row r
-      unfolding steppingBy stepping
-      step-awaited qw l s pl z = z ∙ rw (← po, not-false o qo, ← pi, not-false i qi, ← pu, eq-eqb u 0 zu, ← pw, ne-eqb w 0 qw, pl)
+pub test-unfit : (c : FlatChart) (m : Marking) (e : ℕ) (f : Bool) (t : OpenTest) → f ≡ fit c m → not f ≡ true → t ≡ shut unfit → t ≡ opening c m e
+unfolding opening
+test-unfit c m e f t p q h = h ∙ rw (← p, not-true f q)
 
-      pub step-done : w ≡ 0 → (a : Answer) (n : Marking) → a ≡ granted → n ≡ afterWith m e (row .responses) (row .includes) (row .excludes)
-          → record { answer = a; marking = n } ≡ steppingBy m e row r
-      unfolding steppingBy stepping
-      step-done zw a n pa pn = rw (← po, not-false o qo, ← pi, not-false i qi, ← pu, eq-eqb u 0 zu, ← pw, eq-eqb w 0 zw, pa, pn)
+module _ (c : FlatChart) (m : Marking) (e : ℕ) (f : Bool) (p : f ≡ fit c m) (q : not f ≡ false) where
+  pub test-gone : (t : OpenTest) → c .count ≤ e → t ≡ shut noSuchEvent → t ≡ opening c m e
+  unfolding opening
+  test-gone t h z = z ∙ rw (ok c m f p q, le-leb (c .count) e h)
+
+  pub test-taken : (t : OpenTest) (row : Row) → e < c .count → row ≡ rowOf c e → t ≡ testing m e row → t ≡ opening c m e
+  unfolding opening
+  test-taken t row h l z = z ∙ rw (l, ok c m f p q, lt-leb (c .count) e h)
+
+module _ (m : Marking) (e : ℕ) (row : Row) (i : Bool) (pi : i ≡ has (m .included) e) where
+  pub test-excluded : (t : OpenTest) → not i ≡ true → t ≡ shut notIncluded → t ≡ testing m e row
+  unfolding testing
+  test-excluded t qi z = z ∙ rw (← pi, not-true i qi)
+
+  module _ (qi : not i ≡ false) (by : Blocking) (pb : by ≡ blockingOf m (row .conditions) (row .milestones)) where
+    pub test-unmet : (by .conditions ≡ 0 → ⊥) → (l : ℕ) (t : OpenTest) → l ≡ lowest maxEvents (by .conditions) → t ≡ blocked conditionWanting l by → t ≡ testing m e row
+    unfolding testing
+    test-unmet n l t pl z = z ∙ rw (← pi, not-false i qi, pl, pb, ne-eqb _ 0 (rw pb at n))
+
+    pub test-awaited : by .conditions ≡ 0 → (by .milestones ≡ 0 → ⊥) → (l : ℕ) (t : OpenTest) → l ≡ lowest maxEvents (by .milestones) → t ≡ blocked milestoneWanting l by
+        → t ≡ testing m e row
+    unfolding testing
+    test-awaited h n l t pl z = z ∙ rw (← pi, not-false i qi, pl, pb, eq-eqb _ 0 (rw pb at h), ne-eqb _ 0 (rw pb at n))
+
+    pub test-open : by .conditions ≡ 0 → by .milestones ≡ 0 → (a : Answer) → a ≡ granted → record { answer = a; conditions = 0; milestones = 0 } ≡ testing m e row
+    unfolding testing
+    test-open h k a z = rw (← pi, not-false i qi, z, eq-eqb _ 0 (rw pb at h), eq-eqb _ 0 (rw pb at k))
 
 pub count-unfit : (c : FlatChart) (m : Marking) (r : Bool) (a : Answer) → r ≡ fit c m → not r ≡ true → a ≡ refusal unfit
     → record { answer = a; count = 0; lowest = maxEvents } ≡ counting c m

@@ -6,7 +6,8 @@ ghost use Rattle.paper.specs.Limits.{maxEvents};
 ghost use Rattle.sets.specs.Set.{union};
 ghost use Rattle.graph.specs.Chart.{chartOf};
 ghost use Rattle.graph.specs.Roles.{permits};
-ghost use Rattle.graph.specs.Steps.{rowOf, unmetOf, awaitedOf, freeWith, afterWith, refusing, steppingBy, openAmong, executing, counting, finishing};
+ghost use Rattle.graph.specs.Steps.{rowOf, unmetOf, awaitedOf, blockingOf, shut, blocked, testing, opening};
+ghost use Rattle.graph.specs.Steps.{freeWith, afterWith, refusing, handedOn, steppingBy, openAmong, executing, counting, finishing};
 use crate::FlatChart;
 use crate::Marking;
 use paper::Answer;
@@ -23,11 +24,27 @@ pub struct Row {
     pub roles: u8,
 }
 
-// What executing an event gives: the next marking, or the old one beside the refusal.
+// What holds an event back: its included conditions that are not executed, and its included milestones that are pending.
+struct Blocking {
+    conditions: u64,
+    milestones: u64,
+}
+
+// What the open test gives: with 12 and 13 all that holds the event back, with every other code two empty sets.
+#[repr(C)]
+pub struct OpenTest {
+    pub answer: Answer,
+    pub conditions: u64,
+    pub milestones: u64,
+}
+
+// What executing an event gives: the next marking, or the old one beside the refusal; and the sets of its open test.
 #[repr(C)]
 pub struct Step {
     pub answer: Answer,
     pub marking: Marking,
+    pub conditions: u64,
+    pub milestones: u64,
 }
 
 // How many events are open and the lowest of them, MAX_EVENTS where there is none.
@@ -65,6 +82,39 @@ pub fn permits(roles: u8, role: u32) -> bool
     ensures { λ r. ⌜ r ≡ permits roles role ⌝ }
 {
     (role < MAX_ROLES) & ((roles == 0) | sets::member(roles as u64, role as usize))
+}
+
+fn shut(code: u32) -> OpenTest
+    ensures { λ r. ⌜ r ≡ shut code ⌝ }
+{
+    OpenTest {
+        answer: paper::refused(code, 0, 0),
+        conditions: 0,
+        milestones: 0,
+    }
+}
+
+fn blocked(code: u32, place: u32, by: Blocking) -> OpenTest
+    ensures { λ r. ⌜ r ≡ blocked code place by ⌝ }
+{
+    OpenTest {
+        answer: paper::refused(code, place, 0),
+        conditions: by.conditions,
+        milestones: by.milestones,
+    }
+}
+
+// A step with what the open test gave.
+fn handed_on(test: OpenTest, marking: Marking) -> Step
+    ensures { λ r. ⌜ r ≡ handedOn test marking ⌝ }
+{
+    let answer = test.answer;
+    Step {
+        answer,
+        marking,
+        conditions: test.conditions,
+        milestones: test.milestones,
+    }
 }
 
 // The sets and the roles of event e, out of lent tables.
@@ -105,13 +155,22 @@ impl Marking {
         self.included & milestones & self.pending
     }
 
+    // All that holds an event back.
+    fn blocking(self, conditions: u64, milestones: u64) -> Blocking
+        ensures { λ r. ⌜ r ≡ blockingOf self conditions milestones ⌝ }
+    {
+        Blocking {
+            conditions: self.unmet(conditions),
+            milestones: self.awaited(milestones),
+        }
+    }
+
     // Whether nothing holds an event back: it is open if it is included too.
     fn is_free(self, conditions: u64, milestones: u64) -> bool
         ensures { λ r. ⌜ r ≡ freeWith self conditions milestones ⌝ }
     {
-        let unmet = self.unmet(conditions);
-        let awaited = self.awaited(milestones);
-        (unmet == 0) & (awaited == 0)
+        let by = self.blocking(conditions, milestones);
+        (by.conditions == 0) & (by.milestones == 0)
     }
 
     // The marking after e, which excludes before it includes.
@@ -133,7 +192,88 @@ impl Marking {
         Step {
             answer: paper::refused(code, place, 0),
             marking: self,
+            conditions: 0,
+            milestones: 0,
         }
+    }
+
+    // The open test of event e, of a chart and a marking that are known to be fit: 11, 12, 13, or open.
+    pub fn test(self, e: usize, row: Row) -> OpenTest
+        requires { ⌜ e < maxEvents ⌝ }
+        ensures { λ r. ⌜ r ≡ testing self e row ⌝ }
+    {
+        if !sets::member(self.included, e) {
+            return shut(paper::NOT_INCLUDED);
+        }
+        let by = self.blocking(row.conditions, row.milestones);
+        if by.conditions != 0 {
+            return blocked(paper::CONDITION_WANTING, sets::least(by.conditions), by);
+        }
+        if by.milestones != 0 {
+            return blocked(paper::MILESTONE_WANTING, sets::least(by.milestones), by);
+        }
+        OpenTest {
+            answer: paper::granted(),
+            conditions: 0,
+            milestones: 0,
+        }
+    }
+
+    // The open test over lent tables: what `open_test` does, with no copy of the chart.
+    pub fn open_test_in<'a>(
+        self,
+        count: u32,
+        conditions: &'a [u64; MAX_EVENTS],
+        responses: &'a [u64; MAX_EVENTS],
+        milestones: &'a [u64; MAX_EVENTS],
+        includes: &'a [u64; MAX_EVENTS],
+        excludes: &'a [u64; MAX_EVENTS],
+        roles: &'a [u8; MAX_EVENTS],
+        event: u32,
+    ) -> OpenTest
+        ensures { λ r. ⌜ r ≡ opening (chartOf count (now (conditions .entry)) (now (responses .entry)) (now (milestones .entry)) (now (includes .entry)) (now (excludes .entry)) (now (roles .entry))) self event ⌝ }
+    {
+        if !self.fits(
+            count,
+            conditions,
+            responses,
+            milestones,
+            includes,
+            excludes,
+            roles,
+        ) {
+            return shut(paper::UNFIT);
+        }
+        if count <= event {
+            return shut(paper::NO_SUCH_EVENT);
+        }
+        let e = event as usize;
+        let row = row_at(
+            e,
+            conditions,
+            responses,
+            milestones,
+            includes,
+            excludes,
+            roles,
+        );
+        self.test(e, row)
+    }
+
+    // Whether an event is open, and if not, all that holds it back.
+    pub fn open_test(self, chart: FlatChart, event: u32) -> OpenTest
+        ensures { λ r. ⌜ r ≡ opening chart self event ⌝ }
+    {
+        self.open_test_in(
+            chart.count,
+            &chart.conditions,
+            &chart.responses,
+            &chart.milestones,
+            &chart.includes,
+            &chart.excludes,
+            &chart.roles,
+            event,
+        )
     }
 
     // A step of event e by a role, of a chart and a marking that are known to be fit: 32, 11, 12, 13, or the next marking.
@@ -144,21 +284,14 @@ impl Marking {
         if !permits(row.roles, role) {
             return self.refused(paper::NOT_PERMITTED, 0);
         }
-        if !sets::member(self.included, e) {
-            return self.refused(paper::NOT_INCLUDED, 0);
+        let test = self.test(e, row);
+        if test.answer.code != 0 {
+            return handed_on(test, self);
         }
-        let unmet = self.unmet(row.conditions);
-        if unmet != 0 {
-            return self.refused(paper::CONDITION_WANTING, sets::least(unmet));
-        }
-        let awaited = self.awaited(row.milestones);
-        if awaited != 0 {
-            return self.refused(paper::MILESTONE_WANTING, sets::least(awaited));
-        }
-        Step {
-            answer: paper::granted(),
-            marking: self.after(e, row.responses, row.includes, row.excludes),
-        }
+        handed_on(
+            test,
+            self.after(e, row.responses, row.includes, row.excludes),
+        )
     }
 
     // Executing over lent tables: what `execute` does, with no copy of the chart.
