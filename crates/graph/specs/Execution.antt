@@ -170,7 +170,7 @@ executed-one c m e n k a b =
     let i = same-set (n .included) (k .included) _ (a .included) (b .included) in
     ap₂ (λ (x y : ℕ). made x y (n .included)) x p ∙ ap (made (k .executed) (k .pending)) i
 
--- both sets are one pair
+-- no other two sets are whole
 pub whole-one : (c : FlatChart) (m : Marking) (e x y : ℕ) → Whole c m e x y → (x ≡ unmetOf m (setOf c condition e)) × (y ≡ awaitedOf m (setOf c milestone e))
 whole-one c m e x y w = let k = whole c m e in (same-set x _ _ (w .wanting) (k .wanting), same-set y _ _ (w .awaiting) (k .awaiting))
 

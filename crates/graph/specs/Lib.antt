@@ -5,4 +5,6 @@ pub mod Tests
 pub mod Fitness
 pub mod Steps
 pub mod Execution
+pub mod Opening
+pub mod HandedOn
 pub mod Examples
