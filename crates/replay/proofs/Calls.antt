@@ -20,7 +20,7 @@ use Rattle.graph.specs.declared.FlatChart.{FlatChart}
 use Rattle.graph.specs.declared.Marking.{Marking}
 use Rattle.graph.specs.declared.steps.Finished.{Finished}
 use Rattle.replay.specs.Recorded.{Entry, recordOf, reaching, reach-fit, reach-whole, reach-short, reach-stopped, reach-append}
-use Rattle.replay.specs.Replaying.{replaying, without, oldPosition, notStruck, struckBy, striking, walking, walkingWithout}
+use Rattle.replay.specs.Replaying.{replaying, without, oldPosition, notStruck, stoppedBy, struckBy, striking, walking, walkingWithout}
 use Rattle.replay.specs.declared.Struck.{Struck}
 use Rattle.replay.specs.declared.Walked.{Walked}
 use Rattle.replay.proofs.Walks.{record-length}
@@ -31,7 +31,7 @@ pub fit-known : (c : FlatChart) (m : Marking) (r : Bool) → r ≡ fit c m → n
 fit-known c m r p q = sym p ∙ not-false r q
 
 pub replay-unfit : (c : FlatChart) (m : Marking) (numbers : List ℕ) (r : Bool) (a : Answer) → r ≡ fit c m → not r ≡ true → a ≡ refusal unfit
-    → record { answer = a; code = 0; steps = 0; marking = m; finished = false } ≡ replaying c m numbers
+    → record { answer = a; code = 0; steps = 0; marking = m; finished = false; conditions = 0; milestones = 0 } ≡ replaying c m numbers
 unfolding replaying
 replay-unfit c m numbers r a p q z = rw (← p, not-true r q, z)
 
@@ -42,7 +42,15 @@ walk-whole c m numbers = rw (take-all (length numbers / 2) (recordOf numbers) (o
 
 pub replay-told : (c : FlatChart) (m : Marking) (numbers : List ℕ) (r : Bool) (w : Walked) (a : Answer) (y : Bool) → r ≡ fit c m → not r ≡ false
     → w ≡ walking c m (recordOf numbers) 0 (length numbers / 2) → a ≡ granted → y ≡ eqb (inter (w .stop .marking .included) (w .stop .marking .pending)) 0
-    → record { answer = a; code = w .stop .answer .code; steps = w .at; marking = w .stop .marking; finished = y } ≡ replaying c m numbers
+    → record {
+      answer = a;
+      code = w .stop .answer .code;
+      steps = w .at;
+      marking = w .stop .marking;
+      finished = y;
+      conditions = w .stop .conditions;
+      milestones = w .stop .milestones;
+    } ≡ replaying c m numbers
 unfolding replaying
 replay-told c m numbers r w a y p q h z e =
     let f : fit c m ≡ true = fit-known c m r p q in
@@ -88,10 +96,10 @@ module _ (c : FlatChart) (m : Marking) (numbers : List ℕ) (p : ℕ) (r : Bool)
   strike-outside s q l z = z ∙ rw (fit-known c m r e q, record-length numbers, le-leb _ _ l)
 
   module _ (q : not r ≡ false) (l : p < length numbers / 2) (w : Walked) (h : w ≡ walkingWithout c m (recordOf numbers) p) where
-    pub strike-stopped : (s : Struck) (k : ℕ) → (w .stop .answer .code ≡ 0 → ⊥) → k ≡ placeOf (w .at) → s ≡ notStruck (w .stop .answer .code) k m → s ≡ striking c m numbers p
+    pub strike-stopped : (s : Struck) (k : ℕ) → (w .stop .answer .code ≡ 0 → ⊥) → k ≡ placeOf (w .at) → s ≡ stoppedBy (w .stop) k m → s ≡ striking c m numbers p
     unfolding striking struckBy walkingWithout
     strike-stopped s k n x z = z ∙ rw (fit-known c m r e q, record-length numbers, lt-leb _ _ l, ne-eqb _ 0 (rw h at n), x, h)
 
-    pub strike-done : (a : Answer) → w .stop .answer .code ≡ 0 → a ≡ granted → record { answer = a; marking = w .stop .marking } ≡ striking c m numbers p
+    pub strike-done : (a : Answer) → w .stop .answer .code ≡ 0 → a ≡ granted → record { answer = a; marking = w .stop .marking; conditions = 0; milestones = 0 } ≡ striking c m numbers p
     unfolding striking struckBy walkingWithout
     strike-done a n z = rw (fit-known c m r e q, record-length numbers, lt-leb _ _ l, eq-eqb _ 0 (rw h at n), z, h)

@@ -49,7 +49,7 @@ record-holds l k h = omega (arith, record-length l)
 -- ---- a step of a chart and a marking that are known to be fit
 
 module _ (c : FlatChart) (m : Marking) (e r : ℕ) (f : fit c m ≡ true) where
-  pub known-gone : (a : Answer) → c .count ≤ e → a ≡ refusal noSuchEvent → record { answer = a; marking = m } ≡ executing c m e r
+  pub known-gone : (a : Answer) → c .count ≤ e → a ≡ refusal noSuchEvent → record { answer = a; marking = m; conditions = 0; milestones = 0 } ≡ executing c m e r
   known-gone a h z = rw z (step-gone c m e r true (sym f) refl (refusing noSuchEvent 0 m) h refl)
 
   pub known-index : e < c .count → e < maxEvents
@@ -94,6 +94,6 @@ module _ (c : FlatChart) (numbers : List ℕ) (start : Marking) (from end : ℕ)
     pub going-stop : (s .answer .code ≡ 0 → ⊥) → record { at = i; stop = s } ≡ walking c start (recordOf numbers) from end
     going-stop n = rw p (sym (ended (λ e. n (ap (λ (t : Step). t .answer .code) p ∙ e))) ∙ g .same)
 
-  pub going-end : end ≤ i → (a : Answer) → a ≡ granted → record { at = end; stop = record { answer = a; marking = m } } ≡ walking c start (recordOf numbers) from end
+  pub going-end : end ≤ i → (a : Answer) → a ≡ granted → record { at = end; stop = record { answer = a; marking = m; conditions = 0; milestones = 0 } } ≡ walking c start (recordOf numbers) from end
   unfolding walking reaching
   going-end h a e = let z : i ≡ end = (let k : i ≤ end = g .near in omega arith) in rw e (sym (rw (z, slice-empty end (recordOf numbers), add-zero)) ∙ g .same)

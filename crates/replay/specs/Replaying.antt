@@ -11,6 +11,7 @@ use Rattle.graph.specs.Tests.{fit}
 use Rattle.graph.specs.Steps.{finishing}
 use Rattle.graph.specs.declared.FlatChart.{FlatChart}
 use Rattle.graph.specs.declared.Marking.{Marking}
+use Rattle.graph.specs.declared.steps.Step.{Step}
 use Rattle.replay.specs.Recorded.{Entry, recordOf, Reached, reaching}
 use Rattle.replay.specs.declared.Replayed.{Replayed}
 use Rattle.replay.specs.declared.Struck.{Struck}
@@ -19,7 +20,7 @@ use Rattle.replay.specs.declared.Walked.{Walked}
 -- ---- replay
 
 -- "how far the record is allowed, the marking there, the first step that isn't allowed with its code (the record's length and 0 if all are), and whether the purchase
--- was finished at that point"
+-- was finished at that point"; request (viii), "The replay carries the sets too": those of the step that stopped it, empty where none did
 abbrev pub told : FlatChart → Reached → Replayed
 told c r =
     record {
@@ -28,11 +29,13 @@ told c r =
       steps = r .steps;
       marking = r .stop .marking;
       finished = finishing c (r .stop .marking) .yes;
+      conditions = r .stop .conditions;
+      milestones = r .stop .milestones;
     }
 
 -- with 14: the marking as given, 0 steps, code 0, not finished
 abbrev pub untold : Marking → Replayed
-untold m = record { answer = refusal unfit; code = 0; steps = 0; marking = m; finished = false }
+untold m = record { answer = refusal unfit; code = 0; steps = 0; marking = m; finished = false; conditions = 0; milestones = 0 }
 
 unfoldable pub replaying : FlatChart → Marking → List ℕ → Replayed
 replaying c m numbers = cond (not (fit c m)) (untold m) (told c (reaching c m (recordOf numbers)))
@@ -48,16 +51,20 @@ oldPosition p k = cond (ltb k p) k (suc k)
 
 -- a strike that is not granted hands back the marking that it was given
 abbrev pub notStruck : ℕ → ℕ → Marking → Struck
-notStruck code place m = record { answer = answer code place 0; marking = m }
+notStruck code place m = record { answer = answer code place 0; marking = m; conditions = 0; milestones = 0 }
 
 abbrev pub struck : Marking → Struck
-struck m = record { answer = granted; marking = m }
+struck m = record { answer = granted; marking = m; conditions = 0; milestones = 0 }
+
+-- the step that fails, at this place of the old record, beside the start marking, with the sets that it carries
+abbrev pub stoppedBy : Step → ℕ → Marking → Struck
+stoppedBy s place m = record { answer = answer (s .answer .code) place 0; marking = m; conditions = s .conditions; milestones = s .milestones }
 
 -- "granted exactly if all remaining steps are allowed in their order, and then the marking is the one the shortened record gives; else the first step that fails is
 -- named by its code and old position and the start marking comes back"
 unfoldable pub struckBy : Marking → ℕ → Reached → Struck
 struckBy m p r =
-    cond (eqb (r .stop .answer .code) 0) (struck (r .stop .marking)) (notStruck (r .stop .answer .code) (placeOf (oldPosition p (r .steps))) m)
+    cond (eqb (r .stop .answer .code) 0) (struck (r .stop .marking)) (stoppedBy (r .stop) (placeOf (oldPosition p (r .steps))) m)
 
 -- "Refusals: 14, then 36, position outside the record, both before any step."
 unfoldable pub striking : FlatChart → Marking → List ℕ → ℕ → Struck

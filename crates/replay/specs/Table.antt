@@ -19,7 +19,7 @@ use Rattle.graph.specs.declared.FlatChart.{FlatChart}
 use Rattle.graph.specs.declared.Marking.{Marking}
 use Rattle.graph.specs.declared.steps.Step.{Step}
 use Rattle.replay.specs.Recorded.{recordOf, Allowed, HowFar, Reached, reached, reaching, how-far, how-far-only, reach-whole, allowed-reached}
-use Rattle.replay.specs.Replaying.{told, untold, replaying, without, oldPosition, notStruck, struck, struckBy, striking}
+use Rattle.replay.specs.Replaying.{told, untold, replaying, without, oldPosition, notStruck, stoppedBy, struck, struckBy, striking}
 use Rattle.replay.specs.declared.Replayed.{Replayed}
 use Rattle.replay.specs.declared.Struck.{Struck}
 
@@ -43,7 +43,7 @@ pub data Strikes (c : FlatChart) (m : Marking) (numbers : List ℕ) (p : ℕ) : 
   isOutside : Fit c → FitMarking (c .count) m → length (recordOf numbers) ≤ p → Strikes c m numbers p (notStruck noSuchPosition 0 m)
   isStruck : {n : Marking} → Within c m numbers p → Allowed c m (without p (recordOf numbers)) n → Strikes c m numbers p (struck n)
   isStopped : {k : ℕ} {s : Step} → Within c m numbers p → HowFar c m (without p (recordOf numbers)) k s → (s .answer .code ≡ 0 → ⊥)
-      → Strikes c m numbers p (notStruck (s .answer .code) (placeOf (oldPosition p k)) m)
+      → Strikes c m numbers p (stoppedBy s (placeOf (oldPosition p k)) m)
 
 -- ---- one row holds, and no other
 
@@ -75,7 +75,7 @@ module _ (c : FlatChart) (m : Marking) (numbers : List ℕ) (p : ℕ) where
       (λ k. record { chart = k .0 .0; marking = k .0 .1; inside = leb-false _ _ (k .1) }, λ k. ((k .chart, k .marking), lt-leb _ _ (k .inside)))
       (when (eqb (r .stop .answer .code) 0) (struck (r .stop .marking)) (λ k h. isStruck k (reach-whole c m (without p (recordOf numbers)) (eqb-true _ 0 h) .0))
       (λ k. k, λ k. k)
-      (otherwise (notStruck (r .stop .answer .code) (placeOf (oldPosition p (r .steps))) m) (λ k. isStopped (k .0) (how-far c (without p (recordOf numbers)) m) (eqb-false _ 0 (k .1))))))
+      (otherwise (stoppedBy (r .stop) (placeOf (oldPosition p (r .steps))) m) (λ k. isStopped (k .0) (how-far c (without p (recordOf numbers)) m) (eqb-false _ 0 (k .1))))))
 
   pub strikes : Strikes c m numbers p (striking c m numbers p)
   unfolding striking struckBy strikeRows firstRow
@@ -91,7 +91,7 @@ module _ (c : FlatChart) (m : Marking) (numbers : List ℕ) (p : ℕ) where
   strikes-only (isStopped w h n) =
       let e = how-far-only c h in
       let q : reaching c m (without p (recordOf numbers)) .stop .answer .code ≡ 0 → ⊥ = λ z. n (ap (λ (r : Reached). r .stop .answer .code) e ∙ z) in
-      told-only strikeRows (inr (inr (inr ((w, ne-eqb _ 0 q), ap (λ (r : Reached). notStruck (r .stop .answer .code) (placeOf (oldPosition p (r .steps))) m) e))))
+      told-only strikeRows (inr (inr (inr ((w, ne-eqb _ 0 q), ap (λ (r : Reached). stoppedBy (r .stop) (placeOf (oldPosition p (r .steps))) m) e))))
 
   pub strike-determined : (s t : Struck) → s ≡ striking c m numbers p → t ≡ striking c m numbers p → s ≡ t
   strike-determined s t = coincide
@@ -118,7 +118,8 @@ strike-kept c m numbers p n = go (strikes c m numbers p) n
 
 -- "(the record's length and 0 if all are)"
 abbrev pub allWith : FlatChart → List ℕ → Marking → Replayed
-allWith c numbers n = record { answer = granted; code = 0; steps = length (recordOf numbers); marking = n; finished = finishing c n .yes }
+allWith c numbers n =
+    record { answer = granted; code = 0; steps = length (recordOf numbers); marking = n; finished = finishing c n .yes; conditions = 0; milestones = 0 }
 
 module _ (c : FlatChart) (m : Marking) where
   pub replay-allowed : (numbers : List ℕ) {n : Marking} → Fit c → FitMarking (c .count) m → Allowed c m (recordOf numbers) n → replaying c m numbers ≡ allWith c numbers n

@@ -9,7 +9,7 @@ ghost use Rattle.graph.specs.Chart.{chartOf};
 ghost use Rattle.graph.specs.Tests.{fit};
 ghost use Rattle.graph.specs.Steps.{executing};
 ghost use Rattle.replay.specs.Recorded.{recordOf};
-ghost use Rattle.replay.specs.Replaying.{walking, walkingWithout, replaying, notStruck, striking};
+ghost use Rattle.replay.specs.Replaying.{walking, walkingWithout, replaying, notStruck, stoppedBy, striking};
 use graph::FlatChart;
 use graph::Marking;
 use graph::steps::Step;
@@ -17,7 +17,8 @@ use graph::steps::row_at;
 use paper::Answer;
 use paper::MAX_EVENTS;
 
-// What a replay gives: how many steps of the record are allowed, the code of the next one, 0 where there is none, and the marking there.
+// What a replay gives: how many steps of the record are allowed, the code of the next one, 0 where there is none, the marking there, and all that
+// blocks that step.
 #[repr(C)]
 pub struct Replayed {
     pub answer: Answer,
@@ -25,13 +26,17 @@ pub struct Replayed {
     pub steps: u64,
     pub marking: Marking,
     pub finished: bool,
+    pub conditions: u64,
+    pub milestones: u64,
 }
 
-// What a strike gives: the marking of the record without the step, or the start marking beside the refusal.
+// What a strike gives: the marking of the record without the step, or the start marking beside the refusal and all that blocks the step that fails.
 #[repr(C)]
 pub struct Struck {
     pub answer: Answer,
     pub marking: Marking,
+    pub conditions: u64,
+    pub milestones: u64,
 }
 
 // The position at which a walk over the record stopped, and what the step there gave. At the end there is none: code 0 and the marking reached.
@@ -60,6 +65,8 @@ fn step_in<'a>(
         return Step {
             answer: paper::refused(paper::NO_SUCH_EVENT, 0, 0),
             marking,
+            conditions: 0,
+            milestones: 0,
         };
     }
     let e = event as usize;
@@ -118,6 +125,8 @@ fn walk<'a>(
         stop: Step {
             answer: paper::granted(),
             marking: reached,
+            conditions: 0,
+            milestones: 0,
         },
     }
 }
@@ -158,6 +167,8 @@ pub fn replay_in<'a>(
             steps: 0,
             marking,
             finished: false,
+            conditions: 0,
+            milestones: 0,
         };
     }
     let walked = walk(
@@ -180,6 +191,8 @@ pub fn replay_in<'a>(
         steps: walked.at as u64,
         marking: there,
         finished: is_finished(there),
+        conditions: walked.stop.conditions,
+        milestones: walked.stop.milestones,
     }
 }
 
@@ -237,6 +250,20 @@ fn not_struck(marking: Marking, code: u32, place: u32) -> Struck
     Struck {
         answer: paper::refused(code, place, 0),
         marking,
+        conditions: 0,
+        milestones: 0,
+    }
+}
+
+// The step that fails, by its code, its place in the old record and all that blocks it.
+fn stopped_by(marking: Marking, stop: Step, place: u32) -> Struck
+    ensures { λ r. ⌜ r ≡ stoppedBy stop place marking ⌝ }
+{
+    Struck {
+        answer: paper::refused(stop.answer.code, place, 0),
+        marking,
+        conditions: stop.conditions,
+        milestones: stop.milestones,
     }
 }
 
@@ -284,14 +311,16 @@ pub fn strike_in<'a>(
         left_out,
         steps,
     );
-    let code = walked.stop.answer.code;
-    let shortened = walked.stop.marking;
-    if code != 0 {
-        return not_struck(marking, code, paper::place_of(walked.at));
+    let stop = walked.stop;
+    let shortened = stop.marking;
+    if stop.answer.code != 0 {
+        return stopped_by(marking, stop, paper::place_of(walked.at));
     }
     Struck {
         answer: paper::granted(),
         marking: shortened,
+        conditions: 0,
+        milestones: 0,
     }
 }
 
