@@ -14,7 +14,7 @@ use Rattle.graph.specs.Chart.{rolesOf}
 use Rattle.graph.specs.Roles.{Permits, permits, permits-so}
 use Rattle.graph.specs.Tests.{fit}
 use Rattle.graph.specs.Steps.{rowOf, unmetOf, awaitedOf, afterWith, testing, opening, handedOn, stepping, stepping-cases, steppingBy, executing}
-use Rattle.graph.specs.Execution.{Admitted, Executes, isUnfit, isGone, isForbidden, isExcluded, isWanting, isAwaiting, isDone, executes}
+use Rattle.graph.specs.Execution.{Whole, Admitted, Executes, isUnfit, isGone, isForbidden, isExcluded, isWanting, isAwaiting, isDone, executes}
 use Rattle.graph.specs.Opening.{Blocks}
 use Rattle.graph.specs.declared.FlatChart.{FlatChart}
 use Rattle.graph.specs.declared.Marking.{Marking}
@@ -33,19 +33,22 @@ module _ (c : FlatChart) (m : Marking) (e r : ℕ) where
       (λ f. cases (leb (c .count) e) (λ g. rw (f, g)) (λ g. cases (eqb (testing m e (rowOf c e) .answer .code) 0) (λ t. rw (f, g, o, t)) (λ t. rw (f, g, o, t))))
       (λ f. rw f)
 
-  admitted : {s : Step} → Executes c m e r s → Blocks (s .answer .code) → Admitted c m e r
-  admitted (isUnfit _) b = ⊎-elim (λ h. absurd (omega arith)) (λ h. absurd (omega arith)) b
-  admitted (isGone _ _ _) b = ⊎-elim (λ h. absurd (omega arith)) (λ h. absurd (omega arith)) b
-  admitted (isForbidden _ _) b = ⊎-elim (λ h. absurd (omega arith)) (λ h. absurd (omega arith)) b
-  admitted (isExcluded _ _) b = ⊎-elim (λ h. absurd (omega arith)) (λ h. absurd (omega arith)) b
-  admitted (isWanting a _ _ _) b = a
-  admitted (isAwaiting a _ _ _ _) b = a
-  admitted (isDone _ _ _) b = ⊎-elim (λ h. absurd (omega arith)) (λ h. absurd (omega arith)) b
+  held-on : {s : Step} → Executes c m e r s → Blocks (s .answer .code) → Admitted c m e r × Whole c m e (s .conditions) (s .milestones)
+  held-on (isUnfit _) b = ⊎-elim (λ h. absurd (omega arith)) (λ h. absurd (omega arith)) b
+  held-on (isGone _ _ _) b = ⊎-elim (λ h. absurd (omega arith)) (λ h. absurd (omega arith)) b
+  held-on (isForbidden _ _) b = ⊎-elim (λ h. absurd (omega arith)) (λ h. absurd (omega arith)) b
+  held-on (isExcluded _ _) b = ⊎-elim (λ h. absurd (omega arith)) (λ h. absurd (omega arith)) b
+  held-on (isWanting a _ _ w) b = (a, w)
+  held-on (isAwaiting a _ _ _ w) b = (a, w)
+  held-on (isDone _ _ _) b = ⊎-elim (λ h. absurd (omega arith)) (λ h. absurd (omega arith)) b
+
+  pub step-exact : Blocks (executing c m e r .answer .code) → Whole c m e (executing c m e r .conditions) (executing c m e r .milestones)
+  step-exact b = held-on (executes c m e r) b .1
 
   pub step-hands : Blocks (executing c m e r .answer .code)
       → (executing c m e r .conditions ≡ opening c m e .conditions) × (executing c m e r .milestones ≡ opening c m e .milestones)
   step-hands b =
-      let q = step-tests (admitted (executes c m e r) b .permitted) in
+      let q = step-tests (held-on (executes c m e r) b .0 .permitted) in
       (ap (λ (s : Step). s .conditions) q, ap (λ (s : Step). s .milestones) q)
 
   -- "Other codes carry two empty sets."
@@ -67,10 +70,10 @@ pub record StepThen : Type 0 where
   pub answer : Answer
   pub marking : Marking
 
-abbrev refusingThen : ℕ → ℕ → Marking → StepThen
+abbrev pub refusingThen : ℕ → ℕ → Marking → StepThen
 refusingThen code place m = record { answer = answer code place 0; marking = m }
 
-abbrev grantingThen : Marking → StepThen
+abbrev pub grantingThen : Marking → StepThen
 grantingThen m = record { answer = granted; marking = m }
 
 unfoldable pub steppingThen : Marking → ℕ → Row → StepThen

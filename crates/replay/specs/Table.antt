@@ -1,10 +1,12 @@
 -- What request (vii) has replay and strike give, case by case, that the calls give this and nothing else, and what follows of a granted strike. Assumes nothing.
 use Prim.Native.Nat.{ℕ, _≤_, _<_}
 use mathlib.Core.Path.{_≡_, refl, sym, ap, _∙_}
-use mathlib.Core.List.{List}
-use mathlib.Core.Logic.{_↔_, inl, inr}
+use mathlib.Core.List.{List, _∷_, _++_}
+use mathlib.Core.Logic.{_↔_, inl, inr, ⊎-elim}
 use native.Mathlib.Omega.{arith}
-use lib.ListN.{length}
+use native.Mathlib.Nat.{add-zero}
+use lib.ListN.{length, getD}
+use lib.Seq.{getD-append-add}
 use lib.Dec.{eqb, leb}
 use borrow.Author.Tests.{eqb-true, eqb-false, eq-eqb, ne-eqb, leb-true, leb-false, le-leb, lt-leb}
 use Rattle.paper.specs.Limits.{unfit, noSuchPosition}
@@ -15,10 +17,13 @@ use Rattle.graph.specs.Chart.{Fit, FitMarking}
 use Rattle.graph.specs.Tests.{fit}
 use Rattle.graph.specs.Fitness.{fit-both, both-fit}
 use Rattle.graph.specs.Steps.{finishing}
+use Rattle.graph.specs.Execution.{Whole, refused-kept}
+use Rattle.graph.specs.Opening.{Blocks}
+use Rattle.graph.specs.HandedOn.{step-exact, step-others-empty}
 use Rattle.graph.specs.declared.FlatChart.{FlatChart}
 use Rattle.graph.specs.declared.Marking.{Marking}
 use Rattle.graph.specs.declared.steps.Step.{Step}
-use Rattle.replay.specs.Recorded.{recordOf, Allowed, HowFar, Reached, reached, reaching, how-far, how-far-only, reach-whole, allowed-reached}
+use Rattle.replay.specs.Recorded.{Entry, recordOf, Allowed, HowFar, whole, until, Reached, reached, reaching, how-far, how-far-only, reach-whole, allowed-reached}
 use Rattle.replay.specs.Replaying.{told, untold, replaying, without, oldPosition, notStruck, stoppedBy, struck, struckBy, striking}
 use Rattle.replay.specs.declared.Replayed.{Replayed}
 use Rattle.replay.specs.declared.Struck.{Struck}
@@ -114,6 +119,37 @@ strike-kept c m numbers p n = go (strikes c m numbers p) n
     go (isStruck _ _) n = absurd (n refl)
     go (isStopped _ _ _) n = refl
 
+-- ---- request (viii), "The replay carries the sets too"
+
+module _ (c : FlatChart) where
+  far-blocked : {m : Marking} {l : List Entry} {k : ℕ} {s : Step} → HowFar c m l k s → Blocks (s .answer .code)
+      → (d : Entry) → Whole c (s .marking) (getD l k d .event) (s .conditions) (s .milestones)
+  far-blocked (whole a) b d = ⊎-elim (λ h. absurd (omega arith)) (λ h. absurd (omega arith)) b
+  far-blocked (until {l} {n} a x rest h) b d =
+      let q : getD (l ++ x ∷ rest) (length l) d ≡ x = rw add-zero at (getD-append-add l (x ∷ rest) 0 d) in
+      rw (q, refused-kept c n (x .event) (x .role) h) (step-exact c n (x .event) (x .role) b)
+
+  far-others : {m : Marking} {l : List Entry} {k : ℕ} {s : Step} → HowFar c m l k s → (Blocks (s .answer .code) → ⊥) → (s .conditions ≡ 0) × (s .milestones ≡ 0)
+  far-others (whole a) n = (refl, refl)
+  far-others (until {l} {n} a x rest h) o = step-others-empty c n (x .event) (x .role) o
+
+module _ (c : FlatChart) (m : Marking) (numbers : List ℕ) where
+  -- with 12 and 13 they are all that holds back the event of the next step in the marking there
+  pub replay-blocked : Blocks (replaying c m numbers .code) → (d : Entry)
+      → Whole c (replaying c m numbers .marking) (getD (recordOf numbers) (replaying c m numbers .steps) d .event) (replaying c m numbers .conditions) (replaying c m numbers .milestones)
+  replay-blocked = go (replays c m numbers)
+    where
+      go : {r : Replayed} → Replays c m numbers r → Blocks (r .code) → (d : Entry) → Whole c (r .marking) (getD (recordOf numbers) (r .steps) d .event) (r .conditions) (r .milestones)
+      go (isUnfit _) b d = ⊎-elim (λ h. absurd (omega arith)) (λ h. absurd (omega arith)) b
+      go (isTold _ _ h) b d = far-blocked c h b d
+
+  pub replay-others : (Blocks (replaying c m numbers .code) → ⊥) → (replaying c m numbers .conditions ≡ 0) × (replaying c m numbers .milestones ≡ 0)
+  replay-others = go (replays c m numbers)
+    where
+      go : {r : Replayed} → Replays c m numbers r → (Blocks (r .code) → ⊥) → (r .conditions ≡ 0) × (r .milestones ≡ 0)
+      go (isUnfit _) n = (refl, refl)
+      go (isTold _ _ h) n = far-others c h n
+
 -- ---- a record that granted steps made is allowed whole, and ends in their marking
 
 -- "(the record's length and 0 if all are)"
@@ -157,3 +193,13 @@ module _ (c : FlatChart) (m : Marking) (numbers shorter : List ℕ) (p : ℕ) (w
 
   pub strike-marking : striking c m numbers p .answer .code ≡ 0 → striking c m numbers p .marking ≡ replaying c m shorter .marking
   strike-marking z = sym (ap (λ (r : Replayed). r .marking) (shorter-replay z))
+
+  -- the sets of a strike are those of that replay
+  pub strike-sets : (striking c m numbers p .conditions ≡ replaying c m shorter .conditions) × (striking c m numbers p .milestones ≡ replaying c m shorter .milestones)
+  unfolding striking struckBy replaying
+  strike-sets =
+      cases (fit c m)
+      (λ f. cases (eqb (reaching c m (without p (recordOf numbers)) .stop .answer .code) 0)
+      (λ z. rw (f, same, lt-leb _ _ within, z, reach-whole c m (without p (recordOf numbers)) (eqb-true _ 0 z) .2) (refl, refl))
+      (λ z. rw (f, same, lt-leb _ _ within, z) (refl, refl)))
+      (λ f. rw f (refl, refl))
