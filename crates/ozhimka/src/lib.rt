@@ -3,7 +3,7 @@
 ghost use mathlib.Core.Path.{_≡_};
 ghost use lib.ListN.{length};
 ghost use Rattle.graph.specs.Chart.{chartOf};
-ghost use Rattle.graph.specs.Steps.{executing, counting, finishing};
+ghost use Rattle.graph.specs.Steps.{opening, executing, counting, finishing};
 ghost use Rattle.chart.specs.Reading.{reading};
 ghost use Rattle.replay.specs.Replaying.{replaying, striking};
 ghost use Rattle.deriver.specs.Deriving.{derivingAnswer, derivedRoom};
@@ -19,6 +19,7 @@ use deriver::Matched;
 use graph::Marking;
 use graph::steps::Finished;
 use graph::steps::OpenCount;
+use graph::steps::OpenTest;
 use graph::steps::Step;
 use indexed::IndexedCompletion;
 use indexed::ListCompletion;
@@ -60,6 +61,32 @@ pub extern "C" fn ozhimka_execute_in<'a>(
         roles,
         event,
         role,
+    )
+}
+
+#[no_mangle]
+pub extern "C" fn ozhimka_open_test_in<'a>(
+    count: u32,
+    conditions: &'a [u64; MAX_EVENTS],
+    responses: &'a [u64; MAX_EVENTS],
+    milestones: &'a [u64; MAX_EVENTS],
+    includes: &'a [u64; MAX_EVENTS],
+    excludes: &'a [u64; MAX_EVENTS],
+    roles: &'a [u8; MAX_EVENTS],
+    marking: Marking,
+    tested: u32,
+) -> OpenTest
+    ensures { λ r. ⌜ r ≡ opening (chartOf count (now (conditions .entry)) (now (responses .entry)) (now (milestones .entry)) (now (includes .entry)) (now (excludes .entry)) (now (roles .entry))) marking tested ⌝ }
+{
+    marking.open_test_in(
+        count,
+        conditions,
+        responses,
+        milestones,
+        includes,
+        excludes,
+        roles,
+        tested,
     )
 }
 

@@ -13,10 +13,12 @@ use Rattle.paper.specs.declared.Answer.{Answer}
 use Rattle.general.specs.Cases.{cases, coincide}
 use Rattle.graph.specs.Chart.{Fit, FitMarking}
 use Rattle.graph.specs.Tests.{fitChart}
-use Rattle.graph.specs.Steps.{executing, counting, finishing}
+use Rattle.graph.specs.Steps.{opening, executing, counting, finishing}
 use Rattle.graph.specs.Execution.{Executes, executes, executes-only, refused-kept, counts, count-refused, finish-refused}
+use Rattle.graph.specs.Opening.{Opens, opens, opens-only, Blocks, others-empty}
 use Rattle.graph.specs.declared.FlatChart.{FlatChart}
 use Rattle.graph.specs.declared.Marking.{Marking}
+use Rattle.graph.specs.declared.steps.OpenTest.{OpenTest}
 use Rattle.graph.specs.declared.steps.Step.{Step}
 use Rattle.graph.specs.declared.steps.OpenCount.{OpenCount}
 use Rattle.graph.specs.declared.steps.Finished.{Finished}
@@ -97,7 +99,11 @@ pub record Demand1 : Type 0 where
   pub read : (image : List ℕ) → Outcome image (reading image .answer)
   pub readOnly : (image : List ℕ) (a : Answer) → Outcome image a → a ≡ reading image .answer
   pub readRefused : (image : List ℕ) → (reading image .answer .code ≡ 0 → ⊥) → reading image ≡ refused (reading image .answer)
-  -- executing: 14, 10, 32, 11, 12, 13; a refused step returns its marking
+  -- the open test: 14, 10, 11, 12, 13; it hands back no marking, and with other codes than 12 and 13 two empty sets
+  pub openTest : (c : FlatChart) (m : Marking) (e : ℕ) → Opens c m e (opening c m e)
+  pub openTestOnly : (c : FlatChart) (m : Marking) (e : ℕ) (t : OpenTest) → Opens c m e t → t ≡ opening c m e
+  pub openTestOthers : (c : FlatChart) (m : Marking) (e : ℕ) → (Blocks (opening c m e .answer .code) → ⊥) → (opening c m e .conditions ≡ 0) × (opening c m e .milestones ≡ 0)
+  -- executing: 14, 10, 32, 11, 12, 13, with both sets in the rows of 12 and 13; a refused step returns its marking
   pub execute : (c : FlatChart) (m : Marking) (e r : ℕ) → Executes c m e r (executing c m e r)
   pub executeOnly : (c : FlatChart) (m : Marking) (e r : ℕ) (s : Step) → Executes c m e r s → s ≡ executing c m e r
   pub executeRefused : (c : FlatChart) (m : Marking) (e r : ℕ) → (executing c m e r .answer .code ≡ 0 → ⊥) → executing c m e r .marking ≡ m
@@ -171,6 +177,9 @@ demand-1 =
       read = outcome;
       readOnly = λ image a o. sym (judged image a .0 o);
       readRefused = refused-empty;
+      openTest = opens;
+      openTestOnly = λ c m e t x. opens-only c m e x;
+      openTestOthers = others-empty;
       execute = executes;
       executeOnly = λ c m e r s x. executes-only c m e x;
       executeRefused = refused-kept;

@@ -9,6 +9,7 @@ pub mod Indexes
 pub mod Lists
 pub mod Looked
 pub mod Replays
+pub mod Blocks
 pub mod Roles
 pub mod Stages
 pub mod Rows

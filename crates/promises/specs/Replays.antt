@@ -1,7 +1,7 @@
 -- Request (vii): replaying a recorded purchase. A record made by granted steps is allowed whole, a strike is the replay of the shortened record, a replay's steps are never refused
 -- for being unfit, and the list call on the derived book goes with the replay. Assumes nothing.
-use Prim.Native.Nat.{ℕ, suc, _≤_, _<_}
-use mathlib.Core.Path.{_≡_, refl, sym, ap, subst, _∙_}
+use Prim.Native.Nat.{ℕ, _≤_, _<_}
+use mathlib.Core.Path.{_≡_, refl, sym, subst}
 use mathlib.Core.Logic.{_↔_}
 use mathlib.Core.Bool.{true}
 use mathlib.Core.List.{List, [], _∷_}
@@ -57,8 +57,8 @@ step-not-unfit c m e r t z = go (executes c m e r) z
     go (isGone f k h) x = absurd (omega arith)
     go (isForbidden a n) x = absurd (omega arith)
     go (isExcluded a n) x = absurd (omega arith)
-    go (isWanting a i l) x = absurd (omega arith)
-    go (isAwaiting a i n l) x = absurd (omega arith)
+    go (isWanting a i l w) x = absurd (omega arith)
+    go (isAwaiting a i n l w) x = absurd (omega arith)
     go (isDone a b d) x = absurd (omega arith)
 
 not-unfit : (c : FlatChart) (l : List Entry) (m : Marking) → fit c m ≡ true → reaching c m l .stop .answer .code ≡ unfit → ⊥

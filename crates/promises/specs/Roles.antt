@@ -17,11 +17,11 @@ use Rattle.general.specs.Tables.{zeros-at}
 use Rattle.graph.specs.Chart.{rolesOf, Fit, FitMarking}
 use Rattle.graph.specs.Tests.{spillOf, rolesFrom, fitMarking, fitTables, fitChart, fit}
 use Rattle.graph.specs.Roles.{Permits, permits-so}
-use Rattle.graph.specs.Steps.{rowOf, refusing, stepping, steppingBy, executing}
+use Rattle.graph.specs.Steps.{rowOf, refusing, executing}
 use Rattle.graph.specs.Execution.{granted-enabled, executes-only, isForbidden, refused-kept}
+use Rattle.graph.specs.HandedOn.{StepThen, refusingThen, steppingThen, steppingByThen, executingThen, leftOut, step-as-then}
 use Rattle.graph.specs.declared.FlatChart.{FlatChart}
 use Rattle.graph.specs.declared.Marking.{Marking}
-use Rattle.graph.specs.declared.steps.Step.{Step}
 use Rattle.flattening.specs.Flattening.{flatChart}
 use Rattle.chart.specs.Reading.{reading}
 use Rattle.chart.specs.ReadingGives.{Names, granted-right, reading-names, reading-fit}
@@ -95,18 +95,18 @@ permitted-so image ok e r h = (
 
 -- ---- charts stored before
 
--- what a step was before it named a role, in the words of then
+-- what a step was before it named a role, in the words of then, which had no sets
 unfoldable pub fitBefore : FlatChart → Marking → Bool
 fitBefore c m =
     fitMarking (c .count) m
     && (leb 1 (c .count) && leb (c .count) maxEvents
     && eqb (spillOf (c .count) (c .conditions) (c .responses) (c .milestones) (c .includes) (c .excludes) maxEvents) 0)
 
-unfoldable pub executingBefore : FlatChart → Marking → ℕ → Step
+unfoldable pub executingBefore : FlatChart → Marking → ℕ → StepThen
 executingBefore c m e =
-    cond (not (fitBefore c m)) (refusing unfit 0 m)
-    (cond (leb (c .count) e) (refusing noSuchEvent 0 m)
-    (stepping m e (rowOf c e)))
+    cond (not (fitBefore c m)) (refusingThen unfit 0 m)
+    (cond (leb (c .count) e) (refusingThen noSuchEvent 0 m)
+    (steppingThen m e (rowOf c e)))
 
 module _ (c : FlatChart) (plain : c .roles ≡ replicate maxEvents 0) where
   unnamed : (n k : ℕ) → rolesFrom (c .roles) n k ≡ 0
@@ -119,17 +119,18 @@ module _ (c : FlatChart) (plain : c .roles ≡ replicate maxEvents 0) where
   fits-as-before m = rw (eq-eqb _ 0 (unnamed (c .count) (maxEvents - c .count)), and-true)
 
   -- "every step by any role 0 to 7 is what it was"
-  pub steps-as-before : (m : Marking) (e r : ℕ) → r < maxRoles → executing c m e r ≡ executingBefore c m e
-  unfolding executing steppingBy executingBefore
+  pub steps-as-before : (m : Marking) (e r : ℕ) → r < maxRoles → leftOut (executing c m e r) ≡ executingBefore c m e
+  unfolding executingThen steppingByThen executingBefore
   steps-as-before m e r h =
       let z : rolesOf c e ≡ 0 = ap (λ (l : List ℕ). getD l e 0) plain ∙ zeros-at maxEvents e in
-      rw (fits-as-before m, permits-so (rolesOf c e) r .1 (record { known = h; open-or-named = inl z }))
+      step-as-then c m e r
+      ∙ rw (fits-as-before m, permits-so (rolesOf c e) r .1 (record { known = h; open-or-named = inl z }))
 
 -- of a chart whose nodes have no upper bits: the reading is the one of then, and so is every step by a role 0 to 7
 pub record StoredChart (image : List ℕ) : Type 0 where
   pub reads : reading image ≡ readingBefore image
   pub unnamed : reading image .chart .roles ≡ replicate maxEvents 0
-  pub steps : (m : Marking) (e r : ℕ) → r < maxRoles → executing (reading image .chart) m e r ≡ executingBefore (reading image .chart) m e
+  pub steps : (m : Marking) (e r : ℕ) → r < maxRoles → leftOut (executing (reading image .chart) m e r) ≡ executingBefore (reading image .chart) m e
 
 pub stored : (image : List ℕ) → Plain image → StoredChart image
 stored image p =

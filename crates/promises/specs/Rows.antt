@@ -17,7 +17,8 @@ use Rattle.general.specs.Tables.{zeros-at}
 use Rattle.graph.specs.Chart.{rolesOf, Fit, FitMarking}
 use Rattle.graph.specs.Tests.{rowSpill, spillAt, spillOf, rolesFrom, fitTables, fitChart, fitMarking, fit}
 use Rattle.graph.specs.Roles.{Permits, permits}
-use Rattle.graph.specs.Steps.{openWith, unmetOf, awaitedOf, afterWith, stepping, steppingBy, executing, refusing, granting, finishing}
+use Rattle.graph.specs.Steps.{openWith, unmetOf, awaitedOf, afterWith, testing, stepping, steppingBy, executing, granting, finishing}
+use Rattle.graph.specs.Execution.{holding}
 use Rattle.graph.specs.Examples.{none, pair, marking}
 use Rattle.graph.specs.Examples as graph
 use Rattle.graph.specs.declared.FlatChart.{FlatChart}
@@ -71,8 +72,8 @@ module _ (r : Reading) where
   Worth m n = (matchingOf (r .chart) m .answer ≡ granted) × (worth (matchingOf (r .chart) m .snapshot .marks) ≡ n)
 
   pub record OnChart : Type 0 where
-    -- "P1: the chart's start matches 113. Executing 1 gives 12, place 0."
-    pub p1 : Worth (r .marking) 113 × (executing (r .chart) (r .marking) 1 0 ≡ refusing conditionWanting 0 (r .marking))
+    -- "P1: the chart's start matches 113. Executing 1 gives 12, place 0."; all that blocks it is condition 0
+    pub p1 : Worth (r .marking) 113 × (executing (r .chart) (r .marking) 1 0 ≡ holding conditionWanting 0 1 0 (r .marking))
     -- "P2: after 0: 119."
     pub p2 : (executing (r .chart) (r .marking) 0 0 .answer ≡ granted) × Worth after0 119
     -- "P3: then 1: 238, finished."
@@ -142,7 +143,7 @@ whole-is = examples.examples .whole
 
 -- and stage 1 is closed at the start
 on-chart : OnChart (reading wholeChart) × (snapOf (matchingOf (reading wholeChart .chart) (reading wholeChart .marking) .snapshot .marks) 1 ≡ false)
-unfolding matchingOf matchingMarks openWith worth executing steppingBy stepping permits fit fitChart fitMarking fitTables rolesFrom spillOf spillAt rowSpill has unmetOf awaitedOf afterWith trailingZeros finishing flat
+unfolding matchingOf matchingMarks openWith worth executing steppingBy stepping testing permits fit fitChart fitMarking fitTables rolesFrom spillOf spillAt rowSpill has unmetOf awaitedOf afterWith trailingZeros finishing flat
 on-chart =
     subst (λ (r : Reading). OnChart r × (snapOf (matchingOf (r .chart) (r .marking) .snapshot .marks) 1 ≡ false)) (sym whole-is)
     (record { p1 = ((refl, refl), refl); p2 = (refl, (refl, refl)); p3 = (refl, (refl, refl), refl) }, refl)

@@ -46,7 +46,19 @@ pub fn execute(body: &[u8], line: &mut [u8; LINE]) -> usize {
     let role = wire::u32_at(body, FIELDS + FLAT + MARKING + 4);
     let step = marking.execute(chart, event, role);
     let at = show::answer(line, b"execute", step.answer);
-    show::marking(line, at, step.marking)
+    let at = show::marking(line, at, step.marking);
+    show::blocking(line, at, step.conditions, step.milestones)
+}
+
+pub fn open_test(body: &[u8], line: &mut [u8; LINE]) -> usize {
+    if body.len() < FIELDS + FLAT + MARKING + 4 {
+        return show::bad_request(line);
+    }
+    let chart = fields::chart_at(body, FIELDS);
+    let marking = fields::marking_at(body, FIELDS + FLAT);
+    let test = marking.open_test(chart, wire::u32_at(body, FIELDS + FLAT + MARKING));
+    let at = show::answer(line, b"open", test.answer);
+    show::blocking(line, at, test.conditions, test.milestones)
 }
 
 pub fn count_open(body: &[u8], line: &mut [u8; LINE]) -> usize {
@@ -69,10 +81,7 @@ pub fn finished(body: &[u8], line: &mut [u8; LINE]) -> usize {
     let marking = fields::marking_at(body, FIELDS + FLAT);
     let finished = marking.finished(chart);
     let at = show::answer(line, b"finished", finished.answer);
-    if finished.yes {
-        return show::text(line, at, b" yes");
-    }
-    show::text(line, at, b" no")
+    show::yes_or_no(line, at, finished.yes)
 }
 
 pub fn matching(body: &[u8], line: &mut [u8; LINE]) -> usize {

@@ -80,10 +80,8 @@ fn replayed_line(line: &mut [u8; LINE], replayed: Replayed) -> usize {
     let at = show::number(line, at, replayed.steps);
     let at = show::number(line, at, replayed.code as u64);
     let at = show::marking(line, at, replayed.marking);
-    if replayed.finished {
-        return show::text(line, at, b" yes");
-    }
-    show::text(line, at, b" no")
+    let at = show::yes_or_no(line, at, replayed.finished);
+    show::blocking(line, at, replayed.conditions, replayed.milestones)
 }
 
 pub fn replay(body: &[u8], line: &mut [u8; LINE]) -> usize {
@@ -121,5 +119,6 @@ pub fn strike(body: &[u8], line: &mut [u8; LINE]) -> usize {
     let recorded = record_at(body, BEHIND + 8, 2 * steps);
     let struck = strike_first(chart, marking, &recorded, 2 * steps, position);
     let at = show::answer(line, b"strike", struck.answer);
-    show::marking(line, at, struck.marking)
+    let at = show::marking(line, at, struck.marking);
+    show::blocking(line, at, struck.conditions, struck.milestones)
 }

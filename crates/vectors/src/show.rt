@@ -50,10 +50,23 @@ pub fn answer(line: &mut [u8; LINE], name: &[u8], a: Answer) -> usize {
     number(line, at, a.other as u64)
 }
 
+pub fn yes_or_no(line: &mut [u8; LINE], at: usize, yes: bool) -> usize {
+    if yes {
+        return text(line, at, b" yes");
+    }
+    text(line, at, b" no")
+}
+
 pub fn marking(line: &mut [u8; LINE], at: usize, m: Marking) -> usize {
     let at = number(line, at, m.executed);
     let at = number(line, at, m.pending);
     number(line, at, m.included)
+}
+
+// All that blocks an event.
+pub fn blocking(line: &mut [u8; LINE], at: usize, conditions: u64, milestones: u64) -> usize {
+    let at = number(line, at, conditions);
+    number(line, at, milestones)
 }
 
 // The five sets of each event, and its role byte.
