@@ -1,14 +1,15 @@
--- The settled examples P4, P5 and P6, computed. Assumes nothing.
+-- The settled examples P4, P5 and P6, and two of the open test, computed. Assumes nothing.
 use Prim.Native.Nat.{ℕ}
 use mathlib.Core.Path.{_≡_, refl}
 use mathlib.Core.List.{List}
 use lib.ListN.{set, replicate}
 use lib.Count.{trailingZeros}
-use Rattle.paper.specs.Limits.{maxEvents}
+use Rattle.paper.specs.Limits.{maxEvents, notIncluded, conditionWanting}
+use Rattle.paper.specs.Answers.{answer}
 use Rattle.sets.specs.Set.{has}
 use Rattle.graph.specs.Roles.{permits}
 use Rattle.graph.specs.Tests.{rowSpill, spillAt, spillOf, rolesFrom, fitTables, fitChart, fitMarking, fit}
-use Rattle.graph.specs.Steps.{unmetOf, awaitedOf, afterWith, granting, testing, stepping, steppingBy, executing}
+use Rattle.graph.specs.Steps.{unmetOf, awaitedOf, afterWith, granting, shut, testing, opening, stepping, steppingBy, executing}
 use Rattle.graph.specs.declared.FlatChart.{FlatChart}
 use Rattle.graph.specs.declared.Marking.{Marking}
 
@@ -30,7 +31,10 @@ pub record Examples : Type 0 where
   pub p5 : executing (pair (set none 1 1) none none) (marking 0 0 2) 1 0 ≡ granting (marking 2 0 2)
   -- P6: nor an excluded pending milestone
   pub p6 : executing (pair none none (set none 1 1)) (marking 0 1 2) 1 0 ≡ granting (marking 2 1 2)
+  -- event 0 is a condition and a milestone of event 1, and pending: 12, and both sets name it; where event 1 is not included they are empty
+  pub blocks : opening (pair (set none 1 1) none (set none 1 1)) (marking 0 1 3) 1 ≡ record { answer = answer conditionWanting 0 0; conditions = 1; milestones = 1 }
+  pub excluded : opening (pair (set none 1 1) none (set none 1 1)) (marking 0 1 1) 1 ≡ shut notIncluded
 
 pub examples : Examples
-unfolding executing steppingBy stepping testing permits fit fitChart fitMarking fitTables rolesFrom spillOf spillAt rowSpill has unmetOf awaitedOf afterWith trailingZeros
-examples = record { p4 = refl; p5 = refl; p6 = refl }
+unfolding opening executing steppingBy stepping testing permits fit fitChart fitMarking fitTables rolesFrom spillOf spillAt rowSpill has unmetOf awaitedOf afterWith trailingZeros
+examples = record { p4 = refl; p5 = refl; p6 = refl; blocks = refl; excluded = refl }

@@ -52,7 +52,7 @@ pub record Awaiting (c : FlatChart) (m : Marking) (e f : ℕ) : Type 0 where
   pub pending : In (m .pending) f
 
 -- "both whole sets: included conditions not yet executed, and included milestones still pending"
-pub record Whole (c : FlatChart) (m : Marking) (e conditions milestones : ℕ) : Type 0 where
+pub record BothSets (c : FlatChart) (m : Marking) (e conditions milestones : ℕ) : Type 0 where
   pub wanting : (f : ℕ) → In conditions f ↔ Wanting c m e f
   pub awaiting : (f : ℕ) → In milestones f ↔ Awaiting c m e f
 
@@ -75,8 +75,9 @@ pub data Executes (c : FlatChart) (m : Marking) (e r : ℕ) : Step → Type 0 wh
   isGone : Fit c → FitMarking (c .count) m → c .count ≤ e → Executes c m e r (refusing noSuchEvent 0 m)
   isForbidden : Stands c m e → (Permits (rolesOf c e) r → ⊥) → Executes c m e r (refusing notPermitted 0 m)
   isExcluded : Admitted c m e r → (In (m .included) e → ⊥) → Executes c m e r (refusing notIncluded 0 m)
-  isWanting : {f x y : ℕ} → Admitted c m e r → In (m .included) e → Lowest (c .count) (Wanting c m e) f → Whole c m e x y → Executes c m e r (holding conditionWanting f x y m)
-  isAwaiting : {f x y : ℕ} → Admitted c m e r → In (m .included) e → ((g : ℕ) → Wanting c m e g → ⊥) → Lowest (c .count) (Awaiting c m e) f → Whole c m e x y
+  isWanting : {f x y : ℕ} → Admitted c m e r → In (m .included) e → Lowest (c .count) (Wanting c m e) f → BothSets c m e x y
+      → Executes c m e r (holding conditionWanting f x y m)
+  isAwaiting : {f x y : ℕ} → Admitted c m e r → In (m .included) e → ((g : ℕ) → Wanting c m e g → ⊥) → Lowest (c .count) (Awaiting c m e) f → BothSets c m e x y
       → Executes c m e r (holding milestoneWanting f x y m)
   isDone : {n : Marking} → Admitted c m e r → Enabled c m e → Executed c m e n → Executes c m e r (granting n)
 
@@ -105,10 +106,10 @@ module _ (c : FlatChart) (m : Marking) (e : ℕ) where
     λ w. has-awaited f ∙ rw (w .included, w .asked, w .pending),
   )
 
-  pub whole : Whole c m e (unmetOf m (setOf c condition e)) (awaitedOf m (setOf c milestone e))
+  pub whole : BothSets c m e (unmetOf m (setOf c condition e)) (awaitedOf m (setOf c milestone e))
   whole = record { wanting = unmet-wanting; awaiting = awaited-awaiting }
 
-  none-of : (s : ℕ) → s ≡ 0 → (f : ℕ) → In s f → ⊥
+  pub none-of : (s : ℕ) → s ≡ 0 → (f : ℕ) → In s f → ⊥
   none-of s z f h = contra h (ap (λ (x : ℕ). has x f) z ∙ has-empty f)
 
   -- "Event e is open if it is in In, each included condition of e is in Ex, and no included milestone of e is in Re."
@@ -171,7 +172,7 @@ executed-one c m e n k a b =
     ap₂ (λ (x y : ℕ). made x y (n .included)) x p ∙ ap (made (k .executed) (k .pending)) i
 
 -- no other two sets are whole
-pub whole-one : (c : FlatChart) (m : Marking) (e x y : ℕ) → Whole c m e x y → (x ≡ unmetOf m (setOf c condition e)) × (y ≡ awaitedOf m (setOf c milestone e))
+whole-one : (c : FlatChart) (m : Marking) (e x y : ℕ) → BothSets c m e x y → (x ≡ unmetOf m (setOf c condition e)) × (y ≡ awaitedOf m (setOf c milestone e))
 whole-one c m e x y w = let k = whole c m e in (same-set x _ _ (w .wanting) (k .wanting), same-set y _ _ (w .awaiting) (k .awaiting))
 
 -- ---- executing is what the paper says
@@ -224,9 +225,10 @@ module _ (c : FlatChart) (m : Marking) (e : ℕ) where
       (λ k h. isAwaiting (k .0 .0) (k .0 .1) (λ f x. some-in _ f (unmet-wanting c m e f .1 x) (k .1)) (lowest-awaiting (search) h) (whole c m e)) frees
       (otherwise (granting (after c m e)) (λ k. isDone (k .0) (k .1) (after-executed c m e))))))))
 
-  held : (code : ℕ) {f g x y : ℕ} → f ≡ g → (x ≡ unmetOf m (setOf c condition e)) × (y ≡ awaitedOf m (setOf c milestone e))
-      → holding code f x y m ≡ holding code g (unmetOf m (setOf c condition e)) (awaitedOf m (setOf c milestone e)) m
-  held code p (q, z) = rw (p, q, z)
+  -- an answer from a place and two whole sets is one
+  pub held-one : {A : Type 0} (a : ℕ → ℕ → ℕ → A) {f g x y : ℕ} → f ≡ g → BothSets c m e x y
+      → a f x y ≡ a g (unmetOf m (setOf c condition e)) (awaitedOf m (setOf c milestone e))
+  held-one a {f} {g} {x} {y} p w = let (q, z) = whole-one c m e x y w in rw (p, q, z)
 
   executing-rows : (r : ℕ) → executing c m e r ≡ firstRow (executionRows r)
   unfolding executing steppingBy executionRows firstRow
@@ -245,16 +247,16 @@ module _ (c : FlatChart) (m : Marking) (e : ℕ) where
   executes-only {r} (isGone f t g) = let h = le-leb (c .count) e g in told-executing r (search (inl, inr) depth 12)
   executes-only {r} (isForbidden s x) = let h = not-held (λ o. x (permits-so (rolesOf c e) r .0 o)) in told-executing r (search (inl, inr) depth 12)
   executes-only {r} (isExcluded s x) = let h = not-held x in told-executing r (search (inl, inr) depth 12)
-  executes-only {r} (isWanting {f} {x} {y} s i l w) =
+  executes-only {r} (isWanting {f} s i l w) =
       let h = some-in _ f (unmet-wanting c m e f .1 (l .holds)) in
       let k = not-held h in
-      let q = held conditionWanting (lowest-one (c .count) (Wanting c m e) f _ l (lowest-wanting (search) (not-so h))) (whole-one c m e x y w) in
+      let q = held-one (λ f x y. holding conditionWanting f x y m) (lowest-one (c .count) (Wanting c m e) f _ l (lowest-wanting (search) (not-so h))) w in
       told-executing r (search (inl, inr) depth 12)
-  executes-only {r} (isAwaiting {f} {x} {y} s i n l w) =
+  executes-only {r} (isAwaiting {f} s i n l w) =
       let z = eq-eqb _ 0 (none-zero (unmetOf m (setOf c condition e)) (λ g. not-so (λ h. n g (unmet-wanting c m e g .0 h)))) in
       let h = some-in _ f (awaited-awaiting c m e f .1 (l .holds)) in
       let k = not-held h in
-      let q = held milestoneWanting (lowest-one (c .count) (Awaiting c m e) f _ l (lowest-awaiting (search) (not-so h))) (whole-one c m e x y w) in
+      let q = held-one (λ f x y. holding milestoneWanting f x y m) (lowest-one (c .count) (Awaiting c m e) f _ l (lowest-awaiting (search) (not-so h))) w in
       told-executing r (search (inl, inr) depth 12)
   executes-only {r} (isDone {n} s t x) = let q = ap granting (executed-one c m e n _ x (after-executed c m e)) in told-executing r (search (inl, inr) depth 12)
 

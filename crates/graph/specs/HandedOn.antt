@@ -14,7 +14,7 @@ use Rattle.graph.specs.Chart.{rolesOf}
 use Rattle.graph.specs.Roles.{Permits, permits, permits-so}
 use Rattle.graph.specs.Tests.{fit}
 use Rattle.graph.specs.Steps.{rowOf, unmetOf, awaitedOf, afterWith, testing, opening, handedOn, stepping, stepping-cases, steppingBy, executing}
-use Rattle.graph.specs.Execution.{Whole, Admitted, Executes, isUnfit, isGone, isForbidden, isExcluded, isWanting, isAwaiting, isDone, executes}
+use Rattle.graph.specs.Execution.{BothSets, Admitted, Executes, isUnfit, isGone, isForbidden, isExcluded, isWanting, isAwaiting, isDone, executes}
 use Rattle.graph.specs.Opening.{Blocks}
 use Rattle.graph.specs.declared.FlatChart.{FlatChart}
 use Rattle.graph.specs.declared.Marking.{Marking}
@@ -33,7 +33,7 @@ module _ (c : FlatChart) (m : Marking) (e r : ℕ) where
       (λ f. cases (leb (c .count) e) (λ g. rw (f, g)) (λ g. cases (eqb (testing m e (rowOf c e) .answer .code) 0) (λ t. rw (f, g, o, t)) (λ t. rw (f, g, o, t))))
       (λ f. rw f)
 
-  held-on : {s : Step} → Executes c m e r s → Blocks (s .answer .code) → Admitted c m e r × Whole c m e (s .conditions) (s .milestones)
+  held-on : {s : Step} → Executes c m e r s → Blocks (s .answer .code) → Admitted c m e r × BothSets c m e (s .conditions) (s .milestones)
   held-on (isUnfit _) b = ⊎-elim (λ h. absurd (omega arith)) (λ h. absurd (omega arith)) b
   held-on (isGone _ _ _) b = ⊎-elim (λ h. absurd (omega arith)) (λ h. absurd (omega arith)) b
   held-on (isForbidden _ _) b = ⊎-elim (λ h. absurd (omega arith)) (λ h. absurd (omega arith)) b
@@ -42,7 +42,7 @@ module _ (c : FlatChart) (m : Marking) (e r : ℕ) where
   held-on (isAwaiting a _ _ _ w) b = (a, w)
   held-on (isDone _ _ _) b = ⊎-elim (λ h. absurd (omega arith)) (λ h. absurd (omega arith)) b
 
-  pub step-exact : Blocks (executing c m e r .answer .code) → Whole c m e (executing c m e r .conditions) (executing c m e r .milestones)
+  pub step-exact : Blocks (executing c m e r .answer .code) → BothSets c m e (executing c m e r .conditions) (executing c m e r .milestones)
   step-exact b = held-on (executes c m e r) b .1
 
   pub step-hands : Blocks (executing c m e r .answer .code)
@@ -73,7 +73,7 @@ pub record StepThen : Type 0 where
 abbrev pub refusingThen : ℕ → ℕ → Marking → StepThen
 refusingThen code place m = record { answer = answer code place 0; marking = m }
 
-abbrev pub grantingThen : Marking → StepThen
+abbrev grantingThen : Marking → StepThen
 grantingThen m = record { answer = granted; marking = m }
 
 unfoldable pub steppingThen : Marking → ℕ → Row → StepThen

@@ -12,12 +12,13 @@ use Rattle.general.specs.Cases.{contra, cases, both, either, or-right, not-so, 
 use Rattle.general.specs.Below.{tally, tally-same, Lowest, lowest-one}
 use Rattle.general.specs.Refusals.{Refusals, when, unless, otherwise, firstRow, Told, first-told, told-only, not-held}
 use Rattle.sets.specs.Set.{has, union, minus, lowest}
-use Rattle.sets.specs.Laws.{has-union, has-minus, has-empty, none-zero}
+use Rattle.sets.specs.Laws.{has-union, has-minus, none-zero}
 use Rattle.graph.specs.Chart.{condition, milestone, setOf, In, Fit, FitMarking}
 use Rattle.graph.specs.Tests.{fit}
 use Rattle.graph.specs.Fitness.{fit-both, both-fit}
 use Rattle.graph.specs.Steps.{unmetOf, awaitedOf, isOpen, shut, opened, testing, opening, counting}
-use Rattle.graph.specs.Execution.{Enabled, Wanting, Awaiting, Whole, Stands, open-enabled, whole, whole-one, lowest-wanting, lowest-awaiting, some-in, frees, counts}
+use Rattle.graph.specs.Execution.{Enabled, Wanting, Awaiting, BothSets, Stands}
+use Rattle.graph.specs.Execution.{open-enabled, whole, held-one, none-of, lowest-wanting, lowest-awaiting, some-in, frees, counts}
 use Rattle.graph.specs.declared.FlatChart.{FlatChart}
 use Rattle.graph.specs.declared.Marking.{Marking}
 use Rattle.graph.specs.declared.steps.OpenTest.{OpenTest}
@@ -34,8 +35,8 @@ pub data Opens (c : FlatChart) (m : Marking) (e : ℕ) : OpenTest → Type 0 whe
   isUnfit : (Fit c → FitMarking (c .count) m → ⊥) → Opens c m e (shut unfit)
   isGone : Fit c → FitMarking (c .count) m → c .count ≤ e → Opens c m e (shut noSuchEvent)
   isExcluded : Stands c m e → (In (m .included) e → ⊥) → Opens c m e (shut notIncluded)
-  isWanting : {f x y : ℕ} → Stands c m e → In (m .included) e → Lowest (c .count) (Wanting c m e) f → Whole c m e x y → Opens c m e (withBoth conditionWanting f x y)
-  isAwaiting : {f x y : ℕ} → Stands c m e → In (m .included) e → ((g : ℕ) → Wanting c m e g → ⊥) → Lowest (c .count) (Awaiting c m e) f → Whole c m e x y
+  isWanting : {f x y : ℕ} → Stands c m e → In (m .included) e → Lowest (c .count) (Wanting c m e) f → BothSets c m e x y → Opens c m e (withBoth conditionWanting f x y)
+  isAwaiting : {f x y : ℕ} → Stands c m e → In (m .included) e → ((g : ℕ) → Wanting c m e g → ⊥) → Lowest (c .count) (Awaiting c m e) f → BothSets c m e x y
       → Opens c m e (withBoth milestoneWanting f x y)
   isOpened : Stands c m e → Enabled c m e → Opens c m e opened
 
@@ -58,25 +59,21 @@ module _ (c : FlatChart) (m : Marking) (e : ℕ) where
   unfolding opening testing openRows firstRow
   opens = first-told openRows tt
 
-  both-one : (code : ℕ) {f g x y : ℕ} → f ≡ g → (x ≡ unmetOf m (setOf c condition e)) × (y ≡ awaitedOf m (setOf c milestone e))
-      → withBoth code f x y ≡ withBoth code g (unmetOf m (setOf c condition e)) (awaitedOf m (setOf c milestone e))
-  both-one code p (q, z) = rw (p, q, z)
-
   pub opens-only : {t : OpenTest} → Opens c m e t → t ≡ opening c m e
   unfolding opening testing openRows firstRow Told
   opens-only (isUnfit n) = let h = not-held (λ ok. let t = fit-both c m ok in n (t .0) (t .1)) in told-only openRows (search (inl, inr, tt) depth 12)
   opens-only (isGone f t g) = let h = le-leb (c .count) e g in told-only openRows (search (inl, inr) depth 12)
   opens-only (isExcluded s x) = let h = not-held x in told-only openRows (search (inl, inr) depth 12)
-  opens-only (isWanting {f} {x} {y} s i l w) =
+  opens-only (isWanting {f} s i l w) =
       let h = some-in c m e _ f (whole c m e .wanting f .1 (l .holds)) in
       let k = not-held h in
-      let q = both-one conditionWanting (lowest-one (c .count) (Wanting c m e) f _ l (lowest-wanting c m e s (not-so h))) (whole-one c m e x y w) in
+      let q = held-one c m e (withBoth conditionWanting) (lowest-one (c .count) (Wanting c m e) f _ l (lowest-wanting c m e s (not-so h))) w in
       told-only openRows (search (inl, inr) depth 12)
-  opens-only (isAwaiting {f} {x} {y} s i n l w) =
+  opens-only (isAwaiting {f} s i n l w) =
       let z = eq-eqb _ 0 (none-zero (unmetOf m (setOf c condition e)) (λ g. not-so (λ h. n g (whole c m e .wanting g .0 h)))) in
       let h = some-in c m e _ f (whole c m e .awaiting f .1 (l .holds)) in
       let k = not-held h in
-      let q = both-one milestoneWanting (lowest-one (c .count) (Awaiting c m e) f _ l (lowest-awaiting c m e s (not-so h))) (whole-one c m e x y w) in
+      let q = held-one c m e (withBoth milestoneWanting) (lowest-one (c .count) (Awaiting c m e) f _ l (lowest-awaiting c m e s (not-so h))) w in
       told-only openRows (search (inl, inr) depth 12)
   opens-only (isOpened s t) = told-only openRows (search (inl, inr) depth 12)
 
@@ -90,7 +87,7 @@ abbrev pub Blocks : ℕ → Type 0
 Blocks code = (code ≡ conditionWanting) ⊎ (code ≡ milestoneWanting)
 
 module _ (c : FlatChart) (m : Marking) (e : ℕ) where
-  held-back : {t : OpenTest} → Opens c m e t → Blocks (t .answer .code) → Stands c m e × In (m .included) e × Whole c m e (t .conditions) (t .milestones)
+  held-back : {t : OpenTest} → Opens c m e t → Blocks (t .answer .code) → Stands c m e × In (m .included) e × BothSets c m e (t .conditions) (t .milestones)
   held-back (isUnfit _) b = ⊎-elim (λ h. absurd (omega arith)) (λ h. absurd (omega arith)) b
   held-back (isGone _ _ _) b = ⊎-elim (λ h. absurd (omega arith)) (λ h. absurd (omega arith)) b
   held-back (isExcluded _ _) b = ⊎-elim (λ h. absurd (omega arith)) (λ h. absurd (omega arith)) b
@@ -99,21 +96,19 @@ module _ (c : FlatChart) (m : Marking) (e : ℕ) where
   held-back (isOpened _ _) b = ⊎-elim (λ h. absurd (omega arith)) (λ h. absurd (omega arith)) b
 
   -- with 12 and 13 they are exactly the events that hold e back
-  pub sets-exact : Blocks (opening c m e .answer .code) → Whole c m e (opening c m e .conditions) (opening c m e .milestones)
+  pub sets-exact : Blocks (opening c m e .answer .code) → BothSets c m e (opening c m e .conditions) (opening c m e .milestones)
   sets-exact b = held-back (opens c m e) b .2
-
-  some-of : (s f : ℕ) → In s f → s ≡ 0 → ⊥
-  some-of s f h z = contra h (ap (λ (x : ℕ). has x f) z ∙ has-empty f)
 
   -- 12 with a first set that is not empty, 13 with such a second one alone, or another code with two empty sets
   sorted : {t : OpenTest} → Opens c m e t
       → ((t .answer .code ≡ conditionWanting) × (t .conditions ≡ 0 → ⊥))
-      ⊎ (((t .answer .code ≡ milestoneWanting) × (t .conditions ≡ 0) × (t .milestones ≡ 0 → ⊥)) ⊎ ((Blocks (t .answer .code) → ⊥) × (t .conditions ≡ 0) × (t .milestones ≡ 0)))
+      ⊎ (((t .answer .code ≡ milestoneWanting) × (t .conditions ≡ 0) × (t .milestones ≡ 0 → ⊥))
+      ⊎ ((Blocks (t .answer .code) → ⊥) × (t .conditions ≡ 0) × (t .milestones ≡ 0)))
   sorted (isUnfit _) = inr (inr (⊎-elim (λ h. omega arith) (λ h. omega arith), refl, refl))
   sorted (isGone _ _ _) = inr (inr (⊎-elim (λ h. omega arith) (λ h. omega arith), refl, refl))
   sorted (isExcluded _ _) = inr (inr (⊎-elim (λ h. omega arith) (λ h. omega arith), refl, refl))
-  sorted (isWanting {f} _ _ l w) = inl (refl, some-of _ f (w .wanting f .1 (l .holds)))
-  sorted (isAwaiting {f} {x} _ _ n l w) = inr (inl (refl, none-zero x (λ g. not-so (λ h. n g (w .wanting g .0 h))), some-of _ f (w .awaiting f .1 (l .holds))))
+  sorted (isWanting {f} _ _ l w) = inl (refl, λ z. none-of c m e _ z f (w .wanting f .1 (l .holds)))
+  sorted (isAwaiting {f} {x} _ _ n l w) = inr (inl (refl, none-zero x (λ g. not-so (λ h. n g (w .wanting g .0 h))), λ z. none-of c m e _ z f (w .awaiting f .1 (l .holds))))
   sorted (isOpened _ _) = inr (inr (⊎-elim (λ h. omega arith) (λ h. omega arith), refl, refl))
 
   -- 12 exactly if the first set is not empty
@@ -125,7 +120,8 @@ module _ (c : FlatChart) (m : Marking) (e : ℕ) where
   -- 13 exactly if the first is empty and the second is not
   pub awaiting-told : (opening c m e .answer .code ≡ milestoneWanting) ↔ ((opening c m e .conditions ≡ 0) × (opening c m e .milestones ≡ 0 → ⊥))
   awaiting-told =
-      ⊎-elim (λ k. (λ h. absurd (omega arith), λ h. absurd (k .1 (h .0)))) (⊎-elim (λ k. (λ _. (k .1, k .2), λ _. k .0)) (λ k. (λ h. absurd (k .0 (inr h)), λ h. absurd (h .1 (k .2)))))
+      ⊎-elim (λ k. (λ h. absurd (omega arith), λ h. absurd (k .1 (h .0))))
+      (⊎-elim (λ k. (λ _. (k .1, k .2), λ _. k .0)) (λ k. (λ h. absurd (k .0 (inr h)), λ h. absurd (h .1 (k .2)))))
       (sorted (opens c m e))
 
   -- "Other codes carry two empty sets."

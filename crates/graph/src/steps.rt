@@ -186,11 +186,11 @@ impl Marking {
         }
     }
 
-    fn refused(self, code: u32, place: u32) -> Step
-        ensures { λ r. ⌜ r ≡ refusing code place self ⌝ }
+    fn refused(self, code: u32) -> Step
+        ensures { λ r. ⌜ r ≡ refusing code 0 self ⌝ }
     {
         Step {
-            answer: paper::refused(code, place, 0),
+            answer: paper::refused(code, 0, 0),
             marking: self,
             conditions: 0,
             milestones: 0,
@@ -282,7 +282,7 @@ impl Marking {
         ensures { λ r. ⌜ r ≡ steppingBy self e row role ⌝ }
     {
         if !permits(row.roles, role) {
-            return self.refused(paper::NOT_PERMITTED, 0);
+            return self.refused(paper::NOT_PERMITTED);
         }
         let test = self.test(e, row);
         if test.answer.code != 0 {
@@ -318,10 +318,10 @@ impl Marking {
             excludes,
             roles,
         ) {
-            return self.refused(paper::UNFIT, 0);
+            return self.refused(paper::UNFIT);
         }
         if count <= event {
-            return self.refused(paper::NO_SUCH_EVENT, 0);
+            return self.refused(paper::NO_SUCH_EVENT);
         }
         let e = event as usize;
         let row = row_at(

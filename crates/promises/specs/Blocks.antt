@@ -1,4 +1,4 @@
--- Request (viii): everything that blocks. What the two sets of the open test say, what the step, the replay and the strike hand on of them, and that nothing else changed. Assumes nothing.
+-- Request (viii): everything that blocks. What the open test's two sets say, that step, replay and strike hand them on, and that the step is else as it was. Assumes nothing.
 use Prim.Native.Nat.{ℕ, _<_}
 use mathlib.Core.Path.{_≡_}
 use mathlib.Core.Logic.{_↔_}
@@ -10,8 +10,9 @@ use Rattle.general.specs.Below.{tally}
 use Rattle.graph.specs.Chart.{rolesOf, In, Fit, FitMarking}
 use Rattle.graph.specs.Roles.{Permits}
 use Rattle.graph.specs.Steps.{opened, opening, handedOn, executing, counting}
-use Rattle.graph.specs.Execution.{Enabled, Whole, Stands}
-use Rattle.graph.specs.Opening.{Blocks, sets-exact, wanting-told, awaiting-told, others-empty, opened-enabled, Cleared, clear, clear-cleared, cleared-open, each-needed, counted-by-test}
+use Rattle.graph.specs.Execution.{Enabled, BothSets, Stands}
+use Rattle.graph.specs.Opening.{Blocks, sets-exact, wanting-told, awaiting-told, others-empty, opened-enabled}
+use Rattle.graph.specs.Opening.{Cleared, clear, clear-cleared, cleared-open, each-needed, counted-by-test}
 use Rattle.graph.specs.HandedOn.{step-tests, step-exact, step-hands, step-others-empty, executingThen, leftOut, step-as-then}
 use Rattle.graph.specs.declared.FlatChart.{FlatChart}
 use Rattle.graph.specs.declared.Marking.{Marking}
@@ -21,10 +22,11 @@ use Rattle.replay.specs.Table.{replay-blocked, replay-others, strike-sets}
 
 pub record EverythingThatBlocks : Type 0 where
   -- "both whole sets: included conditions not yet executed, and included milestones still pending": with 12 and 13 exactly the events that `Wanting` and `Awaiting` name
-  pub exact : (c : FlatChart) (m : Marking) (e : ℕ) → Blocks (opening c m e .answer .code) → Whole c m e (opening c m e .conditions) (opening c m e .milestones)
+  pub exact : (c : FlatChart) (m : Marking) (e : ℕ) → Blocks (opening c m e .answer .code) → BothSets c m e (opening c m e .conditions) (opening c m e .milestones)
   -- 12 exactly if the first is not empty, 13 exactly if the second alone is not
   pub wanting : (c : FlatChart) (m : Marking) (e : ℕ) → (opening c m e .answer .code ≡ conditionWanting) ↔ (opening c m e .conditions ≡ 0 → ⊥)
-  pub awaiting : (c : FlatChart) (m : Marking) (e : ℕ) → (opening c m e .answer .code ≡ milestoneWanting) ↔ ((opening c m e .conditions ≡ 0) × (opening c m e .milestones ≡ 0 → ⊥))
+  pub awaiting : (c : FlatChart) (m : Marking) (e : ℕ)
+      → (opening c m e .answer .code ≡ milestoneWanting) ↔ ((opening c m e .conditions ≡ 0) × (opening c m e .milestones ≡ 0 → ⊥))
   -- "Other codes carry two empty sets."
   pub others : (c : FlatChart) (m : Marking) (e : ℕ) → (Blocks (opening c m e .answer .code) → ⊥) → (opening c m e .conditions ≡ 0) × (opening c m e .milestones ≡ 0)
   -- 0 exactly if the event is open
@@ -41,14 +43,16 @@ pub record EverythingThatBlocks : Type 0 where
   pub stepTests : (c : FlatChart) (m : Marking) (e r : ℕ) → Permits (rolesOf c e) r → executing c m e r ≡ handedOn (opening c m e) (executing c m e r .marking)
   pub stepHands : (c : FlatChart) (m : Marking) (e r : ℕ) → Blocks (executing c m e r .answer .code)
       → (executing c m e r .conditions ≡ opening c m e .conditions) × (executing c m e r .milestones ≡ opening c m e .milestones)
-  pub stepExact : (c : FlatChart) (m : Marking) (e r : ℕ) → Blocks (executing c m e r .answer .code) → Whole c m e (executing c m e r .conditions) (executing c m e r .milestones)
+  pub stepExact : (c : FlatChart) (m : Marking) (e r : ℕ) → Blocks (executing c m e r .answer .code)
+      → BothSets c m e (executing c m e r .conditions) (executing c m e r .milestones)
   pub stepOthers : (c : FlatChart) (m : Marking) (e r : ℕ) → (Blocks (executing c m e r .answer .code) → ⊥)
       → (executing c m e r .conditions ≡ 0) × (executing c m e r .milestones ≡ 0)
   -- "code, place and order of codes don't change": the sets left out, the step is the one of before the request
   pub stepAsThen : (c : FlatChart) (m : Marking) (e r : ℕ) → leftOut (executing c m e r) ≡ executingThen c m e r
   -- "The replay carries the sets too": all that holds back the event of the step that stopped it, in the marking there
   pub replayExact : (c : FlatChart) (m : Marking) (numbers : List ℕ) → Blocks (replaying c m numbers .code) → (d : Entry)
-      → Whole c (replaying c m numbers .marking) (getD (recordOf numbers) (replaying c m numbers .steps) d .event) (replaying c m numbers .conditions) (replaying c m numbers .milestones)
+      → BothSets c (replaying c m numbers .marking) (getD (recordOf numbers) (replaying c m numbers .steps) d .event)
+      (replaying c m numbers .conditions) (replaying c m numbers .milestones)
   pub replayOthers : (c : FlatChart) (m : Marking) (numbers : List ℕ) → (Blocks (replaying c m numbers .code) → ⊥)
       → (replaying c m numbers .conditions ≡ 0) × (replaying c m numbers .milestones ≡ 0)
   -- and a strike those of the replay of the shortened record

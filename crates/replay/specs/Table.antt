@@ -17,7 +17,7 @@ use Rattle.graph.specs.Chart.{Fit, FitMarking}
 use Rattle.graph.specs.Tests.{fit}
 use Rattle.graph.specs.Fitness.{fit-both, both-fit}
 use Rattle.graph.specs.Steps.{finishing}
-use Rattle.graph.specs.Execution.{Whole, refused-kept}
+use Rattle.graph.specs.Execution.{BothSets, refused-kept}
 use Rattle.graph.specs.Opening.{Blocks}
 use Rattle.graph.specs.HandedOn.{step-exact, step-others-empty}
 use Rattle.graph.specs.declared.FlatChart.{FlatChart}
@@ -123,7 +123,7 @@ strike-kept c m numbers p n = go (strikes c m numbers p) n
 
 module _ (c : FlatChart) where
   far-blocked : {m : Marking} {l : List Entry} {k : ℕ} {s : Step} → HowFar c m l k s → Blocks (s .answer .code)
-      → (d : Entry) → Whole c (s .marking) (getD l k d .event) (s .conditions) (s .milestones)
+      → (d : Entry) → BothSets c (s .marking) (getD l k d .event) (s .conditions) (s .milestones)
   far-blocked (whole a) b d = ⊎-elim (λ h. absurd (omega arith)) (λ h. absurd (omega arith)) b
   far-blocked (until {l} {n} a x rest h) b d =
       let q : getD (l ++ x ∷ rest) (length l) d ≡ x = rw add-zero at (getD-append-add l (x ∷ rest) 0 d) in
@@ -136,10 +136,12 @@ module _ (c : FlatChart) where
 module _ (c : FlatChart) (m : Marking) (numbers : List ℕ) where
   -- with 12 and 13 they are all that holds back the event of the next step in the marking there
   pub replay-blocked : Blocks (replaying c m numbers .code) → (d : Entry)
-      → Whole c (replaying c m numbers .marking) (getD (recordOf numbers) (replaying c m numbers .steps) d .event) (replaying c m numbers .conditions) (replaying c m numbers .milestones)
+      → BothSets c (replaying c m numbers .marking) (getD (recordOf numbers) (replaying c m numbers .steps) d .event)
+      (replaying c m numbers .conditions) (replaying c m numbers .milestones)
   replay-blocked = go (replays c m numbers)
     where
-      go : {r : Replayed} → Replays c m numbers r → Blocks (r .code) → (d : Entry) → Whole c (r .marking) (getD (recordOf numbers) (r .steps) d .event) (r .conditions) (r .milestones)
+      go : {r : Replayed} → Replays c m numbers r → Blocks (r .code) → (d : Entry)
+          → BothSets c (r .marking) (getD (recordOf numbers) (r .steps) d .event) (r .conditions) (r .milestones)
       go (isUnfit _) b d = ⊎-elim (λ h. absurd (omega arith)) (λ h. absurd (omega arith)) b
       go (isTold _ _ h) b d = far-blocked c h b d
 
