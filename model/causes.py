@@ -4,13 +4,13 @@
 # only the model knows; a request whose expected line says otherwise is a mistake here and stops the program.
 
 import ozhimka as model
-from chances import (NO_ROLES, in_turn, random_chart_image, random_flat, random_nodes, random_order, random_relations, random_snapshot,
+from chances import (NO_ROLES, in_turn, random_chart_image, random_flat, random_nodes, random_order, random_relations, random_snapshot, some,
                      sound_book)
 from ozhimka import (AND, BECOME_NO, BECOME_YES, CLEAR, COMPLETED, CONDITION, EXCLUDE, GRANTED, INCLUDE, MILESTONE, NONE, NOT,
                      OR, SET, Book, FlatChart, Marking, Rule, book_image, chart_image, on_completion, without_trigger)
 from protocol import (BAD, MAX_BODY, MAX_ROOM_BYTES, MAX_ROOM_NUMBERS, MAX_STEPS, bytes16, bytes32, check_request, complete_request,
                       count_request, derive_request, execute_request, finished_request, index_request, indexed_request,
-                      list_request, listing_request, matching_request, read_request, replay_request, strike_request)
+                      list_request, listing_request, matching_request, open_request, read_request, replay_request, strike_request)
 
 FREE = (NONE, 4)
 HUGE = 0xFFFFFFFF
@@ -259,7 +259,8 @@ MARKING_CALLS = (count_request, finished_request, matching_request)
 def unfit_causes(rng):
     """Code 14 by each cause in each call that gives it; it comes before 10 to 13, 15 and 32."""
     start = Marking({0}, {1}, {0, 1, 2, 3})
-    makers = (lambda c, m: execute_request(c, m, rng.choice((0, 3, 4, 64, HUGE)), rng.choice((0, 7, 8, HUGE))),) + MARKING_CALLS
+    makers = (lambda c, m: execute_request(c, m, rng.choice((0, 3, 4, 64, HUGE)), rng.choice((0, 7, 8, HUGE))),
+              lambda c, m: open_request(c, m, rng.choice((0, 3, 4, 64, HUGE)))) + MARKING_CALLS
     for chart in unfit_flats(rng):
         fit = Marking({0}, {0}, {0}) if chart.count else model.empty_marking()  # so that the chart alone is unfit
         for maker in makers:
@@ -315,6 +316,72 @@ def step_causes(rng):
     wide.milestones[63] |= {41, 63}
     yield plain(12, 62), by_anyone(wide, Marking({40}, {63}, set(range(64))), 63)
     yield plain(13, 63), by_anyone(wide, Marking({40, 62}, {63}, set(range(64))), 63)
+
+
+def held_back():
+    """Eight events: 0, 2 and 5 are conditions of 7, and 1, 2 and 6 its milestones; 3 is its own condition and milestone; 4 is held by all."""
+    chart = model.empty_chart(8)
+    chart.conditions[7] |= {0, 2, 5}
+    chart.milestones[7] |= {1, 2, 6}
+    chart.conditions[3].add(3)
+    chart.milestones[3].add(3)
+    chart.conditions[4] |= set(range(8))
+    chart.milestones[4] |= set(range(8))
+    return chart
+
+
+def blocking_causes(rng):
+    """The open test by each of its codes, and both sets in every call that hands them on: whole with 12 and 13, empty with all others."""
+    def all_calls(chart, marking, event, answer, conditions=(), milestones=()):
+        blocks = (set(conditions), set(milestones))
+        assert model.open_test(chart, marking, event) == (answer, blocks)
+        yield answer, open_request(chart, marking, event)
+        yield answer, execute_request(chart, marking, event, rng.randrange(8))
+        if answer == GRANTED:
+            return
+        asked = (event, rng.randrange(8))
+        assert model.replay(chart, marking, [asked])[2::3] == (answer[0], blocks)
+        yield GRANTED, replay_request(chart, marking, [asked])
+        place = rng.randrange(2)  # the step that fails stands before the struck one or behind it
+        yield plain(answer[0], place), strike_request(chart, marking, 1 - place, [asked, asked])
+
+    chart, everyone = held_back(), set(range(8))
+    for event in (8, 64, 65536 + 7, 1 << 31, HUGE):
+        yield plain(10), open_request(chart, Marking(set(), everyone, everyone), event)
+    yield from all_calls(chart, Marking(set(), everyone, everyone), 8, plain(10))
+    for marking in (Marking(set(), everyone, everyone - {7}), Marking(everyone, set(), everyone - {7}), model.empty_marking()):
+        yield from all_calls(chart, marking, 7, plain(11))  # both sets empty, though conditions and milestones stand in the way
+    # in the way: all, some, one; as conditions until they ran, as milestones while they are pending; not where they are not included
+    for executed, pending, included, answer, conditions, milestones in (
+            ((), everyone, everyone, plain(12, 0), {0, 2, 5}, {1, 2, 6}), ((), (), everyone, plain(12, 0), {0, 2, 5}, ()),
+            ({0}, {6}, everyone, plain(12, 2), {2, 5}, {6}), ({0, 2}, {2, 5}, everyone, plain(12, 5), {5}, {2}),
+            ({0, 2, 5}, everyone, everyone, plain(13, 1), (), {1, 2, 6}), (everyone, {0, 6, 7}, everyone, plain(13, 6), (), {6}),
+            ((), everyone, {2, 7}, plain(12, 2), {2}, {2}), ((), everyone, {5, 6, 7}, plain(12, 5), {5}, {6}),
+            ((), everyone, {1, 6, 7}, plain(13, 1), (), {1, 6}), ((), {1}, {1, 7}, plain(13, 1), (), {1}),
+            ((), everyone, {3, 4, 7}, GRANTED, (), ()), ({0, 2, 5}, {0, 3, 5}, everyone, GRANTED, (), ())):
+        yield from all_calls(chart, Marking(set(executed), set(pending), set(included)), 7, answer, conditions, milestones)
+    for executed, pending, answer, conditions, milestones in (((), {3}, plain(12, 3), {3}, {3}), ({3}, {3}, plain(13, 3), (), {3}), ((), (), plain(12, 3), {3}, ())):
+        yield from all_calls(chart, Marking(set(executed), set(pending), everyone), 3, answer, conditions, milestones)
+    for _ in range(3):
+        executed, pending = some(rng, everyone, 0.5), some(rng, everyone, 0.5)
+        conditions, milestones = everyone - executed, pending
+        answer = plain(12, min(conditions)) if conditions else plain(13, min(milestones)) if milestones else GRANTED
+        yield from all_calls(chart, Marking(executed, pending, everyone), 4, answer, conditions, milestones)
+    named = with_roles(chart, {7: {1, 2}})
+    for role in (0, 8):  # nobody's role is asked for in the open test; a step by another role carries two empty sets
+        for marking, answer in ((Marking(set(), everyone, everyone), plain(12, 0)), (Marking({0, 2, 5}, {1}, everyone), plain(13, 1))):
+            yield plain(32), execute_request(named, marking, 7, role)
+            yield GRANTED, replay_request(named, marking, [(7, role)])
+            yield plain(32, 0), strike_request(named, marking, 1, [(7, role), (0, 0)])
+            yield answer, open_request(named, marking, 7)
+    for count in (63, 64):
+        wide, others = model.empty_chart(count), set(range(count))
+        wide.conditions[count - 1] |= others
+        wide.milestones[count - 1] |= others
+        yield from all_calls(wide, Marking(set(), others, others), count - 1, plain(12, 0), others, others)
+        yield from all_calls(wide, Marking({0}, others - {5}, others - {1}), count - 1, plain(12, 2), others - {0, 1}, others - {1, 5})
+        yield from all_calls(wide, Marking(others, others & {40, 62}, others), count - 1, plain(13, 40), (), {40, 62})
+        yield from all_calls(wide, Marking(others, set(), others), count - 1, GRANTED)
 
 
 def role_causes(rng):
@@ -1098,11 +1165,11 @@ def firing_causes(rng):
 def bad_requests(rng):
     """Unknown operations and bodies too short for their fields; the program goes on."""
     chart, start = model.empty_chart(1), model.empty_marking()
-    for operation in (b'\x00', b'\x0c', b'\x11', b'\x13', b'\xff'):
+    for operation in (b'\x00', b'\x0f', b'\x10', b'\x11', b'\x13', b'\x20', b'\xff'):
         yield BAD, operation
         yield BAD, operation + rng.randbytes(20)
     whole = (execute_request(chart, start, 0, 0), count_request(chart, start), finished_request(chart, start),
-             matching_request(chart, start), derive_request(100, chart))
+             matching_request(chart, start), derive_request(100, chart), open_request(chart, start, 0))
     for body in whole:
         yield BAD, body[:-1]
         yield BAD, body[:1]
@@ -1160,7 +1227,7 @@ def request_limits(rng):
     yield BAD, complete_request(0, [True] + [False] * 255, order + [0], image)
     yield BAD, with_number32(complete_request(0, [True] + [False] * 255, [0, 2, 3], image), 37, HUGE)
     bodies = [make(chart, start) for make in (count_request, finished_request, matching_request)] \
-        + [execute_request(chart, start, 0, 0), derive_request(200, chart)]
+        + [execute_request(chart, start, 0, 0), open_request(chart, start, 0), derive_request(200, chart)]
     for body in bodies:
         for behind in (1, 100):
             yield GRANTED, body + rng.randbytes(behind)
@@ -1197,8 +1264,8 @@ FORBIDS = ((11, [(2, 0), (5, 0), (2, 0)], 1), (13, [(1, 0), (4, 2), (4, 2)], 1))
 def of_replay(chart, start, record, steps, code, done):
     """A replay that is granted, with how far it is meant to go, the code there, and whether it is finished there."""
     meant = (GRANTED, steps, code, done)
-    answer, told, stopped, marking, finished = model.replay(chart, start, record)
-    assert (answer, told, stopped, finished) == meant, (record, meant)
+    answer, told, stopped, marking, finished, blocks = model.replay(chart, start, record)
+    assert (answer, told, stopped, finished) == meant and (blocks != model.NOTHING) == (code in (12, 13)), (record, meant)
     return GRANTED, replay_request(chart, start, record)
 
 
@@ -1471,7 +1538,7 @@ def listing_causes(rng):
 
 
 CAUSES = (header_causes, node_causes, group_causes, conflict_causes, accepted_charts, charts_with_roles, unfit_causes, step_causes,
-          role_causes, marking_causes, derive_causes, book_header_causes, rule_causes, condition_causes, loop_causes, stage_loop_causes,
+          blocking_causes, role_causes, marking_causes, derive_causes, book_header_causes, rule_causes, condition_causes, loop_causes, stage_loop_causes,
           looping_stage_causes, whole_book_causes, clash_causes, order_causes, order_room_causes, pair_causes, index_room_causes,
           unfit_index_causes, indexed_causes, list_causes, list_order_causes, evaluated_causes, running_order_causes, firing_causes,
           bad_requests, request_limits, listing_causes, replay_causes, strike_causes, unfit_record_causes)

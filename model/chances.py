@@ -3,8 +3,8 @@
 import ozhimka as model
 from ozhimka import AND, NONE, NOT, OR, Book, Marking, Rule
 from protocol import (FLAT_BYTES, check_request, complete_request, count_request, derive_request, execute_request,
-                      finished_request, index_request, indexed_request, list_request, listing_request, matching_request, read_request,
-                      replay_request, strike_request)
+                      finished_request, index_request, indexed_request, list_request, listing_request, matching_request, open_request,
+                      read_request, replay_request, strike_request)
 
 
 def some(rng, population, chance):
@@ -395,6 +395,22 @@ def steps(rng):
     yield execute_request(chart, marking, event, random_role(rng, chart, event))
     makers = (count_request, finished_request, matching_request)
     yield rng.choice(makers)(chart, marking)
+    included = marking.included | {event} if rng.random() < 0.7 else marking.included
+    marking = marking._replace(included=included)
+    cleared_opens(chart, marking, event)
+    yield open_request(chart, marking, event if rng.random() < 0.95 else rng.choice((chart.count, 64, 65536 + event)))
+
+
+def cleared_opens(chart, marking, event):
+    """Once the conditions of the first set have run and the milestones of the second are no longer pending, the event is open; each of
+    them alone holds it back."""
+    (code, place, _), blocks = model.open_test(chart, marking, event)
+    cleared = marking._replace(executed=marking.executed | blocks.conditions, pending=marking.pending - blocks.milestones)
+    assert model.open_test(chart, cleared, event)[0] == ((11, 0, 0) if code == 11 else model.GRANTED)
+    for f in blocks.conditions:
+        assert model.open_test(chart, cleared._replace(executed=cleared.executed - {f}), event) == ((12, f, 0), ({f}, set()))
+    for f in blocks.milestones:
+        assert model.open_test(chart, cleared._replace(pending=cleared.pending | {f}), event) == ((13, f, 0), (set(), {f}))
 
 
 def random_record(rng, chart, marking):
@@ -596,10 +612,11 @@ def run_of_both(rng, chart, marking, steps_to_go):
         event = rng.choice(opened) if opened and rng.random() < 0.8 else rng.randrange(chart.count)
         role, before = random_role(rng, chart, event), marking
         yield execute_request(chart, marking, event, role)
-        stepped, marking = model.execute(chart, marking, event, role)
+        stepped, marking, blocks = model.execute(chart, marking, event, role)
         if not model.is_permitted(chart, event, role):
-            assert stepped == (32, 0, 0) and marking == before
+            assert stepped == (32, 0, 0) and marking == before and blocks == model.NOTHING
             continue
+        assert (stepped, blocks) == model.open_test(chart, before, event)
         if event not in orders:
             orders[event] = random_order(rng, derived, event) if freely else model.running_order(derived, event)
         yield complete_request(event, snapshot, orders[event], book)
@@ -614,6 +631,7 @@ def run_of_both(rng, chart, marking, steps_to_go):
             yield indexed_request(event, begun, model.index_of(book), book)
         if rng.random() < 0.2:
             yield rng.choice((count_request, finished_request, matching_request))(chart, marking)
+            yield open_request(chart, marking, rng.randrange(chart.count))
     yield list_request(first, taken, model.index_of(book), book)  # the whole run as one list, which stops at the first refused step
 
 
@@ -672,8 +690,8 @@ def damaged_flats(rng):
     for _ in range(rng.choice((1, 1, 2))):
         places = rng.choice(((5, roles_at), (5, len(body) - 8), (roles_at, roles_at + 64), (roles_at + chart.count - 1, roles_at + 64)))
         body[rng.randrange(*places)] ^= 1 << rng.randrange(8)
-    body[0] = rng.choice((2, 3, 4, 5))
-    yield bytes(body) if body[0] == 2 else bytes(body[:-8])
+    body[0] = rng.choice((2, 3, 4, 5, 14))
+    yield bytes(body) if body[0] in (2, 14) else bytes(body[:-8])
 
 
 SMALL = (charts, wild_checks, wild_completions, circles, crowded_books, sound_books, sound_runs, indexes, lists,

@@ -172,12 +172,16 @@ def refuse_unfit(chart, marking):
 
 # ---- Steps
 
+Blocking = namedtuple('Blocking', 'conditions milestones')
+NOTHING = Blocking(frozenset(), frozenset())
+
+
 def wanting_conditions(chart, marking, e):
-    return [f for f in chart.conditions[e] if f in marking.included and f not in marking.executed]
+    return {f for f in chart.conditions[e] if f in marking.included and f not in marking.executed}
 
 
 def wanting_milestones(chart, marking, e):
-    return [f for f in chart.milestones[e] if f in marking.included and f in marking.pending]
+    return {f for f in chart.milestones[e] if f in marking.included and f in marking.pending}
 
 
 def is_open(chart, marking, e):
@@ -195,26 +199,50 @@ def is_permitted(chart, event, role):
     return role <= 7 and (not chart.roles[event] or role in chart.roles[event])
 
 
+def refuse_shut(chart, marking, event):
+    """Refusals 11 to 13."""
+    refuse_if(11, event not in marking.included)
+    refuse_lowest(12, wanting_conditions(chart, marking, event))
+    refuse_lowest(13, wanting_milestones(chart, marking, event))
+
+
+def blocking(chart, marking, event, code):
+    """Both whole sets: the included conditions not yet executed, and the included milestones still pending. Codes other than 12 and 13
+    carry two empty sets."""
+    if code not in (12, 13):
+        return NOTHING
+    return Blocking(wanting_conditions(chart, marking, event), wanting_milestones(chart, marking, event))
+
+
+def open_test(chart, marking, event):
+    """The answer and everything that blocks; nobody's role is asked for."""
+    try:
+        refuse_unfit(chart, marking)
+        refuse_if(10, event >= chart.count)
+        refuse_shut(chart, marking, event)
+    except Refused as refused:
+        return refused.answer, blocking(chart, marking, event, refused.answer[0])
+    return GRANTED, NOTHING
+
+
 def step(chart, marking, event, role):
-    """A step of a chart and a marking that are fit."""
+    """A step of a chart and a marking that are fit: the answer, the marking and what blocks."""
     try:
         refuse_if(10, event >= chart.count)
         refuse_if(32, not is_permitted(chart, event, role))
-        refuse_if(11, event not in marking.included)
-        refuse_lowest(12, wanting_conditions(chart, marking, event))
-        refuse_lowest(13, wanting_milestones(chart, marking, event))
+        refuse_shut(chart, marking, event)
     except Refused as refused:
-        return refused.answer, marking
+        return refused.answer, marking, blocking(chart, marking, event, refused.answer[0])
     return GRANTED, Marking(executed=marking.executed | {event},
                             pending=(marking.pending - {event}) | chart.responses[event],
-                            included=(marking.included - chart.excludes[event]) | chart.includes[event])
+                            included=(marking.included - chart.excludes[event]) | chart.includes[event]), NOTHING
 
 
 def execute(chart, marking, event, role):
     try:
         refuse_unfit(chart, marking)
     except Refused as refused:
-        return refused.answer, marking
+        return refused.answer, marking, NOTHING
     return step(chart, marking, event, role)
 
 
@@ -223,7 +251,7 @@ def count_open(chart, marking):
         refuse_unfit(chart, marking)
     except Refused as refused:
         return refused.answer, 0, 64
-    opened = open_events(chart, marking)
+    opened = [e for e in range(chart.count) if open_test(chart, marking, e) == (GRANTED, NOTHING)]
     return GRANTED, len(opened), min(opened, default=64)
 
 
@@ -238,14 +266,15 @@ def finished(chart, marking):
 # ---- Replaying a recorded purchase: a record is a list of (event, role) pairs
 
 def how_far(chart, start, record):
-    """How many steps are allowed, the code of the first that is not (the record's length and 0 if all are), the marking there."""
+    """How many steps are allowed, the code of the first that is not (the record's length and 0 if all are), the marking there, and what
+    blocks that step."""
     marking = start
     for position, (event, role) in enumerate(record):
-        answer, after = step(chart, marking, event, role)
+        answer, after, blocks = step(chart, marking, event, role)
         if answer != GRANTED:
-            return position, answer[0], marking
+            return position, answer[0], marking, blocks
         marking = after
-    return len(record), 0, marking
+    return len(record), 0, marking, NOTHING
 
 
 def replay(chart, start, record):
@@ -253,22 +282,23 @@ def replay(chart, start, record):
     try:
         refuse_unfit(chart, start)
     except Refused as refused:
-        return refused.answer, 0, 0, start, False
-    steps, code, marking = how_far(chart, start, record)
-    return GRANTED, steps, code, marking, finished(chart, marking)[1]
+        return refused.answer, 0, 0, start, False, NOTHING
+    steps, code, marking, blocks = how_far(chart, start, record)
+    return GRANTED, steps, code, marking, finished(chart, marking)[1], blocks
 
 
 def strike(chart, start, position, record):
     """Replays the record without the step at one position; a step that fails is named by its old position."""
+    blocks = NOTHING
     try:
         refuse_unfit(chart, start)
         refuse_if(36, position >= len(record))
-        steps, code, marking = how_far(chart, start, record[:position] + record[position + 1:])
+        steps, code, marking, blocks = how_far(chart, start, record[:position] + record[position + 1:])
         if code:
             raise Refused(code, steps if steps < position else steps + 1)
     except Refused as refused:
-        return refused.answer, start
-    return GRANTED, marking
+        return refused.answer, start, blocks
+    return GRANTED, marking, blocks
 
 
 # ---- Rule book
@@ -906,18 +936,39 @@ def replay_examples():
     chart.responses[0].add(1)
     start, made = Marking(set(), set(), {0, 1, 2}), [(0, 0), (2, 5), (1, 7)]
     end = Marking({0, 1, 2}, set(), {0, 1, 2})
-    assert replay(chart, start, made) == (GRANTED, 3, 0, end, True) and replay(chart, start, []) == (GRANTED, 0, 0, start, True)
-    ordered = Marking({0}, {1}, {0, 1, 2})
-    assert replay(chart, start, [(0, 0), (3, 0), (1, 0)]) == (GRANTED, 1, 10, ordered, False)
-    assert replay(chart, start, [(0, 0), (1, 8)]) == (GRANTED, 1, 32, ordered, False)
-    assert replay(chart, start, [(2, 0), (1, 0)]) == (GRANTED, 1, 12, Marking({2}, set(), {0, 1, 2}), True)
-    assert strike(chart, start, 1, made) == (GRANTED, Marking({0, 1}, set(), {0, 1, 2}))
-    assert strike(chart, start, 0, made) == ((12, 2, 0), start) and strike(chart, start, 2, made[:2] + [(9, 0)])[0] == GRANTED
-    assert strike(chart, start, 2, [(1, 0)] + made) == ((12, 0, 0), start)
+    assert replay(chart, start, made) == (GRANTED, 3, 0, end, True, NOTHING)
+    assert replay(chart, start, []) == (GRANTED, 0, 0, start, True, NOTHING)
+    ordered, blocks = Marking({0}, {1}, {0, 1, 2}), Blocking({0}, set())
+    assert replay(chart, start, [(0, 0), (3, 0), (1, 0)]) == (GRANTED, 1, 10, ordered, False, NOTHING)
+    assert replay(chart, start, [(0, 0), (1, 8)]) == (GRANTED, 1, 32, ordered, False, NOTHING)
+    assert replay(chart, start, [(2, 0), (1, 0)]) == (GRANTED, 1, 12, Marking({2}, set(), {0, 1, 2}), True, blocks)
+    assert strike(chart, start, 1, made) == (GRANTED, Marking({0, 1}, set(), {0, 1, 2}), NOTHING)
+    assert strike(chart, start, 0, made) == ((12, 2, 0), start, blocks) and strike(chart, start, 2, made[:2] + [(9, 0)])[0] == GRANTED
+    assert strike(chart, start, 2, [(1, 0)] + made) == ((12, 0, 0), start, blocks)
     for position, record in ((3, made), (0, []), ((1 << 32) - 1, made)):
-        assert strike(chart, start, position, record) == ((36, 0, 0), start)
+        assert strike(chart, start, position, record) == ((36, 0, 0), start, NOTHING)
     beyond = Marking({3}, set(), set())
-    assert replay(chart, beyond, made) == ((14, 0, 0), 0, 0, beyond, False) and strike(chart, beyond, 3, made) == ((14, 0, 0), beyond)
+    assert replay(chart, beyond, made) == ((14, 0, 0), 0, 0, beyond, False, NOTHING)
+    assert strike(chart, beyond, 3, made) == ((14, 0, 0), beyond, NOTHING)
+
+
+def blocking_examples():
+    """The paper's chart: 0 blocks 1 from the start. Then four events that block a fifth, the last two as milestones."""
+    answer, chart, start = read_chart(PAPER_CHART)
+    assert open_test(chart, start, 0) == (GRANTED, NOTHING) and open_test(chart, start, 1) == ((12, 0, 0), Blocking({0}, set()))
+    assert execute(chart, start, 1, 0) == ((12, 0, 0), start, Blocking({0}, set()))
+    five = empty_chart(5)
+    five.conditions[4] |= {0, 1}
+    five.milestones[4] |= {2, 3}
+    for out, code, blocks in ((set(), (12, 0, 0), Blocking({0, 1}, {2, 3})), ({0}, (12, 1, 0), Blocking({1}, {2, 3})), ({1, 2}, (12, 0, 0), Blocking({0}, {3})),
+                              ({0, 1}, (13, 2, 0), Blocking(set(), {2, 3})), ({0, 1, 2}, (13, 3, 0), Blocking(set(), {3})), ({0, 1, 2, 3}, GRANTED, NOTHING),
+                              ({4}, (11, 0, 0), NOTHING)):
+        everyone = set(range(5))
+        for marking in (Marking(set(), everyone, everyone - out), Marking(out & {0, 1}, everyone - out, everyone - (out & {4}))):
+            assert open_test(five, marking, 4) == (code, blocks) and execute(five, marking, 4, 0)[::2] == (code, blocks)
+            assert execute(five, marking, 4, 8)[::2] == ((32, 0, 0), NOTHING) and open_test(five, marking, 5) == ((10, 0, 0), NOTHING)
+            assert replay(five, marking, [(4, 0)])[2::3] == (code[0], blocks)
+            assert strike(five, marking, 1, [(4, 0)] * 2)[::2] == ((code[0], 0, 0), blocks)  # named by its position
 
 
 def orders_agree():
@@ -953,5 +1004,6 @@ if __name__ == '__main__':
         list_examples()
         evaluated_examples()
         replay_examples()
+        blocking_examples()
         orders_agree()
         print('the settled examples hold')

@@ -93,6 +93,10 @@ def strike_request(chart, marking, position, record):
     return b'\x0d' + flat_bytes(chart) + marking_bytes(marking) + bytes32(position) + record_bytes(record)
 
 
+def open_request(chart, marking, event):
+    return b'\x0e' + flat_bytes(chart) + marking_bytes(marking) + bytes32(event)
+
+
 def listing_request(image):
     return bytes([LISTING]) + image
 
@@ -143,8 +147,8 @@ def line_for(body):
     operation = body[0]
     if operation == 1:
         return read_line(body)
-    if operation in (2, 3, 4, 5):
-        needed = 1 + FLAT_BYTES + MARKING_BYTES + (8 if operation == 2 else 0)
+    if operation in (2, 3, 4, 5, 14):
+        needed = 1 + FLAT_BYTES + MARKING_BYTES + {2: 8, 14: 4}.get(operation, 0)
         return chart_line(operation, body) if len(body) >= needed else BAD
     if operation == 6:
         return derive_line(body) if len(body) >= 5 + FLAT_BYTES else BAD
@@ -179,14 +183,17 @@ def chart_line(operation, body):
     marking = marking_at(body, 1 + FLAT_BYTES)
     if operation == 2:
         event, role = [model.number32(body, 1 + FLAT_BYTES + MARKING_BYTES + at) for at in (0, 4)]
-        answer, after = model.execute(chart, marking, event, role)
-        return line('execute', answer, [worth(entry) for entry in after])
+        answer, after, blocks = model.execute(chart, marking, event, role)
+        return line('execute', answer, [worth(entry) for entry in after + blocks])
     if operation == 3:
         answer, count, lowest = model.count_open(chart, marking)
         return line('count', answer, [count, lowest])
     if operation == 4:
         answer, yes = model.finished(chart, marking)
         return line('finished', answer, ['yes' if yes else 'no'])
+    if operation == 14:
+        answer, blocks = model.open_test(chart, marking, model.number32(body, 1 + FLAT_BYTES + MARKING_BYTES))
+        return line('open', answer, [worth(entry) for entry in blocks])
     answer, snapshot = model.matching(chart, marking)
     return line('matching', answer, snapshot_words(snapshot))
 
@@ -257,10 +264,11 @@ def record_at(body, at):
 def record_line(operation, body, record):
     chart, start = flat_at(body, 1), marking_at(body, 1 + FLAT_BYTES)
     if operation == 12:
-        answer, steps, code, marking, yes = model.replay(chart, start, record)
-        return line('replay', answer, [steps, code] + [worth(entry) for entry in marking] + ['yes' if yes else 'no'])
-    answer, marking = model.strike(chart, start, model.number32(body, 1 + FLAT_BYTES + MARKING_BYTES), record)
-    return line('strike', answer, [worth(entry) for entry in marking])
+        answer, steps, code, marking, yes, blocks = model.replay(chart, start, record)
+        values = [steps, code] + [worth(entry) for entry in marking] + ['yes' if yes else 'no'] + [worth(entry) for entry in blocks]
+        return line('replay', answer, values)
+    answer, marking, blocks = model.strike(chart, start, model.number32(body, 1 + FLAT_BYTES + MARKING_BYTES), record)
+    return line('strike', answer, [worth(entry) for entry in marking + blocks])
 
 
 def listing_line(body):
