@@ -8,11 +8,13 @@
 // A line that begins with `list` is a list of events, as `list 5 6 7 by 1`, or without `by` and the role as above: their stages are completed
 // in one call, one after another up to the first that is refused.
 // A line `strike 2` takes back the step at that position of the steps so far, from 0, if the others are allowed without it; `replay` goes
-// through them again from the start, as one does with a record that was kept, and says whether that ends where the controller stands.
+// through them again from the start, as one does with a record that was kept, and says whether that ends where the controller stands. A line
+// `test 5` asks whether that event is open, and takes no step.
 // At the start it prints the open stages, and `finished` where no included event is pending. Each step gets one line: the same after it with
 // the number of rules that its completion evaluated, or the refusal, which leaves everything as it was and does not count as a failure. A list
-// gets the refusal, if there is one, with the position as place, and the open stages in any case, since what was granted before it stands. A line that is no step is said on standard error and
-// passed over, an empty one in silence; one of over 1,024 characters, which may be no text at all, ends the run.
+// gets the refusal, if there is one, with the position as place, and the open stages in any case, since what was granted before it stands.
+// With a refused event stands all that blocks it, by the names of the chart's text where that stands beside the image. A line that is no step
+// is said on standard error and passed over, an empty one in silence; one of over 1,024 characters, which may be no text at all, ends the run.
 // Exit status: 0; 1 if the chart is refused or a line was no step; 2 usage, or no such chart; 3 if input or output failed.
 #include "ozhimka.h"
 
@@ -35,13 +37,48 @@ static struct ozhimka_recorded record[LONGEST_RECORD]; // the steps that were gr
 static size_t recorded;
 static struct ozhimka_marking start;
 
+enum { LONGEST_NAME = 64 };
+static char names[OZHIMKA_MAX_EVENTS][LONGEST_NAME]; // of the events
+static bool named;
+
+static void say_refusal(FILE *file, const char *call, struct ozhimka_answer answer)
+{
+    fprintf(file, "%s refused: code %" PRIu32 ", place %" PRIu32 ", other %" PRIu32 ": %s", call, answer.code, answer.place, answer.other,
+            ozhimka_reason(answer.code));
+}
+
 static bool granted(FILE *file, const char *call, struct ozhimka_answer answer)
 {
     if (answer.code == OZHIMKA_GRANTED)
         return true;
-    fprintf(file, "%s refused: code %" PRIu32 ", place %" PRIu32 ", other %" PRIu32 ": %s\n", call, answer.code, answer.place,
-            answer.other, ozhimka_reason(answer.code));
+    say_refusal(file, call, answer);
+    fprintf(file, "\n");
     return false;
+}
+
+static void say_events(const char *sort, const char *state, uint64_t set)
+{
+    if (set != 0)
+        printf("; %s%s %s: ", sort, (set & (set - 1)) == 0 ? "" : "s", state);
+    for (uint64_t left = set; left != 0; left &= left - 1) {
+        uint32_t e = 0;
+        while ((left >> e & 1) == 0)
+            e++;
+        if (named)
+            printf("%s%s", left == set ? "" : ", ", names[e]);
+        else
+            printf("%sevent %" PRIu32, left == set ? "" : ", ", e);
+    }
+}
+
+// Ends the line of a refused event with why the chart refuses it: all that blocks it, or that it is not included.
+static void print_blocking(uint32_t code, uint64_t conditions, uint64_t milestones)
+{
+    if (code == OZHIMKA_NOT_INCLUDED)
+        printf("; %s", ozhimka_reason(code));
+    say_events("condition", "not yet executed", conditions);
+    say_events("milestone", "still pending", milestones);
+    printf("\n");
 }
 
 static bool read_file(const char *name)
@@ -55,6 +92,31 @@ static bool read_file(const char *name)
     if (file != NULL)
         fclose(file);
     return good;
+}
+
+// The events' names, from the text beside the image (`x.txt` beside `x.chart`) if it is there and has as many events. Its lines `event NAME`
+// stand in the order of the events' numbers.
+static void load_names(const char *path)
+{
+    char text[1024], line[1024], word[LONGEST_NAME], name[LONGEST_NAME];
+    const char *end = strrchr(path, '.');
+    size_t stem = end == NULL || strchr(end, '/') != NULL ? strlen(path) : (size_t)(end - path);
+    if (stem + sizeof ".txt" > sizeof text)
+        return;
+    snprintf(text, sizeof text, "%.*s.txt", (int)stem, path);
+    FILE *file = fopen(text, "r");
+    if (file == NULL)
+        return;
+    uint32_t count = 0;
+    while (count <= chart.count && fgets(line, sizeof line, file) != NULL) {
+        if (sscanf(line, "%63s %63[^ \t\r\n#]", word, name) != 2 || strcmp(word, "event") != 0)
+            continue;
+        if (count < chart.count)
+            memcpy(names[count], name, sizeof name);
+        count++;
+    }
+    named = count == chart.count;
+    fclose(file);
 }
 
 static bool load(void)
@@ -166,13 +228,15 @@ static bool read_word(const struct line *line, size_t *at, const char *word)
     return true;
 }
 
-enum command { STEP, STRIKE, REPLAY };
+enum command { STEP, STRIKE, REPLAY, TEST };
 
 // The command that a line begins with, a step where it is no word of the others; goes behind it.
 static enum command read_command(const struct line *line, size_t *at)
 {
     if (read_word(line, at, "strike"))
         return STRIKE;
+    if (read_word(line, at, "test"))
+        return TEST;
     return read_word(line, at, "replay") ? REPLAY : STEP;
 }
 
@@ -181,6 +245,8 @@ static const char *wrong_count(enum command command, int count)
 {
     if (command == STRIKE && count != 1)
         return "one position is struck";
+    if (command == TEST && count != 1)
+        return "one event is tested";
     if (command == REPLAY && count != 0)
         return "nothing stands behind replay";
     if (command == STEP && count == 1 && names_roles())
@@ -261,10 +327,28 @@ static void take(uint32_t event, uint32_t role)
     struct ozhimka_indexed_completion next = ozhimka_complete_indexed(book, book_length, index_image, index_length, now, event);
     marking = step.marking; // this and the snapshot as they were where the step is refused, which chart and book do alike
     now = next.snapshot;
-    if (!granted(stdout, call, next.answer))
+    if (next.answer.code == OZHIMKA_GRANTED) {
+        keep(event, role);
+        print_completed(next.evaluated);
         return;
-    keep(event, role);
-    print_completed(next.evaluated);
+    }
+    say_refusal(stdout, call, next.answer);
+    print_blocking(step.answer.code, step.conditions, step.milestones);
+}
+
+static void test(uint32_t event)
+{
+    char call[64];
+    struct ozhimka_open_test open = ozhimka_open_test(&chart, marking, event);
+    snprintf(call, sizeof call, "test %" PRIu32, event);
+    if (open.answer.code == OZHIMKA_GRANTED) {
+        printf("%s: open\n", call);
+    } else if ((open.conditions | open.milestones) == 0) { // no such event, or one that is not included
+        granted(stdout, call, open.answer);
+    } else {
+        printf("%s refused: code %" PRIu32, call, open.answer.code);
+        print_blocking(open.answer.code, open.conditions, open.milestones);
+    }
 }
 
 static void strike(uint32_t position)
@@ -275,8 +359,9 @@ static void strike(uint32_t position)
         return;
     }
     if (struck.answer.code != OZHIMKA_GRANTED) { // the chart and the marking are fit, so the place is a position
-        printf("strike %" PRIu32 " refused: without it step %" PRIu32 " is not allowed, code %" PRIu32 "\n", position, struck.answer.place,
+        printf("strike %" PRIu32 " refused: without it step %" PRIu32 " is not allowed, code %" PRIu32, position, struck.answer.place,
                struck.answer.code);
+        print_blocking(struck.answer.code, struck.conditions, struck.milestones);
         return;
     }
     memmove(record + position, record + position + 1, (recorded - position - 1) * sizeof record[0]);
@@ -315,7 +400,10 @@ static void take_list(const struct list *list)
                                                                 forbidden ? stepped - 1 : list->count);
     now = next.snapshot;
     snprintf(call, sizeof call, "list, %" PRIu32 " completed,", next.granted);
-    if (granted(stdout, call, next.answer) && forbidden) {
+    if (next.answer.code != OZHIMKA_GRANTED) {
+        say_refusal(stdout, call, next.answer);
+        print_blocking(step.answer.code, step.conditions, step.milestones);
+    } else if (forbidden) {
         snprintf(call, sizeof call, "execute %" PRIu32 " by %" PRIu32, list->events[stepped - 1], list->role);
         granted(stdout, call, step.answer);
     }
@@ -326,6 +414,8 @@ static void take_command(enum command command, const uint32_t numbers[2], int co
 {
     if (command == STRIKE)
         strike(numbers[0]);
+    else if (command == TEST)
+        test(numbers[0]);
     else if (command == REPLAY)
         replay();
     else if (count > 0)
@@ -361,6 +451,7 @@ int main(int argc, char **argv)
         return 2;
     if (!load())
         return 1;
+    load_names(argv[1]);
     print_open();
     int status = 0;
     struct line line = {.cut = false};

@@ -1,5 +1,5 @@
 // Tries on the library what the header says of null pointers, of a book's length, of roles, of a chart's tables, of stages, of the index, of
-// lists, of the rules evaluated, of records, of the words for each code, and of the stack.
+// lists, of the rules evaluated, of what blocks an event, of records, of the words for each code, and of the stack.
 // Prints what does not hold; exit status 0 if nothing, else 1. Wants POSIX contexts, to run a call on a stack that was painted before.
 #define _XOPEN_SOURCE 700
 #include "ozhimka.h"
@@ -66,6 +66,7 @@ static void largest_chart(void)
 static void no_call(void) {}
 static void read_chart(void) { reading = ozhimka_read_chart(image, image_length); }
 static void execute(void) { reading.marking = ozhimka_execute(&reading.chart, reading.marking, 0, 0).marking; }
+static void open_test(void) { order[0] = (uint16_t)ozhimka_open_test(&reading.chart, reading.marking, 0).conditions; }
 static void count_open(void) { order[0] = (uint16_t)ozhimka_count_open(&reading.chart, reading.marking).count; }
 static void finished(void) { settled.snapshot.marks[0] = ozhimka_finished(&reading.chart, reading.marking).yes; }
 static void matching(void) { settled = ozhimka_matching(&reading.chart, reading.marking); }
@@ -112,6 +113,7 @@ static void try_stack(void)
     expect_stack("ozhimka_read_chart", read_chart, 17);
     expect(reading.answer.code == OZHIMKA_GRANTED, "the largest chart is read");
     expect_stack("ozhimka_execute", execute, 1);
+    expect_stack("ozhimka_open_test", open_test, 1);
     expect_stack("ozhimka_count_open", count_open, 1);
     expect_stack("ozhimka_finished", finished, 1);
     expect_stack("ozhimka_replay", replay, 1);
@@ -397,6 +399,49 @@ static void try_records(void)
            "an odd last number is no step");
 }
 
+// What the header says of one event in a marking: the open test's code and place, and both sets, also where the step, a replay and a strike
+// hand them on.
+static void expect_blocked(const struct ozhimka_chart *chart, struct ozhimka_marking marking, uint32_t event, uint32_t code, uint32_t place,
+                           uint64_t conditions, uint64_t milestones)
+{
+    struct ozhimka_recorded record[2] = {{event, 0}, {event, 0}};
+    struct ozhimka_open_test open = ozhimka_open_test(chart, marking, event);
+    struct ozhimka_step step = ozhimka_execute(chart, marking, event, 0);
+    struct ozhimka_replayed told = ozhimka_replay(chart, marking, record, 1);
+    struct ozhimka_struck struck = ozhimka_strike(chart, marking, record, 2, 1);
+    expect(is(open.answer, code, place) && open.conditions == conditions && open.milestones == milestones, "what blocks an event");
+    expect(is(step.answer, code, place) && step.conditions == conditions && step.milestones == milestones, "what blocks a step");
+    expect(same_marking(step.marking, marking), "a refused step changes nothing");
+    expect(told.conditions == conditions && told.milestones == milestones, "what blocks a record");
+    expect(struck.conditions == conditions && struck.milestones == milestones, "what blocks a record without a step");
+}
+
+// Event 0 waits for conditions 1, 2 and 3 and for milestones 2, 3 and 4; 4 is out.
+static void try_blocking(void)
+{
+    struct ozhimka_chart chart = {.count = 6}, unfit = {.count = 0};
+    const struct ozhimka_marking none = {0, 28, 15}, one = {2, 28, 15}, late = {14, 28, 15}, last = {14, 24, 15};
+    const struct ozhimka_marking out = {0, 28, 14}, beyond = {64, 28, 15};
+    chart.conditions[0] = 14, chart.milestones[0] = 28;
+    expect_blocked(&chart, none, 0, OZHIMKA_CONDITION_WANTING, 1, 14, 12);
+    expect_blocked(&chart, one, 0, OZHIMKA_CONDITION_WANTING, 2, 12, 12);
+    expect_blocked(&chart, late, 0, OZHIMKA_MILESTONE_WANTING, 2, 0, 12);
+    expect_blocked(&chart, last, 0, OZHIMKA_MILESTONE_WANTING, 3, 0, 8);
+    expect_blocked(&chart, out, 0, OZHIMKA_NOT_INCLUDED, 0, 0, 0);
+    expect_blocked(&chart, none, 6, OZHIMKA_NO_SUCH_EVENT, 0, 0, 0);
+    expect_blocked(&chart, beyond, 6, OZHIMKA_UNFIT, 0, 0, 0);
+    expect_blocked(&unfit, none, 0, OZHIMKA_UNFIT, 0, 0, 0);
+    struct ozhimka_marking cleared = {14, 16, 15};
+    struct ozhimka_open_test open = ozhimka_open_test(&chart, cleared, 0);
+    expect(is(open.answer, OZHIMKA_GRANTED, 0) && open.conditions == 0 && open.milestones == 0, "an event that nothing blocks");
+    chart.conditions[0] = 0, cleared.pending = 28;
+    expect_blocked(&chart, cleared, 0, OZHIMKA_MILESTONE_WANTING, 2, 0, 12);
+    chart.roles[0] = 2;
+    struct ozhimka_step step = ozhimka_execute(&chart, cleared, 0, 0);
+    expect(is(step.answer, OZHIMKA_NOT_PERMITTED, 0) && step.conditions == 0 && step.milestones == 0, "a role that is not permitted");
+    expect(is(ozhimka_open_test(&chart, cleared, 0).answer, OZHIMKA_MILESTONE_WANTING, 2), "the open test asks for no role");
+}
+
 static void try_reasons(void)
 {
     const char *unknown = ozhimka_reason(UINT32_MAX);
@@ -417,6 +462,7 @@ int main(void)
     try_stages();
     try_index();
     try_records();
+    try_blocking();
     try_reasons();
     return failures == 0 ? 0 : 1;
 }

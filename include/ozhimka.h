@@ -1,5 +1,5 @@
-// The controller's interface to Ozhimka: reading a chart, stepping it, replaying a record of steps, deriving its rule book, checking a book,
-// indexing it, completing a stage, or a list of them.
+// The controller's interface to Ozhimka: reading a chart, stepping it, asking what blocks an event, replaying a record of steps, deriving its
+// rule book, checking a book, indexing it, completing a stage, or a list of them.
 //
 // For C99 and later and C++11 and later. Link libozhimka.a (x86-64, the System V calling convention); of the C library it uses memcpy,
 // memmove and memset at most. Every call ends, keeps no memory between calls, allocates nothing, and may be made from several threads at
@@ -19,10 +19,10 @@
 //     back the snapshot reached;
 //   - no byte of lent room is written.
 // Place and other are 0 where the list below names nothing; in ozhimka_strike the place beside a step's code is that step's position. Of
-// several reasons the lowest code is given, in ozhimka_execute the first of 14, 10, 32, 11, 12, 13, in ozhimka_strike the first of 14, 36
-// and the failing step's own, in ozhimka_complete the first of 20 to 26, 29, 27, 28, 30, in ozhimka_complete_indexed the first of 20 to 26,
-// 34, 28, 29, 30, in ozhimka_complete_list the first of 20 to 26, 34, 28, 38 and then the first refused completion's 29 or 30; within a
-// code the lowest place, then the lowest other.
+// several reasons the lowest code is given, in ozhimka_execute the first of 14, 10, 32, 11, 12, 13, in ozhimka_open_test the first of 14, 10,
+// 11, 12, 13, in ozhimka_strike the first of 14, 36 and the failing step's own, in ozhimka_complete the first of 20 to 26, 29, 27, 28, 30,
+// in ozhimka_complete_indexed the first of 20 to 26, 34, 28, 29, 30, in ozhimka_complete_list the first of 20 to 26, 34, 28, 38 and then the
+// first refused completion's 29 or 30; within a code the lowest place, then the lowest other.
 //
 // Chart image. Numbers of 16 bits, little-endian, and nothing behind the last:
 //   header       count of nodes N (1 to 128), count of relations K (0 to 4,096), 8, 8 + 4 N
@@ -80,8 +80,8 @@
 
 // The header's version. A new major number changes what a program written for the one before relies on; a new minor number adds to it.
 #define OZHIMKA_VERSION_MAJOR 4
-#define OZHIMKA_VERSION_MINOR 0
-#define OZHIMKA_VERSION "4.0"
+#define OZHIMKA_VERSION_MINOR 1
+#define OZHIMKA_VERSION "4.1"
 
 #ifdef __cplusplus
 extern "C" {
@@ -248,9 +248,20 @@ struct ozhimka_reading {
     struct ozhimka_marking marking;
 };
 
+// Whether an event is open, and all that blocks it. With 12 and with 13 both sets are whole: `conditions` are the event's conditions that
+// are included and not yet executed, `milestones` its milestones that are included and still pending. With 12 the first is not empty and the
+// second may be either; with 13 the first is empty. With every other code, granted and 11 among them, both are empty. Once every condition in
+// the first set was executed and every milestone in the second is pending no more, with nothing else changed, the event is open.
+struct ozhimka_open_test {
+    struct ozhimka_answer answer;
+    uint64_t conditions, milestones;
+};
+
+// The sets are those that ozhimka_open_test gives with 12 and 13, and empty with every other code.
 struct ozhimka_step {
     struct ozhimka_answer answer;
     struct ozhimka_marking marking;
+    uint64_t conditions, milestones;
 };
 
 struct ozhimka_open_count {
@@ -290,28 +301,32 @@ struct ozhimka_recorded {
 };
 
 // How far a record is allowed. Where `steps` is below the record's count, the step at that position is the first that is not allowed and
-// `code` says why; else `code` is 0.
+// `code` says why; else `code` is 0. With 12 and 13 the sets are all that blocks that step, as ozhimka_step has them; else both are empty.
 struct ozhimka_replayed {
     struct ozhimka_answer answer;
     uint32_t code;
     uint64_t steps;
     struct ozhimka_marking marking;
     bool finished;
+    uint64_t conditions, milestones;
 };
 
+// With 12 and 13 the sets are all that blocks the step that fails, as ozhimka_step has them; else both are empty.
 struct ozhimka_struck {
     struct ozhimka_answer answer;
     struct ozhimka_marking marking;
+    uint64_t conditions, milestones;
 };
 
 // The sizes that the archive is built with: a compiler that lays the structs out in another way stops here.
 typedef char ozhimka_sizes[sizeof(size_t) == 8 && sizeof(struct ozhimka_answer) == 12 && sizeof(struct ozhimka_chart) == 2632
                                    && sizeof(struct ozhimka_marking) == 24 && sizeof(struct ozhimka_snapshot) == 256
-                                   && sizeof(struct ozhimka_reading) == 2672 && sizeof(struct ozhimka_step) == 40
-                                   && sizeof(struct ozhimka_open_count) == 20 && sizeof(struct ozhimka_finish) == 16
-                                   && sizeof(struct ozhimka_settled) == 268 && sizeof(struct ozhimka_indexed_completion) == 272
-                                   && sizeof(struct ozhimka_list_completion) == 276 && sizeof(struct ozhimka_recorded) == 8
-                                   && sizeof(struct ozhimka_replayed) == 56 && sizeof(struct ozhimka_struck) == 40
+                                   && sizeof(struct ozhimka_reading) == 2672 && sizeof(struct ozhimka_step) == 56
+                                   && sizeof(struct ozhimka_open_test) == 32 && sizeof(struct ozhimka_open_count) == 20
+                                   && sizeof(struct ozhimka_finish) == 16 && sizeof(struct ozhimka_settled) == 268
+                                   && sizeof(struct ozhimka_indexed_completion) == 272 && sizeof(struct ozhimka_list_completion) == 276
+                                   && sizeof(struct ozhimka_recorded) == 8 && sizeof(struct ozhimka_replayed) == 72
+                                   && sizeof(struct ozhimka_struck) == 56
                                ? 1
                                : -1];
 
@@ -329,6 +344,9 @@ struct ozhimka_reading ozhimka_read_chart(const uint8_t *image, size_t length);
 struct ozhimka_step ozhimka_execute_in(uint32_t count, const uint64_t *conditions, const uint64_t *responses, const uint64_t *milestones,
                                        const uint64_t *includes, const uint64_t *excludes, const uint8_t *roles,
                                        struct ozhimka_marking marking, uint32_t event, uint32_t role);
+struct ozhimka_open_test ozhimka_open_test_in(uint32_t count, const uint64_t *conditions, const uint64_t *responses,
+                                              const uint64_t *milestones, const uint64_t *includes, const uint64_t *excludes,
+                                              const uint8_t *roles, struct ozhimka_marking marking, uint32_t event);
 struct ozhimka_open_count ozhimka_count_open_in(uint32_t count, const uint64_t *conditions, const uint64_t *responses,
                                                 const uint64_t *milestones, const uint64_t *includes, const uint64_t *excludes,
                                                 const uint8_t *roles, struct ozhimka_marking marking);
@@ -353,7 +371,8 @@ struct ozhimka_struck ozhimka_strike_in(uint32_t count, const uint64_t *conditio
 // chart that names no roles any of 0 to 7 will do. The event has to be open: included, each included condition of it executed, no included
 // milestone of it pending. It is then executed and, unless it is its own response, pending no more; its responses are pending, what it
 // excludes is excluded, what it includes included. Refuses with the first that holds of 14 (unfit chart or marking), 10 (no such event), 32
-// (role not permitted), 11 (not included), 12 (condition wanting), 13 (milestone wanting), and then hands the marking back.
+// (role not permitted), 11 (not included), 12 (condition wanting), 13 (milestone wanting), and then hands the marking back; 12 and 13 come
+// with all that blocks the event, which ozhimka_open_test tells without a step and without a role.
 // Replay and strike take the roles of a record's steps. No other call takes a role, and a rule book carries none: a controller that runs
 // the book asks here whether the role is permitted.
 static inline struct ozhimka_step ozhimka_execute(const struct ozhimka_chart *chart, struct ozhimka_marking marking, uint32_t event,
@@ -361,6 +380,16 @@ static inline struct ozhimka_step ozhimka_execute(const struct ozhimka_chart *ch
 {
     return ozhimka_execute_in(chart->count, chart->conditions, chart->responses, chart->milestones, chart->includes, chart->excludes,
                               chart->roles, marking, event, role);
+}
+
+// Whether an event is open: included, each included condition of it executed, no included milestone of it pending; and if it is not, all that
+// blocks it. It asks for no role and changes nothing. Refuses with the first that holds of 14 (unfit chart or marking), 10 (no such event),
+// 11 (not included), 12 (condition wanting), 13 (milestone wanting), with the lowest blocking event as place; 12 and 13 come with both whole
+// sets, every other code with two empty ones.
+static inline struct ozhimka_open_test ozhimka_open_test(const struct ozhimka_chart *chart, struct ozhimka_marking marking, uint32_t event)
+{
+    return ozhimka_open_test_in(chart->count, chart->conditions, chart->responses, chart->milestones, chart->includes, chart->excludes,
+                                chart->roles, marking, event);
 }
 
 // How many events are open, and the lowest of them, OZHIMKA_NO_EVENT if none is. Refuses with 14, and then gives 0 and OZHIMKA_NO_EVENT.
@@ -397,9 +426,9 @@ static inline struct ozhimka_answer ozhimka_derive(const struct ozhimka_chart *c
 // How far a record of `count` steps is allowed from a start marking: the chart's own or any other fit one. Each step is what
 // ozhimka_execute does, from the marking that the steps before it gave; chart and marking are tested once, so that a step costs less than a
 // call of it. The first step that is not allowed ends the replay and refuses nothing: the answer is granted, `steps` is how many were
-// allowed, which is that step's position from 0, `code` is its code, the first that holds of 10, 32, 11, 12, 13, and marking and finished
-// are those reached before it; ozhimka_execute of the step from that marking also gives the place that goes with 12 and 13. Where all are
-// allowed, as in an empty record, `steps` is `count`, `code` is 0, and marking and finished are those at the end.
+// allowed, which is that step's position from 0, `code` is its code, the first that holds of 10, 32, 11, 12, 13, the sets are all that blocks
+// it with 12 and 13, and marking and finished are those reached before it; the place that goes with 12 or 13 is the lowest event of the set.
+// Where all are allowed, as in an empty record, `steps` is `count`, `code` is 0, and marking and finished are those at the end.
 // Refuses with 14 (unfit chart or marking) alone, before any step, and then hands the marking back beside 0 steps, code 0, not finished.
 static inline struct ozhimka_replayed ozhimka_replay(const struct ozhimka_chart *chart, struct ozhimka_marking start,
                                                      const struct ozhimka_recorded *steps, size_t count)
@@ -412,7 +441,7 @@ static inline struct ozhimka_replayed ozhimka_replay(const struct ozhimka_chart 
 // before the struck one are judged as well, the struck one is not. Refuses with the first that holds of 14 (unfit chart or marking), 36 (no
 // such position; always where the record is empty), both before any step, and then the code of the first step that is not allowed, 10, 32,
 // 11, 12 or 13, with that step's position in the whole record as place (4,294,967,295 for that position and all behind it) and 0 as other.
-// What is refused hands the start marking back.
+// What is refused hands the start marking back; 12 and 13 come with all that blocks the step that fails.
 static inline struct ozhimka_struck ozhimka_strike(const struct ozhimka_chart *chart, struct ozhimka_marking start,
                                                    const struct ozhimka_recorded *steps, size_t count, uint32_t position)
 {
