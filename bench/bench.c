@@ -36,6 +36,7 @@ static struct ozhimka_recorded own_record[LONGEST_RECORD];
 
 _Static_assert(sizeof own_chart == sizeof chart && sizeof own_marking == sizeof marking && sizeof own_snapshot == sizeof snapshot
                    && sizeof(struct ozhimka_reading) == sizeof(struct reading) && sizeof(struct ozhimka_step) == sizeof(struct step)
+                   && sizeof(struct ozhimka_open_test) == sizeof(struct open_test)
                    && sizeof(struct ozhimka_open_count) == sizeof(struct open_count)
                    && sizeof(struct ozhimka_finish) == sizeof(struct finish)
                    && sizeof(struct ozhimka_settled) == sizeof(struct settled)
@@ -63,6 +64,7 @@ static union {
     struct answer answer; // where the others begin
     struct reading reading;
     struct step step;
+    struct open_test open_test;
     struct open_count open_count;
     struct finish finish;
     struct settled settled;
@@ -75,6 +77,7 @@ static union {
     struct ozhimka_answer answer;
     struct ozhimka_reading reading;
     struct ozhimka_step step;
+    struct ozhimka_open_test open_test;
     struct ozhimka_open_count open_count;
     struct ozhimka_finish finish;
     struct ozhimka_settled settled;
@@ -144,6 +147,8 @@ static void plain_13(void) { plain_out.replayed = plain_replay(&chart, marking, 
 static void own_13(void) { own_out.replayed = ozhimka_replay(&own_chart, own_marking, own_record, steps); }
 static void plain_14(void) { plain_out.step = plain_strike(&chart, marking, record, steps, struck); }
 static void own_14(void) { own_out.struck = ozhimka_strike(&own_chart, own_marking, own_record, steps, struck); }
+static void plain_15(void) { plain_out.open_test = plain_open_test(&chart, marking, event); }
+static void own_15(void) { own_out.open_test = ozhimka_open_test(&own_chart, own_marking, event); }
 
 // The record by a call of execute for each step.
 static void plain_each(void)
@@ -187,7 +192,17 @@ static bool same_reading(void)
            && same_marking(&plain_out.reading.start, &own_out.reading.marking);
 }
 
-static bool same_step(void) { return same_marking(&plain_out.step.marking, &own_out.step.marking); }
+static bool same_step(void)
+{
+    const struct step *plain = &plain_out.step;
+    const struct ozhimka_step *own = &own_out.step;
+    return same_marking(&plain->marking, &own->marking) && plain->conditions == own->conditions && plain->milestones == own->milestones;
+}
+
+static bool same_open_test(void)
+{
+    return plain_out.open_test.conditions == own_out.open_test.conditions && plain_out.open_test.milestones == own_out.open_test.milestones;
+}
 
 static bool same_open_count(void)
 {
@@ -218,10 +233,15 @@ static bool same_replay(void)
     const struct replayed *plain = &plain_out.replayed;
     const struct ozhimka_replayed *own = &own_out.replayed;
     return plain->code == own->code && plain->steps == own->steps && plain->finished == own->finished
-           && same_marking(&plain->marking, &own->marking);
+           && same_marking(&plain->marking, &own->marking) && plain->conditions == own->conditions && plain->milestones == own->milestones;
 }
 
-static bool same_strike(void) { return same_marking(&plain_out.step.marking, &own_out.struck.marking); }
+static bool same_strike(void)
+{
+    const struct step *plain = &plain_out.step;
+    const struct ozhimka_struck *own = &own_out.struck;
+    return same_marking(&plain->marking, &own->marking) && plain->conditions == own->conditions && plain->milestones == own->milestones;
+}
 
 struct call {
     const char *name;
@@ -232,6 +252,7 @@ struct call {
 static const struct call calls[] = {
     {"read_chart", plain_1, NULL, own_1, same_reading},
     {"execute", plain_2, NULL, own_2, same_step},
+    {"open_test", plain_15, NULL, own_15, same_open_test},
     {"count_open", plain_3, NULL, own_3, same_open_count},
     {"finished", plain_4, NULL, own_4, same_finish},
     {"matching", plain_5, NULL, own_5, same_snapshot},
@@ -242,7 +263,7 @@ static const struct call calls[] = {
     {"complete_indexed", plain_10, lean_10, own_10, same_indexed},
 };
 
-enum { CALLS = sizeof calls / sizeof calls[0], CHECK = 6, LAST = CALLS - 1 };
+enum { CALLS = sizeof calls / sizeof calls[0], CHECK = 7, LAST = CALLS - 1 };
 
 static const struct call list_call = {"complete_list", plain_11, lean_11, own_11, same_list},
                          list_in_turn = {"complete_indexed, 256 calls", plain_12, lean_12, own_12, same_list};

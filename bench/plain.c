@@ -180,32 +180,31 @@ static bool permitted(uint8_t roles, uint32_t role)
     return role < MAX_ROLES && (roles == 0 || (roles >> role & 1) != 0);
 }
 
+// The open test of an event of a chart and a marking that are fit.
+static inline struct open_test test(const struct flat_chart *chart, struct marking marking, uint32_t event)
+{
+    if ((marking.included & only(event)) == 0)
+        return (struct open_test){refused(11, 0, 0), 0, 0};
+    uint64_t wanting = chart->conditions[event] & marking.included & ~marking.executed;
+    uint64_t awaited = chart->milestones[event] & marking.included & marking.pending;
+    if (wanting != 0)
+        return (struct open_test){refused(12, lowest(wanting), 0), wanting, awaited};
+    if (awaited != 0)
+        return (struct open_test){refused(13, lowest(awaited), 0), wanting, awaited};
+    return (struct open_test){granted, 0, 0};
+}
+
 // A step of a chart and a marking that are fit.
 static inline struct step take(const struct flat_chart *chart, struct marking marking, uint32_t event, uint32_t role)
 {
-    struct step step = {granted, marking};
-    if (event >= chart->count) {
-        step.answer = refused(10, 0, 0);
+    if (event >= chart->count)
+        return (struct step){refused(10, 0, 0), marking, 0, 0};
+    if (!permitted(chart->roles[event], role))
+        return (struct step){refused(32, 0, 0), marking, 0, 0};
+    struct open_test open = test(chart, marking, event);
+    struct step step = {open.answer, marking, open.conditions, open.milestones};
+    if (step.answer.code != 0)
         return step;
-    }
-    if (!permitted(chart->roles[event], role)) {
-        step.answer = refused(32, 0, 0);
-        return step;
-    }
-    if ((marking.included & only(event)) == 0) {
-        step.answer = refused(11, 0, 0);
-        return step;
-    }
-    uint64_t wanting = chart->conditions[event] & marking.included & ~marking.executed;
-    if (wanting != 0) {
-        step.answer = refused(12, lowest(wanting), 0);
-        return step;
-    }
-    wanting = chart->milestones[event] & marking.included & marking.pending;
-    if (wanting != 0) {
-        step.answer = refused(13, lowest(wanting), 0);
-        return step;
-    }
     step.marking.executed = marking.executed | only(event);
     step.marking.pending = (marking.pending & ~only(event)) | chart->responses[event];
     step.marking.included = (marking.included & ~chart->excludes[event]) | chart->includes[event];
@@ -214,7 +213,14 @@ static inline struct step take(const struct flat_chart *chart, struct marking ma
 
 struct step plain_execute(const struct flat_chart *chart, struct marking marking, uint32_t event, uint32_t role)
 {
-    return fit(chart, marking) ? take(chart, marking, event, role) : (struct step){refused(14, 0, 0), marking};
+    return fit(chart, marking) ? take(chart, marking, event, role) : (struct step){refused(14, 0, 0), marking, 0, 0};
+}
+
+struct open_test plain_open_test(const struct flat_chart *chart, struct marking marking, uint32_t event)
+{
+    if (!fit(chart, marking))
+        return (struct open_test){refused(14, 0, 0), 0, 0};
+    return event < chart->count ? test(chart, marking, event) : (struct open_test){refused(10, 0, 0), 0, 0};
 }
 
 struct open_count plain_count_open(const struct flat_chart *chart, struct marking marking)
@@ -248,25 +254,27 @@ static size_t walk(const struct flat_chart *chart, struct step *reached, const s
 struct replayed plain_replay(const struct flat_chart *chart, struct marking start, const struct recorded *steps, size_t count)
 {
     if (!fit(chart, start))
-        return (struct replayed){refused(14, 0, 0), 0, 0, start, false};
-    struct step reached = {granted, start};
+        return (struct replayed){refused(14, 0, 0), 0, 0, start, false, 0, 0};
+    struct step reached = {granted, start, 0, 0};
     size_t allowed = walk(chart, &reached, steps, 0, count);
     bool finished = (reached.marking.included & reached.marking.pending) == 0;
-    return (struct replayed){granted, reached.answer.code, allowed, reached.marking, finished};
+    return (struct replayed){granted, reached.answer.code, allowed, reached.marking, finished, reached.conditions, reached.milestones};
 }
 
 struct step plain_strike(const struct flat_chart *chart, struct marking start, const struct recorded *steps, size_t count, uint32_t position)
 {
     if (!fit(chart, start))
-        return (struct step){refused(14, 0, 0), start};
+        return (struct step){refused(14, 0, 0), start, 0, 0};
     if (position >= count)
-        return (struct step){refused(36, 0, 0), start};
-    struct step reached = {granted, start};
+        return (struct step){refused(36, 0, 0), start, 0, 0};
+    struct step reached = {granted, start, 0, 0};
     size_t at = walk(chart, &reached, steps, 0, position);
     if (reached.answer.code == 0)
         at = walk(chart, &reached, steps, position + (size_t)1, count);
-    if (reached.answer.code != 0)
-        return (struct step){refused(reached.answer.code, at < UINT32_MAX ? (uint32_t)at : UINT32_MAX, 0), start};
+    if (reached.answer.code != 0) {
+        reached.answer.place = at < UINT32_MAX ? (uint32_t)at : UINT32_MAX;
+        reached.marking = start;
+    }
     return reached;
 }
 

@@ -33,9 +33,16 @@ struct reading {
     struct marking start;
 };
 
+// What blocks an event, with 12 and 13; else two empty sets.
+struct open_test {
+    struct answer answer;
+    uint64_t conditions, milestones;
+};
+
 struct step {
     struct answer answer;
     struct marking marking;
+    uint64_t conditions, milestones;
 };
 
 struct open_count {
@@ -76,10 +83,12 @@ struct replayed {
     uint64_t steps;
     struct marking marking;
     bool finished;
+    uint64_t conditions, milestones;
 };
 
 struct reading plain_read_chart(const uint8_t *image, size_t length);
 struct step plain_execute(const struct flat_chart *chart, struct marking marking, uint32_t event, uint32_t role);
+struct open_test plain_open_test(const struct flat_chart *chart, struct marking marking, uint32_t event);
 struct open_count plain_count_open(const struct flat_chart *chart, struct marking marking);
 struct finish plain_finished(const struct flat_chart *chart, struct marking marking);
 struct settled plain_matching(const struct flat_chart *chart, struct marking marking);

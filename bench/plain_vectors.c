@@ -55,6 +55,11 @@ static void say_marking(struct marking marking)
     printf(" %" PRIu64 " %" PRIu64 " %" PRIu64, marking.executed, marking.pending, marking.included);
 }
 
+static void say_sets(uint64_t conditions, uint64_t milestones)
+{
+    printf(" %" PRIu64 " %" PRIu64, conditions, milestones);
+}
+
 static void say_snapshot(const struct snapshot *snapshot)
 {
     for (int w = 0; w < 4; w++) {
@@ -105,15 +110,20 @@ static void read_chart(const uint8_t *image, size_t length)
 
 static bool on_chart(int operation, const uint8_t *at, size_t length)
 {
-    if (length < (size_t)(FLAT + MARKING + (operation == 2 ? 8 : 0)))
+    if (length < (size_t)(FLAT + MARKING + (operation == 2 ? 8 : operation == 14 ? 4 : 0)))
         return false;
     struct flat_chart chart = flat_at(at);
     struct marking marking = marking_at(at + FLAT);
+    const uint8_t *numbers = at + FLAT + MARKING;
     if (operation == 2) {
-        const uint8_t *numbers = at + FLAT + MARKING;
         struct step step = plain_execute(&chart, marking, (uint32_t)number(numbers, 4), (uint32_t)number(numbers + 4, 4));
         say("execute", step.answer);
         say_marking(step.marking);
+        say_sets(step.conditions, step.milestones);
+    } else if (operation == 14) {
+        struct open_test open = plain_open_test(&chart, marking, (uint32_t)number(numbers, 4));
+        say("open", open.answer);
+        say_sets(open.conditions, open.milestones);
     } else if (operation == 3) {
         struct open_count count = plain_count_open(&chart, marking);
         say("count", count.answer);
@@ -252,10 +262,12 @@ static bool on_record(int operation, const uint8_t *at, size_t length)
         printf(" %" PRIu64 " %" PRIu32, replayed.steps, replayed.code);
         say_marking(replayed.marking);
         printf(replayed.finished ? " yes" : " no");
+        say_sets(replayed.conditions, replayed.milestones);
     } else {
         struct step struck = plain_strike(&chart, start, steps, count, (uint32_t)number(at + FLAT + MARKING, 4));
         say("strike", struck.answer);
         say_marking(struck.marking);
+        say_sets(struck.conditions, struck.milestones);
     }
     free(steps);
     return true;
@@ -329,7 +341,7 @@ static bool serve(const uint8_t *at, size_t length)
     case 1:
         read_chart(at + 1, length - 1);
         return true;
-    case 2: case 3: case 4: case 5:
+    case 2: case 3: case 4: case 5: case 14:
         return on_chart(at[0], at + 1, length - 1);
     case 6:
         return derive(at + 1, length - 1);
