@@ -16,7 +16,7 @@ use Rattle.general.specs.Lists.{total, total-same, total-le, total-one, flat, A
 use Rattle.sets.specs.Set.{has}
 use Rattle.graph.specs.Chart.{response, include, exclude, setOf, rolesOf, Fit, FitMarking}
 use Rattle.graph.specs.Roles.{Permits, permits}
-use Rattle.graph.specs.Steps.{unmetOf, awaitedOf, afterWith, stepping, steppingBy, executing}
+use Rattle.graph.specs.Steps.{unmetOf, awaitedOf, afterWith, stepping, steppingBy, testing, executing}
 use Rattle.graph.specs.Tests.{rowSpill, spillAt, spillOf, rolesFrom, fitTables, fitChart, fitMarking, fit}
 use Rattle.graph.specs.Fitness.{fit-both}
 use Rattle.graph.specs.Examples.{none, marking}
@@ -172,7 +172,7 @@ abbrev pub fullCompletion : IndexedCompletion
 fullCompletion = completingIndexed (derivedImage fullChart) (indexOf (derivedImage fullChart)) (matchingOf fullChart (marking 0 0 3) .snapshot) 0
 
 pub full-granted : fullCompletion .answer .code ≡ 0
-unfolding executing steppingBy stepping permits fit fitChart fitMarking fitTables rolesFrom spillOf spillAt rowSpill has unmetOf awaitedOf afterWith trailingZeros
+unfolding executing steppingBy stepping testing permits fit fitChart fitMarking fitTables rolesFrom spillOf spillAt rowSpill has unmetOf awaitedOf afterWith trailingZeros
 full-granted =
     let p : Permits (rolesOf fullChart 0) 0 = record { known = omega arith; open-or-named = inl refl } in
     grants-alike fullChart (full-fit .0) (marking 0 0 3) (full-fit .1) 0 0 p .0 refl
