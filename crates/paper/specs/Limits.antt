@@ -178,6 +178,9 @@ orderRoom = 31
 abbrev pub notPermitted : ℕ
 notPermitted = 32
 
+abbrev pub notDerived : ℕ
+notDerived = 33
+
 abbrev pub indexUnfit : ℕ
 indexUnfit = 34
 

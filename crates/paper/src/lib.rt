@@ -118,6 +118,8 @@ pub const ORDER_ROOM: u32 = 31;
 
 pub const NOT_PERMITTED: u32 = 32;
 
+pub const NOT_DERIVED: u32 = 33;
+
 pub const INDEX_UNFIT: u32 = 34;
 
 pub const INDEX_ROOM: u32 = 35;
