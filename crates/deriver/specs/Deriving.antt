@@ -124,6 +124,23 @@ runs c R W = rw (packed-append ruleBytes (flat (c .count) (eventRules c)), appen
 pub found-fit : (c : FlatChart) (b : Bool) → b ≡ fitChart c → not b ≡ false → Fit c
 found-fit c b p t = tested-fit c (sym p ∙ not-false b t)
 
+-- a fit chart's image, by the sizes that the code computes
+module _ (c : FlatChart) (fit : Fit c) (s w : ℕ) (ps : s ≡ completionsSize (c .count) (c .includes) (c .excludes) (c .responses)) (pw : w ≡ textsSize (c .count) (c .conditions) (c .milestones)) where
+  pub rules-are : length (derivedBook c .rules) ≡ s + 2 * c .count
+  unfolding rulesNeeded
+  rules-are = rules-length c fit ∙ rw ps
+
+  words-are : length (derivedBook c .words) ≡ w
+  unfolding wordsNeeded
+  words-are = words-length c fit ∙ rw pw
+
+  pub bytes-are : length (derivedImage c) ≡ 32 + 10 * (s + 2 * c .count) + 8 * c .count + 2 * w
+  bytes-are = image-length (derivedBook c) ∙ rw (rules-are, words-are, conditions-length c fit)
+
+  pub image-runs : derivedImage c ≡ bookRuns (c .count) (s + 2 * c .count) w (c .conditions) (c .responses) (c .milestones) (c .includes) (c .excludes)
+  unfolding imageOf
+  image-runs = rw (rules-are, words-are, conditions-length c fit) (runs c (s + 2 * c .count) w)
+
 module _ (c : FlatChart) (room : List ℕ) (b : Bool) (p : b ≡ fitChart c) where
   pub derive-unfit : not b ≡ true → (a : Answer) → a ≡ refusal unfit → (a ≡ derivingAnswer c (length room)) × (room ≡ derivedRoom c room)
   unfolding derivingAnswer derivedRoom
@@ -142,43 +159,31 @@ module _ (c : FlatChart) (room : List ℕ) (b : Bool) (p : b ≡ fitChart c) whe
     abbrev book : List ℕ
     book = bookRuns (c .count) (s + 2 * c .count) w (c .conditions) (c .responses) (c .milestones) (c .includes) (c .excludes)
 
-    rules-are : length (derivedBook c .rules) ≡ s + 2 * c .count
-    unfolding rulesNeeded
-    rules-are = rules-length c fit ∙ rw ps
-
-    words-are : length (derivedBook c .words) ≡ w
-    unfolding wordsNeeded
-    words-are = words-length c fit ∙ rw pw
-
-    bytes-are : length (derivedImage c) ≡ need
-    bytes-are = image-length (derivedBook c) ∙ rw (rules-are, words-are, conditions-length c fit)
-
-    image-runs : derivedImage c ≡ book
-    unfolding imageOf
-    image-runs = rw (rules-are, words-are, conditions-length c fit) (runs c (s + 2 * c .count) w)
+    abbrev bytes : length (derivedImage c) ≡ need
+    bytes = bytes-are c fit s w ps pw
 
     pub derive-short : length room < need → (a : Answer) → a ≡ answer bookRoom need 0 → (a ≡ derivingAnswer c (length room)) × (room ≡ derivedRoom c room)
     unfolding derivingAnswer derivedRoom
     derive-short h a g =
-        let z : leb (length (derivedImage c)) (length room) ≡ false = rw bytes-are (lt-leb need (length room) h) in (rw (g, fits, z, bytes-are), rw (fits, z))
+        let z : leb (length (derivedImage c)) (length room) ≡ false = rw bytes (lt-leb need (length room) h) in (rw (g, fits, z, bytes), rw (fits, z))
 
     module _ (l : need ≤ length room) where
       image-fits : Fits room 0 (derivedImage c)
-      image-fits = rw bytes-are (omega arith)
+      image-fits = rw bytes (omega arith)
 
       pub derive-ready : BookReady (c .count) (s + 2 * c .count) w (c .conditions) (c .responses) (c .milestones) (c .includes) (c .excludes) room
       derive-ready =
           record {
             few = fit .few;
-            rules = rw rules-are at (rules-most c fit);
+            rules = rw (rules-are c fit s w ps pw) at (rules-most c fit);
             completions = completions-in c fit;
             texts = texts-in c fit;
-            fits = rw image-runs at image-fits;
+            fits = rw (image-runs c fit s w ps pw) at image-fits;
           }
 
       pub derive-done : (next : ℕ) (after : List ℕ) → Wrote room 0 book next after → (a : Answer) → a ≡ granted → (a ≡ derivingAnswer c (length room)) × (after ≡ derivedRoom c room)
       unfolding derivingAnswer derivedRoom
       derive-done next after v a g =
-          let z : leb (length (derivedImage c)) (length room) ≡ true = rw bytes-are (le-leb need (length room) l) in
-          let u : Wrote room 0 (derivedImage c) next after = rw image-runs v in
+          let z : leb (length (derivedImage c)) (length room) ≡ true = rw bytes (le-leb need (length room) l) in
+          let u : Wrote room 0 (derivedImage c) next after = rw (image-runs c fit s w ps pw) v in
           (rw (g, fits, z), rw (fits, z) (wrote-whole u image-fits))

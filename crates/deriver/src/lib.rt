@@ -38,7 +38,7 @@ pub struct Matched {
 }
 
 // The counts of a book of n events, and where its parts lie.
-fn put_header(room: &mut [u8], n: u32, rules: u32, words: u32) -> usize
+pub fn put_header(room: &mut [u8], n: u32, rules: u32, words: u32) -> usize
     requires { ⌜ (n ≤ maxEvents) × (rules ≤ maxRules) × (bookHeader ≤ length (now room)) ⌝ }
     ensures { λ r. ⌜ Wrote (now (room .entry)) 0 (headerBytes n (4 * n) rules n words) r (now (room .exit)) ⌝ }
 {

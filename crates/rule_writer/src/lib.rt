@@ -113,7 +113,7 @@ fn put_answer(room: &mut [u8], at: usize, n: usize, e: usize, responses: u64) ->
 }
 
 // Everything on the completion of e, which includes, excludes and has as responses these sets.
-fn put_completion(
+pub fn put_completion(
     room: &mut [u8],
     at: usize,
     n: usize,
@@ -152,7 +152,7 @@ pub fn put_completions<'a>(
 }
 
 // Without trigger: set stage e if condition e, and clear it if not.
-fn put_stage(room: &mut [u8], at: usize, e: usize) -> usize
+pub fn put_stage(room: &mut [u8], at: usize, e: usize) -> usize
     requires { ⌜ (e < 65536) × (at + 2 * ruleSize ≤ length (now room)) ⌝ }
     ensures { λ r. ⌜ Wrote (now (room .entry)) at (packed ruleBytes (stageRules e)) r (now (room .exit)) ⌝ }
 {

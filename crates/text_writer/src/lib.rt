@@ -21,7 +21,7 @@ use paper::NOT;
 use paper::OR;
 
 // Words of the text of an event with these conditions and milestones.
-fn text_size(conditions: u64, milestones: u64) -> usize
+pub fn text_size(conditions: u64, milestones: u64) -> usize
     ensures { λ r. ⌜ r ≡ textSize conditions milestones ⌝ }
 {
     5 * (sets::count(conditions) as usize + sets::count(milestones) as usize) + 1
@@ -44,7 +44,7 @@ pub fn texts_size<'a>(
     sum
 }
 
-fn put_condition(room: &mut [u8], at: usize, start: usize, count: usize) -> usize
+pub fn put_condition(room: &mut [u8], at: usize, start: usize, count: usize) -> usize
     requires { ⌜ (start ≤ maxWords) × (count ≤ maxWords) × (at + conditionSize ≤ length (now room)) ⌝ }
     ensures { λ r. ⌜ Wrote (now (room .entry)) at (packed conditionBytes (conditionMade start count ∷ [])) r (now (room .exit)) ⌝ }
 {
@@ -104,7 +104,7 @@ fn put_clauses(room: &mut [u8], at: usize, n: usize, base: usize, set: u64) -> u
     next
 }
 
-fn put_text(
+pub fn put_text(
     room: &mut [u8],
     at: usize,
     n: usize,
