@@ -1,5 +1,7 @@
 -- The root of the crate's specs.
 pub mod Derived
+pub mod Meaning
+pub mod OneChart
 pub mod Members
 pub mod Sizes
 pub mod WritingLoops
