@@ -1,0 +1,55 @@
+-- `derived_same::completions_same` meets its contract. Assumes nothing.
+use Prim.Native.Nat.{_-_}
+use mathlib.Core.Path.{sym, _∙_}
+use Rattle.general.specs.Writing.{wrote-length}
+use Rattle.book.specs.ImageOf.{ruleBytes}
+use Rattle.derived.specs.Parts.{completionAt}
+use Rattle.derived_same.proofs.Comparing.{Parts, parts-first, parts-fits, parts-room, parts-not, parts-more, parts-done, completion-short}
+use native.Mathlib.Omega.{arith}
+use borrow.Author.Needs.{needs}
+use Rattle.derived_same.proofs.completions_same.Statement.{statement}
+use Rattle.derived_same.proofs.completions_same.Tie as tie
+
+abbrev Inv-loop : tie.InvT-loop
+Inv-loop image at n includes excludes responses part₀ next₀ event₀ part next event = Parts ruleBytes (completionAt n includes excludes responses) n image at event next part
+
+abbrev μ-loop : tie.MeasureT-loop
+μ-loop image at n includes excludes responses part₀ next₀ event₀ part next event = n - event
+
+pub completions-same-spec : {M : Type 1} → statement M
+completions-same-spec =
+    tie.close
+    (tie.spec
+    Inv-loop
+    μ-loop
+    (λ c. let p = c .before .before .pre in parts-first _ _ _ _ _ _ (p .2) (λ j h. completion-short _ (p .0) j h _ _ _ (p .1)) (p .3))
+    (λ c. search needs) (λ c. search needs) (λ c. search needs) (λ c. search needs) (λ c. search needs) (λ c. search needs)
+    (λ c κs. let d = c .before .before .before .before in let p = d .before .before .before .before .pre in unfold completionAt in (
+      p .0,
+      d .loop-test .taken,
+      p .1 .inclusions _ (d .loop-test .taken),
+      p .1 .responses _ (d .loop-test .taken),
+      parts-fits _ _ _ _ _ _ _ _ (d .before .loop .inv) (d .loop-test .taken),
+    ))
+    (λ c κs. unfold completionAt in let d = c .before .before .before .before .before .before .before .before in
+    parts-room _ _ _ _ _ _ _ _ (d .before .loop .inv) (d .loop-test .taken) _ _ (c .before .before .before .put-completion .ensures))
+    (λ c. let d = c .before .before .before .before .before .before .before .before .before .before .before in
+    wrote-length (c .before .before .before .before .before .put-completion .ensures) ∙ d .loop .inv .long ∙ sym (d .before .before .before .pre .2))
+    (λ c. unfold completionAt in let d = c .before .before .before .before .before .before .before .before .before .before in
+    parts-not _ _ _ _ _ _ _ _ (d .before .loop .inv) (d .loop-test .taken) _ _ (c .before .before .before .before .before .put-completion .ensures) _ (c .before
+    .part-stands .ensures) (c .if1 .taken))
+    (λ c. unfold completionAt in let d = c .before .before .before .before .before .before .before .before .before .before in
+    record {
+      fits = omega (
+        arith,
+        parts-room _ _ _ _ _ _ _ _ (d .before .loop .inv) (d .loop-test .taken) _ _ (c .before .before .before .before .before
+            .put-completion .ensures) .0,
+        d .before .before .before .before .good,
+      );
+    })
+    (λ c. search needs) (λ c. search needs)
+    (λ c. unfold completionAt in let d = c .before .before .before .before .before .before .before .before .before .before in
+    parts-more _ _ _ _ _ _ _ _ (d .before .loop .inv) (d .loop-test .taken) _ _ (c .before .before .before .before .before .put-completion .ensures) _ (c .before
+    .part-stands .ensures) (c .if1 .left))
+    (λ c. c .before .loop .inv .long ∙ sym (c .before .before .before .before .pre .2))
+    (λ c. search parts-done))
