@@ -1,0 +1,17 @@
+-- Whether bytes are what the deriver writes for a fit chart, and what a refused reading back gives. Assumes nothing.
+use mathlib.Core.Bool.{Bool, _&&_}
+use mathlib.Core.List.{List}
+use Prim.Native.Nat.{ℕ}
+use Rattle.paper.specs.declared.Answer.{Answer}
+use Rattle.general.specs.Comparing.{sameBytes}
+use Rattle.graph.specs.Chart.{emptyChart}
+use Rattle.graph.specs.Tests.{fitChart}
+use Rattle.graph.specs.declared.FlatChart.{FlatChart}
+use Rattle.deriver.specs.Deriving.{derivedImage}
+use Rattle.read_back.specs.declared.ReadBack.{ReadBack}
+
+unfoldable pub writtenFor : FlatChart → List ℕ → Bool
+writtenFor c s = fitChart c && sameBytes s (derivedImage c)
+
+abbrev pub refusedBack : Answer → ReadBack
+refusedBack a = record { answer = a; chart = emptyChart }

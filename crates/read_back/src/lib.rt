@@ -1,0 +1,99 @@
+// Reading a book back: the flat chart behind a derived book, or a refusal.
+pub mod judging;
+
+ghost use mathlib.Core.Path.{_≡_};
+ghost use lib.ListN.{replicate};
+ghost use Rattle.paper.specs.Limits.{maxEvents};
+ghost use Rattle.derived_same.specs.Same.{roleless};
+ghost use Rattle.read_back.specs.ReadingBack.{readingBack};
+ghost use Rattle.read_back.specs.Written.{writtenFor, refusedBack};
+use book::header::counts_at;
+use graph::FlatChart;
+use paper::Answer;
+use paper::MAX_EVENTS;
+use paper::NOT_DERIVED;
+
+#[repr(C)]
+pub struct ReadBack {
+    pub answer: Answer,
+    pub chart: FlatChart,
+}
+
+// Whether the chart of these tables, without roles, is fit and the deriver writes this book for it.
+fn written_for<'a>(
+    book: &[u8],
+    count: u32,
+    conditions: &'a [u64; MAX_EVENTS],
+    responses: &'a [u64; MAX_EVENTS],
+    milestones: &'a [u64; MAX_EVENTS],
+    includes: &'a [u64; MAX_EVENTS],
+    excludes: &'a [u64; MAX_EVENTS],
+    roles: &'a [u8; MAX_EVENTS],
+) -> bool
+    requires { ⌜ now roles ≡ replicate maxEvents 0 ⌝ }
+    ensures { λ r. ⌜ r ≡ writtenFor (roleless count (now (conditions .entry)) (now (responses .entry)) (now (milestones .entry)) (now (includes .entry)) (now (excludes .entry))) (now (book .entry)) ⌝ }
+{
+    if !graph::tables_fit(
+        count,
+        conditions,
+        responses,
+        milestones,
+        includes,
+        excludes,
+        roles,
+    ) {
+        return false;
+    }
+    derived_same::derived_same(
+        book,
+        count,
+        conditions,
+        responses,
+        milestones,
+        includes,
+        excludes,
+    )
+}
+
+fn refuse(answer: Answer) -> ReadBack
+    ensures { λ r. ⌜ r ≡ refusedBack answer ⌝ }
+{
+    ReadBack {
+        answer,
+        chart: FlatChart::empty(),
+    }
+}
+
+// 20 to 26 and 33 with the empty chart, or 0 and the chart for which the deriver writes this book: no roles, and no marking, which a book does not carry.
+// Cost: the passes of `judge::judge_book`, one over the rules and one over the texts that gather the chart, and one over the book that compares it.
+// Stack: the arrays that the book is judged in, 16 KiB; behind them two charts of 2.6 KiB and the room for a part of the book, 1.3 KiB.
+pub fn read_back(book: &[u8]) -> ReadBack
+    ensures { λ r. ⌜ r ≡ readingBack (now (book .entry)) ⌝ }
+{
+    let foreign = paper::refused(NOT_DERIVED, 0, 0);
+    let judged = judging::judge_whole(book);
+    if judged.code != 0 {
+        return refuse(judged);
+    }
+    let h = counts_at(book);
+    if h.conditions != h.stages {
+        return refuse(foreign);
+    }
+    let chart = gathering::gather(book, h);
+    if !written_for(
+        book,
+        chart.count,
+        &chart.conditions,
+        &chart.responses,
+        &chart.milestones,
+        &chart.includes,
+        &chart.excludes,
+        &chart.roles,
+    ) {
+        return refuse(foreign);
+    }
+    ReadBack {
+        answer: judged,
+        chart,
+    }
+}
