@@ -11,7 +11,7 @@ use Rattle.paper.specs.Limits.{maxEvents, maxMarks, unfit}
 use Rattle.paper.specs.Answers.{granted, refusal}
 use Rattle.paper.specs.declared.Answer.{Answer}
 use Rattle.general.specs.Cases.{cases, coincide}
-use Rattle.graph.specs.Chart.{Fit, FitMarking}
+use Rattle.graph.specs.Chart.{Fit, FitMarking, emptyChart}
 use Rattle.graph.specs.Tests.{fitChart}
 use Rattle.graph.specs.Steps.{opening, executing, counting, finishing}
 use Rattle.graph.specs.Execution.{Executes, executes, executes-only, refused-kept, counts, count-refused, finish-refused}
@@ -46,6 +46,9 @@ use Rattle.replay.specs.Replaying.{replaying, striking, untold}
 use Rattle.replay.specs.Table.{Replays, replays, replays-only, replay-kept, Strikes, strikes, strikes-only, strike-kept}
 use Rattle.replay.specs.declared.Replayed.{Replayed}
 use Rattle.replay.specs.declared.Struck.{Struck}
+use Rattle.read_back.specs.ReadingBack.{readingBack}
+use Rattle.read_back.specs.Table.{ReadsBack, reads-back, reads-back-is, refused-back}
+use Rattle.read_back.specs.declared.ReadBack.{ReadBack}
 use Rattle.promises.specs.Tables as table
 use Rattle.promises.specs.Tables.{Unfit, CountsOpen, counts-open, counts-only, Finishes, finishes, finishes-only, Derives, derives, derives-only}
 use Rattle.promises.specs.Matching as matching
@@ -169,6 +172,10 @@ pub record Demand1 : Type 0 where
   pub strike : (c : FlatChart) (m : Marking) (numbers : List ℕ) (p : ℕ) → Strikes c m numbers p (striking c m numbers p)
   pub strikeOnly : (c : FlatChart) (m : Marking) (numbers : List ℕ) (p : ℕ) (s : Struck) → Strikes c m numbers p s → s ≡ striking c m numbers p
   pub strikeRefused : (c : FlatChart) (m : Marking) (numbers : List ℕ) (p : ℕ) → (striking c m numbers p .answer .code ≡ 0 → ⊥) → striking c m numbers p .marking ≡ m
+  -- reading a book back: 20 to 26, 33; a refusal gives the empty chart
+  pub readBack : (book : List ℕ) → ReadsBack book (readingBack book)
+  pub readBackOnly : (book : List ℕ) (r : ReadBack) → ReadsBack book r → r ≡ readingBack book
+  pub readBackRefused : (book : List ℕ) → (readingBack book .answer .code ≡ 0 → ⊥) → readingBack book ≡ record { answer = readingBack book .answer; chart = emptyChart }
 
 pub demand-1 : Demand1
 unfolding completing completingIndexed
@@ -224,6 +231,9 @@ demand-1 =
       strike = strikes;
       strikeOnly = λ c m numbers p s x. strikes-only c m numbers p x;
       strikeRefused = strike-kept;
+      readBack = reads-back;
+      readBackOnly = reads-back-is;
+      readBackRefused = refused-back;
     }
 
 -- ---- two results that meet a contract coincide: the calls whose lemma stands here; the others' stand beside their definitions

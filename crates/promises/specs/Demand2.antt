@@ -47,7 +47,7 @@ use Rattle.agreement.specs.Passing.{derived-calm, derived-no-loop}
 use Rattle.promises.specs.Matching.{matched, marks-whole}
 
 -- a granted derivation writes the image and leaves the room behind it as it was
-granted-bytes : (c : FlatChart) → Fit c → (bytes : List ℕ) → length (derivedImage c) ≤ length bytes
+pub granted-bytes : (c : FlatChart) → Fit c → (bytes : List ℕ) → length (derivedImage c) ≤ length bytes
     → (derivingAnswer c (length bytes) ≡ granted) × (take (length (derivedImage c)) (derivedRoom c bytes) ≡ derivedImage c)
 unfolding derivingAnswer derivedRoom
 granted-bytes c t bytes h =
