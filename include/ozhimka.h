@@ -1,5 +1,5 @@
 // The controller's interface to Ozhimka: reading a chart, stepping it, asking what blocks an event, replaying a record of steps, deriving its
-// rule book, checking a book, indexing it, completing a stage, or a list of them.
+// rule book, reading a derived book back, checking a book, indexing it, completing a stage, or a list of them.
 //
 // For C99 and later and C++11 and later. Link libozhimka.a (x86-64, the System V calling convention); of the C library it uses memcpy,
 // memmove and memset at most. Every call ends, keeps no memory between calls, allocates nothing, and may be made from several threads at
@@ -11,8 +11,9 @@
 // call. Room that is lent to be written overlaps nothing else that the call is given. A `bool` is 0 or 1.
 //
 // Stack, at most, with the copies that the caller's code makes there of structs that go in or come back by value (ozhimka_reading takes
-// 2,672 bytes), and without what the C library and the dynamic linker take: ozhimka_check and ozhimka_build_index 20 KiB, ozhimka_complete,
-// ozhimka_complete_indexed and ozhimka_complete_list 21 KiB, ozhimka_read_chart 17 KiB, ozhimka_matching 2 KiB, every other call 1 KiB.
+// 2,672 bytes), and without what the C library and the dynamic linker take: ozhimka_read_back 25 KiB, ozhimka_check and ozhimka_build_index
+// 20 KiB, ozhimka_complete, ozhimka_complete_indexed and ozhimka_complete_list 21 KiB, ozhimka_read_chart 17 KiB, ozhimka_matching 2 KiB,
+// every other call 1 KiB.
 //
 // Every answer is a code, a place and an other. Code 0 is granted; any other refuses, and then
 //   - a marking or a snapshot that was handed in is handed back as it was; but where ozhimka_complete_list refuses within the list, it hands
@@ -80,8 +81,8 @@
 
 // The header's version. A new major number changes what a program written for the one before relies on; a new minor number adds to it.
 #define OZHIMKA_VERSION_MAJOR 4
-#define OZHIMKA_VERSION_MINOR 1
-#define OZHIMKA_VERSION "4.1"
+#define OZHIMKA_VERSION_MINOR 2
+#define OZHIMKA_VERSION "4.2"
 
 #ifdef __cplusplus
 extern "C" {
@@ -210,6 +211,7 @@ enum ozhimka_code {
     OZHIMKA_STAGE_CLOSED = 30,     // in a list place: the stage's position, from 0
     OZHIMKA_ORDER_ROOM = 31,       // room for the order too short; place: numbers needed, which is how many rules count for the stage
     OZHIMKA_NOT_PERMITTED = 32,    // the event names roles and this is none of them, or the role is above 7
+    OZHIMKA_NOT_DERIVED = 33,      // the book is not one that ozhimka_derive writes for some chart
     OZHIMKA_INDEX_UNFIT = 34,      // the index is not the one of this book
     OZHIMKA_INDEX_ROOM = 35,       // room for the index too short; place: bytes needed
     OZHIMKA_NO_SUCH_POSITION = 36, // the position to strike is outside the record
@@ -246,6 +248,12 @@ struct ozhimka_reading {
     struct ozhimka_answer answer;
     struct ozhimka_chart chart;
     struct ozhimka_marking marking;
+};
+
+// The chart behind a derived book, its roles all 0.
+struct ozhimka_read_back {
+    struct ozhimka_answer answer;
+    struct ozhimka_chart chart;
 };
 
 // Whether an event is open, and all that blocks it. With 12 and with 13 both sets are whole: `conditions` are the event's conditions that
@@ -326,7 +334,7 @@ typedef char ozhimka_sizes[sizeof(size_t) == 8 && sizeof(struct ozhimka_answer) 
                                    && sizeof(struct ozhimka_finish) == 16 && sizeof(struct ozhimka_settled) == 268
                                    && sizeof(struct ozhimka_indexed_completion) == 272 && sizeof(struct ozhimka_list_completion) == 276
                                    && sizeof(struct ozhimka_recorded) == 8 && sizeof(struct ozhimka_replayed) == 72
-                                   && sizeof(struct ozhimka_struck) == 56
+                                   && sizeof(struct ozhimka_struck) == 56 && sizeof(struct ozhimka_read_back) == 2648
                                ? 1
                                : -1];
 
@@ -448,6 +456,13 @@ static inline struct ozhimka_struck ozhimka_strike(const struct ozhimka_chart *c
     return ozhimka_strike_in(chart->count, chart->conditions, chart->responses, chart->milestones, chart->includes, chart->excludes,
                              chart->roles, start, (const uint32_t *)(const void *)steps, 2 * count, position);
 }
+
+// The flat chart behind a derived book of `length` bytes, for one whose chart was lost. It accepts exactly the books that ozhimka_derive
+// writes for some fit chart, and gives that chart's count and five relations; no chart with others has this book, and ozhimka_derive writes
+// the same bytes for what is given. A book carries no roles, no groups and no marking: role bytes are 0, which is open to everyone, and which
+// events were executed, are pending or are included at the start is for the caller to say.
+// Refuses with the first that holds of 20 to 26, 33 (not a derived book), and then gives a chart of count 0 with every set empty.
+struct ozhimka_read_back ozhimka_read_back(const uint8_t *book, size_t length);
 
 // Checks a book of `length` bytes, for all of its stages, and writes the running order of one stage to the start of the room, which has
 // place for `count` numbers; OZHIMKA_MAX_RULES are enough for any book. It writes one number for each rule that counts for the stage, as
@@ -572,6 +587,7 @@ static inline const char *ozhimka_reason(uint32_t code)
     case OZHIMKA_STAGE_CLOSED: return "the stage is closed";
     case OZHIMKA_ORDER_ROOM: return "the room for the order is too short (place: numbers needed)";
     case OZHIMKA_NOT_PERMITTED: return "the event names other roles, or the role is none of 0 to 7";
+    case OZHIMKA_NOT_DERIVED: return "the book is not a derived one";
     case OZHIMKA_INDEX_UNFIT: return "the index is not this book's";
     case OZHIMKA_INDEX_ROOM: return "the room for the index is too short (place: bytes needed)";
     case OZHIMKA_NO_SUCH_POSITION: return "the record has no such position";

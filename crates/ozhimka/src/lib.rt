@@ -13,6 +13,7 @@ ghost use Rattle.runner.specs.Completing.{completing};
 ghost use Rattle.indexed.specs.Building.{building, builtRoom};
 ghost use Rattle.indexed.specs.Indexed.{completingIndexed};
 ghost use Rattle.indexed.specs.InList.{completingList};
+ghost use Rattle.read_back.specs.ReadingBack.{readingBack};
 use book::Snapshot;
 use chart::Reading;
 use deriver::Matched;
@@ -25,6 +26,7 @@ use indexed::IndexedCompletion;
 use indexed::ListCompletion;
 use paper::Answer;
 use paper::MAX_EVENTS;
+use read_back::ReadBack;
 use replay::Replayed;
 use replay::Struck;
 use runner::Completion;
@@ -293,4 +295,11 @@ pub extern "C" fn ozhimka_complete_list(
     ensures { λ r. ⌜ r ≡ completingList (now (book .entry)) (now (index .entry)) snapshot (now (list .entry)) ⌝ }
 {
     indexed::complete_list(book, index, snapshot, list)
+}
+
+#[no_mangle]
+pub extern "C" fn ozhimka_read_back(book: &[u8]) -> ReadBack
+    ensures { λ r. ⌜ r ≡ readingBack (now (book .entry)) ⌝ }
+{
+    read_back::read_back(book)
 }

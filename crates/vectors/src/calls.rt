@@ -33,7 +33,7 @@ pub fn read(body: &[u8], line: &mut [u8; LINE]) -> usize {
     let at = show::answer(line, b"read", reading.answer);
     let at = show::number(line, at, reading.chart.count as u64);
     let at = show::marking(line, at, reading.marking);
-    show::chart(line, at, reading.chart)
+    show::chart(line, at, reading.chart, true)
 }
 
 pub fn execute(body: &[u8], line: &mut [u8; LINE]) -> usize {
@@ -205,6 +205,17 @@ pub fn complete_list(body: &[u8], line: &mut [u8; LINE]) -> usize {
     let at = show::number(line, at, completion.granted as u64);
     let at = show::snapshot(line, at, completion.snapshot);
     show::number(line, at, completion.evaluated as u64)
+}
+
+// The book is all that follows the operation.
+pub fn back(body: &[u8], line: &mut [u8; LINE]) -> usize {
+    if body.len() < FIELDS {
+        return show::bad_request(line);
+    }
+    let back = read_back::read_back(&body[FIELDS..]);
+    let at = show::answer(line, b"back", back.answer);
+    let at = show::number(line, at, back.chart.count as u64);
+    show::chart(line, at, back.chart, false)
 }
 
 // What the listing program prints for the image, which is all that follows the operation: its length and its sum.

@@ -34,6 +34,7 @@ fn serve(body: &[u8], line: &mut [u8; LINE]) -> usize {
         12 => replays::replay(body, line),
         13 => replays::strike(body, line),
         14 => calls::open_test(body, line),
+        15 => calls::back(body, line),
         18 => calls::list(body, line),
         _ => show::bad_request(line),
     }

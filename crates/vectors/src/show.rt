@@ -69,8 +69,8 @@ pub fn blocking(line: &mut [u8; LINE], at: usize, conditions: u64, milestones: u
     number(line, at, milestones)
 }
 
-// The five sets of each event, and its role byte.
-pub fn chart(line: &mut [u8; LINE], start: usize, c: FlatChart) -> usize {
+// The five sets of each event, and its role byte where roles are asked for.
+pub fn chart(line: &mut [u8; LINE], start: usize, c: FlatChart, roles: bool) -> usize {
     let n = c.count as usize;
     let mut at = start;
     let mut e = 0;
@@ -80,7 +80,9 @@ pub fn chart(line: &mut [u8; LINE], start: usize, c: FlatChart) -> usize {
         at = number(line, at, c.milestones[e]);
         at = number(line, at, c.includes[e]);
         at = number(line, at, c.excludes[e]);
-        at = number(line, at, fields::wide(c.roles[e]));
+        if roles {
+            at = number(line, at, fields::wide(c.roles[e]));
+        }
         e += 1;
     }
     at
