@@ -8,8 +8,8 @@ from chances import (NO_ROLES, in_turn, random_chart_image, random_flat, random_
                      sound_book)
 from ozhimka import (AND, BECOME_NO, BECOME_YES, CLEAR, COMPLETED, CONDITION, EXCLUDE, GRANTED, INCLUDE, MILESTONE, NONE, NOT,
                      OR, SET, Book, FlatChart, Marking, Rule, book_image, chart_image, on_completion, without_trigger)
-from protocol import (BAD, MAX_BODY, MAX_ROOM_BYTES, MAX_ROOM_NUMBERS, MAX_STEPS, bytes16, bytes32, check_request, complete_request,
-                      count_request, derive_request, execute_request, finished_request, index_request, indexed_request,
+from protocol import (BAD, MAX_BODY, MAX_ROOM_BYTES, MAX_ROOM_NUMBERS, MAX_STEPS, back_request, bytes16, bytes32, check_request,
+                      complete_request, count_request, derive_request, execute_request, finished_request, index_request, indexed_request,
                       list_request, listing_request, matching_request, open_request, read_request, replay_request, strike_request)
 
 FREE = (NONE, 4)
@@ -470,7 +470,7 @@ def stageless(book):
 
 
 def book_calls(rng, answer, image, rules):
-    """The check, the completions and the building of an index give codes 20 to 26 alike."""
+    """The check, the completions, the building of an index and the reader of derived books give codes 20 to 26 alike."""
     yield answer, check_request(rng.choice((0, rules, rules + 3)), rng.choice((0, 1, 2, 64, HUGE)), image)
     snapshot = random_snapshot(rng, rng.choice((8, 256)))
     order = [rng.randrange(rules + 2) for _ in range(rng.choice((0, rules, rules + 1)))]
@@ -479,6 +479,7 @@ def book_calls(rng, answer, image, rules):
     index = rng.choice((b'', INDEX_OF_SMALL, rng.randbytes(8)))
     yield answer, indexed_request(rng.choice((0, 1, 64, HUGE)), snapshot, index, image)
     yield answer, list_request(snapshot, [rng.choice((0, 1, 64, HUGE))] * rng.choice((0, 1, 3)), index, image)
+    yield answer, back_request(image)
 
 
 def of_text(rng, answer, words, marks):
@@ -1165,7 +1166,8 @@ def firing_causes(rng):
 def bad_requests(rng):
     """Unknown operations and bodies too short for their fields; the program goes on."""
     chart, start = model.empty_chart(1), model.empty_marking()
-    for operation in (b'\x00', b'\x0f', b'\x10', b'\x11', b'\x13', b'\x20', b'\xff'):
+    yield plain(20), back_request(b'')
+    for operation in (b'\x00', b'\x10', b'\x11', b'\x13', b'\x20', b'\xff'):
         yield BAD, operation
         yield BAD, operation + rng.randbytes(20)
     whole = (execute_request(chart, start, 0, 0), count_request(chart, start), finished_request(chart, start),
@@ -1355,6 +1357,150 @@ def record_limits(rng):
             yield BAD, body
 
 
+# ---- reading a book back
+
+def filed_flat():
+    """Four events; 3 has two conditions and two milestones, 1 is its own response, and 0 and 3 include and exclude."""
+    chart = small_flat()
+    chart.responses[1] |= {0, 1}
+    chart.responses[3].add(0)
+    chart.includes[0] |= {0, 2}
+    chart.excludes[0].add(3)
+    chart.conditions[1].add(3)
+    return chart
+
+
+def with_rules(book, changed):
+    """The book with some rules changed, {number: rule}."""
+    return book._replace(rules=[changed.get(p, rule) for p, rule in enumerate(book.rules)])
+
+
+def of_texts(book, texts, gap=()):
+    """The book with these texts, one after another, with a gap before each."""
+    conditions, words = [], []
+    for words_of in texts:
+        words += gap
+        conditions.append((len(words), len(words_of)))
+        words += words_of
+    return book._replace(conditions=conditions, words=words)
+
+
+def less_a_rule(book):
+    """Each rule left out: without an inclusion, an exclusion or another event's response it is the book of another chart."""
+    for p, rule in enumerate(book.rules):
+        sort, f = divmod(rule.target, book.stages)
+        other_chart = rule.trigger == COMPLETED and (sort == 2 or sort == 3 and rule.effect == CLEAR and f != rule.number)
+        yield GRANTED if other_chart else plain(33), book._replace(rules=book.rules[:p] + book.rules[p + 1:])
+
+
+def rules_astray(book):
+    """Books of the same texts whose rules are not the deriver's, though nothing loops or clashes."""
+    n, rules = book.stages, book.rules
+    completions = [p for p, rule in enumerate(rules) if rule.trigger == COMPLETED]
+    settling = len(completions)  # where the rules without a trigger begin
+    for p in range(len(rules) - 1):  # two neighbours exchanged
+        yield with_rules(book, {p: rules[p + 1], p + 1: rules[p]})
+    for order in (rules[settling:] + rules[:settling], rules[:settling] + rules[settling::2] + rules[settling + 1::2], rules[1:] + rules[:1], rules[::-1]):
+        yield book._replace(rules=order)
+    for p, rule in enumerate(rules):
+        yield book._replace(rules=rules[:p + 1] + rules[p:])  # twice
+        sort, f = divmod(rule.target, n)
+        if rule.trigger == COMPLETED and sort == 1:  # executed: cleared, another's, under a condition, without a trigger, of a mark
+            yield with_rules(book, {p: rule._replace(effect=CLEAR)})
+            yield with_rules(book, {p: rule._replace(target=n + (f + 1) % n)})
+            yield with_rules(book, {p: rule._replace(sense=1, condition=0)})
+            yield with_rules(book, {p: bare(rule)})
+            yield with_rules(book, {p: rule._replace(trigger=BECOME_YES, number=0)})
+    for e in range(n):  # settling the stage: both senses exchanged, a completion or a mark as trigger, two rules of one effect
+        p = settling + 2 * e
+        one, two = rules[p], rules[p + 1]
+        yield with_rules(book, {p: one._replace(sense=2), p + 1: two._replace(sense=1)})
+        yield with_rules(book, {p: one._replace(trigger=COMPLETED, number=e)})
+        yield with_rules(book, {p + 1: two._replace(trigger=BECOME_NO, number=2 * n + e)})
+        yield with_rules(book, {p + 1: two._replace(effect=SET)})
+        yield with_rules(book, {p: one._replace(sense=0, condition=0), p + 1: one})
+
+
+def texts_astray(book):
+    """Books of the same rules whose texts are not the deriver's; event 3 has conditions 0 and 2 and milestones 1 and 2."""
+    texts = [model.text(book, c) for c in range(book.stages)]
+    own, clauses = texts[3][:1], [texts[3][at:at + 5] for at in range(1, 21, 5)]
+    a, b, c, d = clauses
+    wrongs = [own + x for x in (b + a + c + d, a + b + d + c, c + d + a + b, a + c + b + d, a + a + b + c + d, a + b + c + d + d, c + a + b + d)]
+    wrongs += [a[:4] + b + c + d, a[:4], texts[3] + own + [AND], own * 2 + [AND] + a + b + c + d, texts[3] + [NOT, NOT],
+               own + a[:4] + b[:4] + c[:4] + d[:4] + [AND] * 4]
+    for at in range(1, 21):  # a word of a clause: the marks of another event or another sort, another operator
+        word = texts[3][at]
+        for other in {word + 1, word - 4, word + 4} & set(range(4, 16)) if word < 16 else {AND, OR} - {word}:
+            changed = texts[3][:at] + [other] + texts[3][at + 1:]
+            if model.is_good_text(changed, 16):
+                wrongs.append(changed)
+    for clause in ([a[2], a[0], NOT, OR, AND], [a[0], a[2], OR, AND], [a[0], NOT, a[2], AND, AND], [a[0], NOT, a[2], OR, OR], [a[0], NOT, a[2], NOT, OR, AND]):
+        wrongs.append(own + clause + b + c + d)
+    for wrong in wrongs:
+        yield of_texts(book, texts[:3] + [wrong])
+    for e in range(4):  # the stage's own mark: another's, one of another sort, negated
+        for start in ([texts[e][0] ^ 1], [texts[e][0] - 4], [texts[e][0] + 4], [texts[e][0], NOT]):
+            yield of_texts(book, texts[:e] + [start + texts[e][1:]] + texts[e + 1:])
+
+
+def records_astray(book):
+    """Counts and records that are not the deriver's, though all rules and texts are."""
+    texts, last = [model.text(book, c) for c in range(book.stages)], len(book.words)
+    for gap in ([0], [AND, NOT]):
+        yield of_texts(book, texts, gap)
+    shifted = [(start + (c > 1), count) for c, (start, count) in enumerate(book.conditions)]
+    yield book._replace(conditions=shifted, words=book.words[:shifted[2][0] - 1] + [4] + book.words[shifted[2][0] - 1:])  # before text 2 alone
+    yield book._replace(words=book.words + [0])
+    for unused in ((0, 1), (last - 21, 21), (0, last)):
+        if model.is_good_text(book.words[unused[0]:sum(unused)], book.marks):
+            yield book._replace(conditions=book.conditions + [unused])
+    yield book._replace(conditions=book.conditions + [(last, 1)], words=book.words + [4])
+    renumbered = [rule._replace(condition=rule.condition + 1) if rule.sense else rule for rule in book.rules]
+    yield book._replace(rules=renumbered, conditions=[(0, 1)] + book.conditions)
+    turned = [rule._replace(condition=3 - rule.condition) if rule.sense else rule for rule in book.rules]
+    yield book._replace(rules=turned, conditions=book.conditions[::-1])  # the records in another order, and the texts as they were
+    yield of_texts(book._replace(rules=turned), texts[::-1])
+    other = of_texts(book, [texts[1], texts[0]] + texts[2:])  # the texts in another order, and the records as they were
+    yield other._replace(conditions=[other.conditions[1], other.conditions[0]] + other.conditions[2:])
+    start = book.conditions[3][0]
+    yield book._replace(conditions=[(start + 1, 1)] + book.conditions[1:])  # the same mark, out of the first clause of event 3
+    yield book._replace(conditions=book.conditions[:3] + [(start, 1)])  # the clauses lie in no condition
+    for stages, marks in ((4, 17), (4, 256), (5, 16), (5, 20), (16, 16)):
+        yield book._replace(stages=stages, marks=marks)
+
+
+def back_causes(rng):
+    """Derived books, and code 33 in each of its ways; codes 20 to 26 stand beside those of the check."""
+    own = model.empty_chart(1)
+    own.responses[0].add(0)
+    for chart in (model.empty_chart(1), own, small_flat(), filed_flat(), with_roles(filed_flat(), {0: {0}, 3: range(8)}), model.read_chart(model.PAPER_CHART)[1],
+                  model.empty_chart(63), model.empty_chart(64), random_flat(rng, 9, 0.4), random_flat(rng, 5, 1.0)):
+        image = book_image(model.derived_book(chart))
+        assert model.read_back(image) == (GRANTED, with_roles(chart, {}))
+        yield GRANTED, back_request(image)
+    book = model.derived_book(filed_flat())
+    for answer, other in less_a_rule(book):
+        yield answer, back_request(book_image(other))
+    for astray in (rules_astray, texts_astray, records_astray):
+        for other in astray(book):
+            yield plain(33), back_request(book_image(other))
+    for other in (Book(0, 0, [], [], []), Book(0, 4, [], [], []), Book(0, 3, [Rule(BECOME_YES, 0, SET, 0, 1, 0, 2)], [], []), Book(1, 1, [], [], []),
+                  Book(1, 4, [], [], []), Book(64, 256, [], [], []), Book(1, 4, [], [(0, 1)], [2]), sound_small(), lasting(), sound_book(rng, 5, 12, 30)):
+        yield plain(33), back_request(book_image(other))
+    # a pair both included and excluded, an answered mark both cleared and set, a clearing rule with a record of its own: 26 comes first
+    n, rules = 4, book.rules
+    both = rules[:1] + [on_completion(0, CLEAR, 2 * n)] + rules[1:]
+    answered = rules.index(on_completion(0, SET, 3 * n))
+    twice = rules[:answered] + [on_completion(0, CLEAR, 3 * n)] + rules[answered:]
+    apart = book._replace(rules=rules[:-1] + [rules[-1]._replace(condition=4)], conditions=book.conditions + book.conditions[-1:])
+    for answer, other in ((plain(26, 0, 1), book._replace(rules=both)), (plain(26, answered, answered + 1), book._replace(rules=twice)),
+                          (plain(26, len(rules) - 2, len(rules) - 1), apart)):
+        yield answer, back_request(book_image(other))
+    looping = [model.text(book, c) for c in range(3)] + [[2 * n + 3, 3, OR]]
+    yield plain(25, 3), back_request(book_image(of_texts(book, looping)))
+
+
 # ---- the largest sizes
 
 def largest_chart(rng):
@@ -1399,6 +1545,8 @@ def largest_derived_book(rng):
     snapshot = model.matching(chart, Marking(everyone, set(), everyone))[1]
     stage = rng.randrange(64)
     yield GRANTED, complete_request(stage, snapshot, model.running_order(book, stage), image)
+    yield GRANTED, back_request(image)
+    yield plain(33), back_request(image[:-2] + bytes16(OR))
 
 
 def largest_indexes(rng):
@@ -1541,6 +1689,6 @@ CAUSES = (header_causes, node_causes, group_causes, conflict_causes, accepted_ch
           blocking_causes, role_causes, marking_causes, derive_causes, book_header_causes, rule_causes, condition_causes, loop_causes, stage_loop_causes,
           looping_stage_causes, whole_book_causes, clash_causes, order_causes, order_room_causes, pair_causes, index_room_causes,
           unfit_index_causes, indexed_causes, list_causes, list_order_causes, evaluated_causes, running_order_causes, firing_causes,
-          bad_requests, request_limits, listing_causes, replay_causes, strike_causes, unfit_record_causes)
+          bad_requests, request_limits, listing_causes, replay_causes, strike_causes, unfit_record_causes, back_causes)
 LARGEST = (largest_charts, largest_derivings, largest_derived_book, largest_indexes, largest_lists, largest_hand_made,
            completions_with_conditions, wide_conditions, record_limits)

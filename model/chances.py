@@ -2,7 +2,7 @@
 
 import ozhimka as model
 from ozhimka import AND, NONE, NOT, OR, Book, Marking, Rule
-from protocol import (FLAT_BYTES, check_request, complete_request, count_request, derive_request, execute_request,
+from protocol import (FLAT_BYTES, back_request, check_request, complete_request, count_request, derive_request, execute_request,
                       finished_request, index_request, indexed_request, list_request, listing_request, matching_request, open_request,
                       read_request, replay_request, strike_request)
 
@@ -635,6 +635,92 @@ def run_of_both(rng, chart, marking, steps_to_go):
     yield list_request(first, taken, model.index_of(book), book)  # the whole run as one list, which stops at the first refused step
 
 
+def other_rules(rng, book):
+    """The rules with one moved, two exchanged, one changed in one field, one missing, one twice, or one more of a relation."""
+    rules, way = list(book.rules), rng.choice(('move', 'exchange', 'target', 'target', 'effect', 'missing', 'twice', 'trigger', 'sense', 'another'))
+    p, q = rng.randrange(len(rules)), rng.randrange(len(rules))
+    if way == 'move':
+        rules.insert(q, rules.pop(p))
+    elif way == 'exchange':
+        rules[p], rules[q] = rules[q], rules[p]
+    elif way == 'target':
+        rules[p] = rules[p]._replace(target=rng.choice((rules[p].target ^ 1, rng.randrange(book.marks))))
+    elif way == 'effect':
+        rules[p] = rules[p]._replace(effect=1 - rules[p].effect)
+    elif way == 'missing':
+        rules.pop(p)
+    elif way == 'twice':
+        rules.insert(q, rules[p])
+    elif way == 'trigger':
+        kind = rng.randrange(4)
+        rules[p] = rules[p]._replace(trigger=kind, number=0 if kind == 0 else rng.randrange(book.stages))
+    elif way == 'sense':
+        sense = rng.randrange(3)
+        rules[p] = rules[p]._replace(sense=sense, condition=rules[p].condition if sense else 0)
+    else:
+        n = book.stages
+        rules.insert(p, model.on_completion(rng.randrange(n), rng.randrange(2), rng.choice((2, 3)) * n + rng.randrange(n)))
+    return book._replace(rules=rules)
+
+
+def other_texts(rng, book):
+    """One word of a text changed, a clause missing, twice or elsewhere, a gap, an unused condition, one count of a record changed, or two
+    records exchanged."""
+    conditions, words = list(book.conditions), list(book.words)
+    way = rng.choice(('word', 'word', 'word', 'clause', 'clause', 'clause', 'gap', 'unused', 'count', 'records'))
+    c = rng.randrange(len(conditions))
+    start, count = conditions[c]
+    if start + count > len(words):  # changed before
+        return book
+    if way == 'word':
+        at = rng.randrange(start, start + count)
+        words[at] = rng.choice((AND, OR, NOT)) if words[at] >= book.marks else rng.choice((words[at] ^ 1, rng.randrange(book.marks)))
+    elif way == 'clause' and count > 1:
+        clauses = [words[at:at + 5] for at in range(start + 1, start + count, 5)]
+        clause = clauses[rng.randrange(len(clauses))] if rng.random() < 0.5 else clauses.pop(rng.randrange(len(clauses)))
+        if rng.random() < 0.6:
+            clauses.insert(rng.randrange(len(clauses) + 1), clause)
+        text = words[start:start + 1] + sum(clauses, [])
+        words[start:start + count] = text
+        conditions = [(at if at <= start else at + len(text) - count, length) for at, length in conditions]
+        conditions[c] = (start, len(text))
+    elif way == 'gap':
+        words[start:start] = [rng.choice((0, AND, NOT, 60000))]
+        conditions = [(at + (at >= start), length) for at, length in conditions]
+    elif way == 'unused':
+        conditions.append(rng.choice(((start, 1), (start, count), (len(words) - 1, 1))))
+    elif way == 'count':
+        conditions[c] = rng.choice(((start, max(1, count + rng.choice((-5, -1, 1, 5)))), (start + rng.choice((-1, 1, 5)) & 0xFFFF, count)))
+    else:
+        other = rng.randrange(len(conditions))
+        conditions[c], conditions[other] = conditions[other], conditions[c]
+    return book._replace(conditions=conditions, words=words)
+
+
+def other_counts(rng, book):
+    """Other stages or marks than the deriver's, often none."""
+    stages = rng.choice((0, 0, book.stages - 1, book.stages + 1, book.stages))
+    rules = [rule for rule in book.rules if rule.trigger != 1 or rule.number < stages]
+    return book._replace(stages=stages, marks=max(book.marks + rng.choice((0, 0, 1, -1)), stages), rules=rng.choice((rules, book.rules)))
+
+
+def read_backs(rng):
+    """A derived book read back, and the same changed in one way or two; whatever is accepted is what the deriver writes for its chart."""
+    chart = random_flat(rng, rng.choice((1, 2, 2, 3, 3, 4, 5, 8)), rng.choice((0.0, 0.1, 0.3, 0.5, 1.0)))
+    book = model.derived_book(chart)
+    assert model.read_back(model.book_image(book)) == (model.GRANTED, chart._replace(roles=[set() for e in range(64)]))
+    yield back_request(model.book_image(book))
+    for ways in ((other_rules,), (other_rules,), (other_texts,), (other_texts,), (other_counts,), (other_rules, other_texts), (other_texts, other_texts)):
+        other = book
+        for change in ways:
+            other = change(rng, other)
+        image = model.book_image(other)
+        answer, found = model.read_back(image)
+        assert answer != model.GRANTED or model.book_image(model.derived_book(found)) == image
+        yield back_request(image)
+    yield back_request(with_bytes_changed(rng, model.book_image(book)))
+
+
 def with_bytes_changed(rng, image):
     image = bytearray(image)
     way = rng.choice(('bytes', 'bytes', 'bytes', 'bit', 'cut', 'longer', 'header'))
@@ -675,7 +761,7 @@ def damaged_books(rng):
     image = with_bytes_changed(rng, model.book_image(book))
     stage = rng.randrange(book.stages + 1)
     snapshot = random_snapshot(rng, book.marks)
-    yield rng.choice((lambda: check_request(len(book.rules), stage, image), lambda: index_request(rng.choice((0, 1000)), image),
+    yield rng.choice((lambda: check_request(len(book.rules), stage, image), lambda: back_request(image), lambda: index_request(rng.choice((0, 1000)), image),
                       lambda: complete_request(stage, snapshot, model.counted(book, stage), image),
                       lambda: indexed_request(stage, snapshot, rng.randbytes(8 + 8 * book.stages), image),
                       lambda: list_request(snapshot, [stage] * rng.randrange(3), rng.randbytes(8 + 8 * book.stages), image)))()
@@ -694,6 +780,6 @@ def damaged_flats(rng):
     yield bytes(body) if body[0] in (2, 14) else bytes(body[:-8])
 
 
-SMALL = (charts, wild_checks, wild_completions, circles, crowded_books, sound_books, sound_runs, indexes, lists,
+SMALL = (charts, wild_checks, wild_completions, circles, crowded_books, sound_books, sound_runs, indexes, lists, read_backs,
          damaged_charts, badly_flagged, damaged_books, listings)
 WIDE = (steps, derivings, side_by_side, damaged_flats, records)  # their requests carry a flat chart of 2,628 bytes

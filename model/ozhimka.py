@@ -729,6 +729,39 @@ def complete_list(image, index, snapshot, stages):
     return GRANTED, len(stages), snapshot, evaluated
 
 
+# ---- Reading a book back
+
+def chart_behind(book):
+    """The chart that the book was derived from, if it was derived from any: what its rules and texts name, wherever they stand."""
+    n = book.stages
+    chart = empty_chart(n)
+    for rule in book.rules:
+        if rule.trigger == COMPLETED:
+            sort, f = divmod(rule.target, n)
+            if sort == 2:
+                (chart.includes if rule.effect == SET else chart.excludes)[rule.number].add(f)
+            elif sort == 3 and rule.effect == CLEAR:
+                chart.responses[rule.number].add(f)
+    for e in range(min(n, len(book.conditions))):
+        for word in text(book, e):
+            sort, f = divmod(word, n)
+            if sort == 1:
+                chart.conditions[e].add(f)
+            elif sort == 3:
+                chart.milestones[e].add(f)
+    return chart
+
+
+def read_back(image):
+    """The answer and the chart, without marking or roles. Accepted are exactly the books that the deriver writes for some fit flat chart."""
+    try:
+        chart = chart_behind(judged_book(image))
+        refuse_if(33, not is_fit_chart(chart) or book_image(derived_book(chart)) != image)
+    except Refused as refused:
+        return refused.answer, empty_chart()
+    return GRANTED, chart
+
+
 # ---- The program "book listing"
 
 def listing(image):
@@ -971,6 +1004,30 @@ def blocking_examples():
             assert strike(five, marking, 1, [(4, 0)] * 2)[::2] == ((code[0], 0, 0), blocks)  # named by its position
 
 
+def back_examples():
+    """The paper's chart comes back from its book, and so does each chart of one event; a book without stages, and one whose rules stand in
+    another order, are no derived books."""
+    answer, chart, start = read_chart(PAPER_CHART)
+    book = derived_book(chart)
+    assert read_back(book_image(book)) == (GRANTED, chart)
+    for rules in (book.rules[1:] + book.rules[:1], book.rules[:-1], book.rules + book.rules[-1:]):
+        assert read_back(book_image(book._replace(rules=rules))) == ((33, 0, 0), empty_chart())
+    assert read_back(book_image(book._replace(rules=book.rules[1:])))[1].responses[0] == set()  # of the chart without that response
+    for stages, marks in ((0, 0), (0, 4), (1, 4)):
+        assert read_back(book_image(Book(stages, marks, [], [], [])))[0] == (33, 0, 0)
+    charts = []
+    for tables_of_one in range(32):
+        chart = empty_chart(1)
+        for table in range(5):
+            chart[1 + table][0].update({0} if tables_of_one >> table & 1 else ())
+        if is_fit_chart(chart):
+            charts.append(chart)
+            assert read_back(book_image(derived_book(chart))) == (GRANTED, chart)
+            chart.roles[0].add(3)
+            assert read_back(book_image(derived_book(chart)))[1].roles[0] == set()
+    assert len(charts) == 24 and len({book_image(derived_book(chart)) for chart in charts}) == 24
+
+
 def orders_agree():
     """Small random books without a loop, also over all rules, get one running order from both functions that make it."""
     rng = random.Random(1)
@@ -1005,5 +1062,6 @@ if __name__ == '__main__':
         evaluated_examples()
         replay_examples()
         blocking_examples()
+        back_examples()
         orders_agree()
         print('the settled examples hold')

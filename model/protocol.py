@@ -97,6 +97,10 @@ def open_request(chart, marking, event):
     return b'\x0e' + flat_bytes(chart) + marking_bytes(marking) + bytes32(event)
 
 
+def back_request(image):
+    return b'\x0f' + image
+
+
 def listing_request(image):
     return bytes([LISTING]) + image
 
@@ -165,6 +169,8 @@ def line_for(body):
     if operation in (12, 13):
         record = record_at(body, 1 + FLAT_BYTES + MARKING_BYTES + (4 if operation == 13 else 0))
         return BAD if record is None else record_line(operation, body, record)
+    if operation == 15:
+        return back_line(body)
     if operation == LISTING:
         return listing_line(body)
     return BAD
@@ -269,6 +275,11 @@ def record_line(operation, body, record):
         return line('replay', answer, values)
     answer, marking, blocks = model.strike(chart, start, model.number32(body, 1 + FLAT_BYTES + MARKING_BYTES), record)
     return line('strike', answer, [worth(entry) for entry in marking + blocks])
+
+
+def back_line(body):
+    answer, chart = model.read_back(body[1:])
+    return line('back', answer, [chart.count] + [worth(table[e]) for e in range(chart.count) for table in model.tables(chart)])
 
 
 def listing_line(body):

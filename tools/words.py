@@ -77,6 +77,7 @@ REFUSALS = {
     30: ('STAGE_CLOSED', 'the stage is closed'),
     31: ('ORDER_ROOM', 'the order takes room for {place:,} numbers, more than there is'),
     32: ('NOT_PERMITTED', 'the event names other roles, or the role is none of 0 to 7'),
+    33: ('NOT_DERIVED', 'the book is not a derived book: it is not what any chart gives'),
     34: ('INDEX_UNFIT', "the index is not this book's: it was made for another book, or has been altered"),
     35: ('INDEX_ROOM', 'the index takes {place:,} bytes, more than there is room for'),
     36: ('NO_SUCH_POSITION', 'there is no such position in the record'),
