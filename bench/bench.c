@@ -37,6 +37,7 @@ static struct ozhimka_recorded own_record[LONGEST_RECORD];
 _Static_assert(sizeof own_chart == sizeof chart && sizeof own_marking == sizeof marking && sizeof own_snapshot == sizeof snapshot
                    && sizeof(struct ozhimka_reading) == sizeof(struct reading) && sizeof(struct ozhimka_step) == sizeof(struct step)
                    && sizeof(struct ozhimka_open_test) == sizeof(struct open_test)
+                   && sizeof(struct ozhimka_read_back) == sizeof(struct read_back)
                    && sizeof(struct ozhimka_open_count) == sizeof(struct open_count)
                    && sizeof(struct ozhimka_finish) == sizeof(struct finish)
                    && sizeof(struct ozhimka_settled) == sizeof(struct settled)
@@ -65,6 +66,7 @@ static union {
     struct reading reading;
     struct step step;
     struct open_test open_test;
+    struct read_back read_back;
     struct open_count open_count;
     struct finish finish;
     struct settled settled;
@@ -78,6 +80,7 @@ static union {
     struct ozhimka_reading reading;
     struct ozhimka_step step;
     struct ozhimka_open_test open_test;
+    struct ozhimka_read_back read_back;
     struct ozhimka_open_count open_count;
     struct ozhimka_finish finish;
     struct ozhimka_settled settled;
@@ -149,6 +152,8 @@ static void plain_14(void) { plain_out.step = plain_strike(&chart, marking, reco
 static void own_14(void) { own_out.struck = ozhimka_strike(&own_chart, own_marking, own_record, steps, struck); }
 static void plain_15(void) { plain_out.open_test = plain_open_test(&chart, marking, event); }
 static void own_15(void) { own_out.open_test = ozhimka_open_test(&own_chart, own_marking, event); }
+static void plain_16(void) { plain_out.read_back = plain_read_back(book, book_length); }
+static void own_16(void) { own_out.read_back = ozhimka_read_back(book, book_length); }
 
 // The record by a call of execute for each step.
 static void plain_each(void)
@@ -179,18 +184,23 @@ static bool same_marking(const struct marking *plain, const struct ozhimka_marki
     return plain->executed == own->executed && plain->pending == own->pending && plain->included == own->included;
 }
 
-static bool same_reading(void)
+static bool same_chart(const struct flat_chart *plain, const struct ozhimka_chart *own)
 {
-    const struct flat_chart *plain = &plain_out.reading.chart;
-    const struct ozhimka_chart *own = &own_out.reading.chart;
     return plain->count == own->count && memcmp(plain->conditions, own->conditions, sizeof own->conditions) == 0
            && memcmp(plain->responses, own->responses, sizeof own->responses) == 0
            && memcmp(plain->milestones, own->milestones, sizeof own->milestones) == 0
            && memcmp(plain->includes, own->includes, sizeof own->includes) == 0
            && memcmp(plain->excludes, own->excludes, sizeof own->excludes) == 0
-           && memcmp(plain->roles, own->roles, sizeof own->roles) == 0
+           && memcmp(plain->roles, own->roles, sizeof own->roles) == 0;
+}
+
+static bool same_reading(void)
+{
+    return same_chart(&plain_out.reading.chart, &own_out.reading.chart)
            && same_marking(&plain_out.reading.start, &own_out.reading.marking);
 }
+
+static bool same_read_back(void) { return same_chart(&plain_out.read_back.chart, &own_out.read_back.chart); }
 
 static bool same_step(void)
 {
@@ -257,13 +267,14 @@ static const struct call calls[] = {
     {"finished", plain_4, NULL, own_4, same_finish},
     {"matching", plain_5, NULL, own_5, same_snapshot},
     {"derive", plain_6, NULL, own_6, same_answer},
+    {"read_back", plain_16, NULL, own_16, same_read_back},
     {"check", plain_7, lean_7, own_7, same_answer},
     {"complete", plain_8, lean_8, own_8, same_snapshot},
     {"build_index", plain_9, lean_9, own_9, same_answer},
     {"complete_indexed", plain_10, lean_10, own_10, same_indexed},
 };
 
-enum { CALLS = sizeof calls / sizeof calls[0], CHECK = 7, LAST = CALLS - 1 };
+enum { CALLS = sizeof calls / sizeof calls[0], CHECK = 8, LAST = CALLS - 1 };
 
 static const struct call list_call = {"complete_list", plain_11, lean_11, own_11, same_list},
                          list_in_turn = {"complete_indexed, 256 calls", plain_12, lean_12, own_12, same_list};

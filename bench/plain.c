@@ -3,7 +3,7 @@
 
 #include <string.h>
 
-enum { NO_PARENT = 65535, MAX_NODES = 128, MAX_RELATIONS = 4096, MAX_EVENTS = 64, MAX_ROLES = 8, FLAGS_BYTE = 256 };
+enum { NO_PARENT = 65535, MAX_BOOK = 167968, MAX_NODES = 128, MAX_RELATIONS = 4096, MAX_EVENTS = 64, MAX_ROLES = 8, FLAGS_BYTE = 256 };
 
 // ---- reading a chart
 
@@ -539,6 +539,59 @@ static struct answer judge(const uint8_t *image, size_t length, struct book *boo
     if (mark < MAX_MARKS)
         return refused(25, mark, 0);
     return first_clash(book);
+}
+
+// ---- reading a book back
+
+// What a rule on completion of its stage says of the chart of n events.
+static void gather_rule(struct flat_chart *chart, struct rule rule)
+{
+    uint32_t n = chart->count, sort = rule.target / n, f = rule.target % n;
+    if (sort == 2 && rule.effect == SET)
+        chart->includes[rule.number] |= only(f);
+    else if (sort == 2)
+        chart->excludes[rule.number] |= only(f);
+    else if (sort == 3 && rule.effect == CLEAR)
+        chart->responses[rule.number] |= only(f);
+}
+
+// The chart that the rules and texts say, if the counts are a derived book's.
+static bool gather(const struct book *book, struct flat_chart *chart)
+{
+    uint32_t n = book->stages;
+    if (n == 0 || book->marks != 4 * n || book->conditions != n)
+        return false;
+    chart->count = n;
+    for (uint32_t p = 0; p < book->rules; p++) {
+        struct rule rule = rule_of(book, p);
+        if (rule.trigger == COMPLETED)
+            gather_rule(chart, rule);
+    }
+    for (uint32_t e = 0; e < n; e++) {
+        const uint8_t *condition = book->conditions_at + 8 * e, *word = book->words_at + 2 * get32(condition);
+        for (uint32_t left = get32(condition + 4); left > 0; left--, word += 2) {
+            uint32_t mark = get16(word);
+            if (mark >= n && mark < 2 * n)
+                chart->conditions[e] |= only(mark - n);
+            else if (mark >= 3 * n && mark < 4 * n)
+                chart->milestones[e] |= only(mark - 3 * n);
+        }
+    }
+    return fit_chart(chart);
+}
+
+struct read_back plain_read_back(const uint8_t *image, size_t length)
+{
+    struct read_back back = {.answer = granted};
+    struct book book;
+    back.answer = judge(image, length, &book);
+    if (back.answer.code != 0)
+        return back;
+    uint8_t again[MAX_BOOK]; // the book of the gathered chart, whose header tells first whether it is as long
+    if (gather(&book, &back.chart) && plain_derive(&back.chart, again, length).code == 0 && memcmp(again, image, 32) == 0
+        && memcmp(again, image, length) == 0)
+        return back;
+    return (struct read_back){.answer = refused(33, 0, 0)};
 }
 
 // ---- the running order

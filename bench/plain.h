@@ -33,6 +33,11 @@ struct reading {
     struct marking start;
 };
 
+struct read_back {
+    struct answer answer;
+    struct flat_chart chart;
+};
+
 // What blocks an event, with 12 and 13; else two empty sets.
 struct open_test {
     struct answer answer;
@@ -93,6 +98,7 @@ struct open_count plain_count_open(const struct flat_chart *chart, struct markin
 struct finish plain_finished(const struct flat_chart *chart, struct marking marking);
 struct settled plain_matching(const struct flat_chart *chart, struct marking marking);
 struct answer plain_derive(const struct flat_chart *chart, uint8_t *room, size_t length);
+struct read_back plain_read_back(const uint8_t *image, size_t length);
 struct answer plain_check(const uint8_t *image, size_t length, uint32_t stage, uint16_t *room, size_t count);
 struct settled plain_complete(const uint8_t *image, size_t length, const uint16_t *order, size_t count, struct snapshot snapshot,
                               uint32_t stage);

@@ -153,6 +153,16 @@ static bool derive(const uint8_t *at, size_t length)
     return true;
 }
 
+static void read_back(const uint8_t *book, size_t length)
+{
+    struct read_back back = plain_read_back(book, length);
+    say("back", back.answer);
+    printf(" %" PRIu32, back.chart.count);
+    for (uint32_t e = 0; e < back.chart.count; e++)
+        printf(" %" PRIu64 " %" PRIu64 " %" PRIu64 " %" PRIu64 " %" PRIu64, back.chart.conditions[e], back.chart.responses[e],
+               back.chart.milestones[e], back.chart.includes[e], back.chart.excludes[e]);
+}
+
 static bool check(const uint8_t *at, size_t length)
 {
     if (length < 8 || number(at, 4) > MAX_NUMBERS)
@@ -357,6 +367,9 @@ static bool serve(const uint8_t *at, size_t length)
         return complete_list(at + 1, length - 1);
     case 12: case 13:
         return on_record(at[0], at + 1, length - 1);
+    case 15:
+        read_back(at + 1, length - 1);
+        return true;
     case LISTING:
         listing(at + 1, length - 1);
         return true;
