@@ -12,4 +12,6 @@ pub mod Replays
 pub mod Blocks
 pub mod Roles
 pub mod Stages
+pub mod ReadBack
+pub mod OneChart
 pub mod Rows
