@@ -31,14 +31,13 @@ In s f = has s f ≡ true
 abbrev pub rolesOf : FlatChart → ℕ → ℕ
 rolesOf c e = getD (c .roles) e 0
 
--- "A flat chart is fit if the count is 1 to 64, no bit stands outside it, every set past it is empty, and no pair has both include and exclude." Request (i):
--- "The flat chart holds a role byte per event, 0 past the count."
+-- "A flat chart is fit if the count is 1 to 64, no bit stands outside it, every set past it is empty", and no more by request (xii): "A fit flat chart may have a pair
+-- in both tables." Request (i): "The flat chart holds a role byte per event, 0 past the count."
 pub record Fit (c : FlatChart) : Type 0 where
   pub some : 1 ≤ c .count
   pub few : c .count ≤ maxEvents
   pub inside : (k : Kind) (e f : ℕ) → e < c .count → In (setOf c k e) f → f < c .count
   pub past : (k : Kind) (e : ℕ) → c .count ≤ e → e < maxEvents → setOf c k e ≡ 0
-  pub apart : (e f : ℕ) → e < maxEvents → In (setOf c include e) f → In (setOf c exclude e) f → ⊥
   pub unnamed : (e : ℕ) → c .count ≤ e → e < maxEvents → rolesOf c e ≡ 0
 
 -- "A marking is three sets: Ex, Re, In; it is fit if no bit stands outside the count."

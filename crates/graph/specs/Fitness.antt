@@ -12,14 +12,14 @@ use borrow.Author.Count.{below-more}
 use Rattle.paper.specs.Limits.{maxEvents}
 use Rattle.general.specs.Cases.{contra, cases, both, all3, either, not-so}
 use Rattle.general.specs.Below.{every, every-at, every-of}
-use Rattle.sets.specs.Set.{has, union, inter, minus, allBelow}
-use Rattle.sets.specs.Laws.{has-union, has-empty, has-all, none-zero, union-zero, minus-none, none-minus, apart-not, not-apart, within-lt, lt-within}
+use Rattle.sets.specs.Set.{has, union, minus, allBelow}
+use Rattle.sets.specs.Laws.{has-union, has-empty, has-all, none-zero, union-zero, minus-none, none-minus, within-lt, lt-within}
 use Rattle.graph.specs.declared.FlatChart.{FlatChart}
 use Rattle.graph.specs.declared.Marking.{Marking}
 use Rattle.graph.specs.Chart.{Kind, condition, response, milestone, include, exclude, setOf, In, Fit, FitMarking}
 use Rattle.graph.specs.Tests.{allowedAt, rowSpill, spillAt, spillOf, rolesFrom, fitTables, fitChart, fitMarking, fit}
 
--- ---- one row: nothing spills exactly if each set keeps to what it may hold, and nothing is both included and excluded
+-- ---- one row: nothing spills exactly if each set keeps to what it may hold
 
 -- the sets of event e together, and what they may hold
 module _ (c : FlatChart) (e w : ℕ) where
@@ -52,25 +52,15 @@ module _ (c : FlatChart) (e w : ℕ) where
       (λ h. either ((a || b) || d) i h (λ h. either (a || b) d h (λ h. either a b h (g condition) (g response)) (g milestone)) (g include))
       (g exclude)
 
-  row-clean : ((k : Kind) (f : ℕ) → In (setOf c k e) f → In w f) → ((f : ℕ) → In (setOf c include e) f → In (setOf c exclude e) f → ⊥)
+  row-clean : ((k : Kind) (f : ℕ) → In (setOf c k e) f → In w f)
       → eqb (rowSpill w (setOf c condition e) (setOf c response e) (setOf c milestone e) (setOf c include e) (setOf c exclude e)) 0 ≡ true
   unfolding rowSpill all-sets
-  row-clean h g =
-      union-zero (minus all-sets w) (inter (setOf c include e) (setOf c exclude e))
-      ∙ rw (
-        eq-eqb (minus all-sets w) 0 (none-minus all-sets w (λ f i. in-each (In w f) f i (λ k. h k f))),
-        eq-eqb (inter (setOf c include e) (setOf c exclude e)) 0 (not-apart (setOf c include e) (setOf c exclude e) g),
-      )
+  row-clean h = eq-eqb (minus all-sets w) 0 (none-minus all-sets w (λ f i. in-each (In w f) f i (λ k. h k f)))
 
   clean-row : eqb (rowSpill w (setOf c condition e) (setOf c response e) (setOf c milestone e) (setOf c include e) (setOf c exclude e)) 0 ≡ true
-      → ((k : Kind) (f : ℕ) → In (setOf c k e) f → In w f) × ((f : ℕ) → In (setOf c include e) f → In (setOf c exclude e) f → ⊥)
+      → (k : Kind) (f : ℕ) → In (setOf c k e) f → In w f
   unfolding rowSpill all-sets
-  clean-row t =
-      let u = both (eqb (minus all-sets w) 0) (eqb (inter (setOf c include e) (setOf c exclude e)) 0)
-      (sym (union-zero (minus all-sets w) (inter (setOf c include e) (setOf c exclude e))) ∙ t) in (
-        λ k f h. minus-none all-sets w (eqb-true _ 0 (u .0)) f (each-in k f h),
-        λ f. apart-not (setOf c include e) (setOf c exclude e) f (eqb-true _ 0 (u .1)),
-      )
+  clean-row t k f h = minus-none all-sets w (eqb-true _ 0 t) f (each-in k f h)
 
 -- ---- all rows
 
@@ -109,7 +99,7 @@ module _ (c : FlatChart) where
         le-leb 1 (c .count) (t .some),
         le-leb (c .count) maxEvents (t .few),
         spill-every c (c .count) maxEvents,
-        every-of maxEvents (clean c (c .count)) (λ e l. row-clean c e (allowedAt (allBelow (c .count)) e (c .count)) (λ k f h. kept k e f l h) (λ f. t .apart e f l)),
+        every-of maxEvents (clean c (c .count)) (λ e l. row-clean c e (allowedAt (allBelow (c .count)) e (c .count)) (λ k f h. kept k e f l h)),
         unnamed-from (c .roles) (c .count) (maxEvents - c .count) (λ i l. t .unnamed (c .count + i) (omega arith) (omega arith)),
       )
     where
@@ -131,8 +121,7 @@ module _ (c : FlatChart) where
         both (eqb (spillOf (c .count) (c .conditions) (c .responses) (c .milestones) (c .includes) (c .excludes) maxEvents) 0)
         (eqb (rolesFrom (c .roles) (c .count) (maxEvents - c .count)) 0) (tested .2)
 
-    row : (e : ℕ) → e < maxEvents
-        → ((k : Kind) (f : ℕ) → In (setOf c k e) f → In (allowedAt (allBelow (c .count)) e (c .count)) f) × ((f : ℕ) → In (setOf c include e) f → In (setOf c exclude e) f → ⊥)
+    row : (e : ℕ) → e < maxEvents → (k : Kind) (f : ℕ) → In (setOf c k e) f → In (allowedAt (allBelow (c .count)) e (c .count)) f
     unfolding spillAt
     row e l = clean-row c e _ (every-at maxEvents (clean c (c .count)) e (sym (spill-every c (c .count) maxEvents) ∙ tables .0) l)
 
@@ -143,9 +132,8 @@ module _ (c : FlatChart) where
           few = leb-true (c .count) maxEvents (tested .1);
           inside = λ k e f l i.
               let m : c .count ≤ maxEvents = leb-true (c .count) maxEvents (tested .1) in
-              ltb-true f (c .count) (sym (has-all (c .count) f) ∙ rw (lt-ltb e (c .count) l) at (row e (omega arith) .0 k f i));
-          past = λ k e l m. none-zero (setOf c k e) (λ f. not-so (λ i. contra (rw (le-ltb e (c .count) l) at (row e m .0 k f i)) (has-empty f)));
-          apart = λ e f l. row e l .1 f;
+              ltb-true f (c .count) (sym (has-all (c .count) f) ∙ rw (lt-ltb e (c .count) l) at (row e (omega arith) k f i));
+          past = λ k e l m. none-zero (setOf c k e) (λ f. not-so (λ i. contra (rw (le-ltb e (c .count) l) at (row e m k f i)) (has-empty f)));
           unnamed = λ e l m.
               let z : c .count + (e - c .count) ≡ e = omega arith in
               rw z at (from-unnamed (c .roles) (c .count) (maxEvents - c .count) (tables .1) (e - c .count) (omega arith));

@@ -3,8 +3,10 @@ pub mod Chart
 pub mod Roles
 pub mod Tests
 pub mod Fitness
+pub mod Before
 pub mod Steps
 pub mod Execution
 pub mod Opening
 pub mod HandedOn
+pub mod Overruled
 pub mod Examples

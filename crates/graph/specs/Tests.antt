@@ -9,7 +9,7 @@ use lib.ListN.{getD}
 use lib.Dec.{eqb, leb, ltb}
 use borrow.Author.Tests.{lt-leb, le-leb, lt-ltb, le-ltb}
 use Rattle.paper.specs.Limits.{maxEvents}
-use Rattle.sets.specs.Set.{union, inter, minus, within, allBelow}
+use Rattle.sets.specs.Set.{union, minus, within, allBelow}
 use Rattle.graph.specs.Chart.{chartOf}
 use Rattle.graph.specs.declared.FlatChart.{FlatChart}
 use Rattle.graph.specs.declared.Marking.{Marking}
@@ -24,9 +24,9 @@ allowed-in all e n h = rw (lt-ltb e n h)
 pub allowed-past : (all e n : ℕ) → n ≤ e → 0 ≡ allowedAt all e n
 allowed-past all e n h = rw (le-ltb e n h)
 
--- what one event's sets hold outside what they may, and both as included and excluded
+-- what one event's sets hold outside what they may
 unfoldable pub rowSpill : ℕ → ℕ → ℕ → ℕ → ℕ → ℕ → ℕ
-rowSpill allowed a b d i x = union (minus (union (union (union (union a b) d) i) x) allowed) (inter i x)
+rowSpill allowed a b d i x = minus (union (union (union (union a b) d) i) x) allowed
 
 module _ (n : ℕ) (a b d i x : List ℕ) where
   unfoldable pub spillAt : ℕ → ℕ

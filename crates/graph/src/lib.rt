@@ -40,12 +40,9 @@ fn row_spill(
 ) -> u64
     ensures { λ r. ⌜ r ≡ rowSpill allowed conditions responses milestones includes excludes ⌝ }
 {
-    sets::join(
-        sets::less(
-            conditions | responses | milestones | includes | excludes,
-            allowed,
-        ),
-        includes & excludes,
+    sets::less(
+        conditions | responses | milestones | includes | excludes,
+        allowed,
     )
 }
 

@@ -118,6 +118,7 @@ manyEvents = 7
 abbrev pub badRelation : ℕ
 badRelation = 8
 
+-- never given any more (request xii), and reserved
 abbrev pub includeExclude : ℕ
 includeExclude = 9
 

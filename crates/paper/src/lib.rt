@@ -78,6 +78,7 @@ pub const MANY_EVENTS: u32 = 7;
 
 pub const BAD_RELATION: u32 = 8;
 
+// Never given any more (request xii), and reserved.
 pub const INCLUDE_EXCLUDE: u32 = 9;
 
 pub const NO_SUCH_EVENT: u32 = 10;

@@ -8,5 +8,5 @@ pub row-spill-spec : {M : Type 1} → statement M
 row-spill-spec =
     tie.close
     (tie.spec
-    (λ c κs. search needs) (λ c κs. search needs)
+    (λ c κs. search needs)
     (λ c. unfold rowSpill in cc))
