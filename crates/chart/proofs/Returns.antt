@@ -7,7 +7,7 @@ use native.Mathlib.Omega.{arith}
 use lib.ListN.{length}
 use lib.Dec.{eqb, ltb}
 use borrow.Author.Tests.{lt-ltb, le-ltb, eqb-false, eqb-true, not-false, ltb-false}
-use Rattle.paper.specs.Limits.{maxNodes, maxRelations, maxEvents, chartHeader, chartShort, chartCount, chartLength, badNode, parentsLoop, groupFlags, manyEvents, badRelation, includeExclude}
+use Rattle.paper.specs.Limits.{maxNodes, maxRelations, maxEvents, chartHeader, chartShort, chartCount, chartLength, badNode, parentsLoop, groupFlags, manyEvents, badRelation}
 use Rattle.paper.specs.Answers.{answer, granted, refusal}
 use Rattle.paper.specs.declared.Answer.{Answer}
 use Rattle.general.specs.Cases.{neither, all3}
@@ -17,13 +17,12 @@ use Rattle.graph.specs.declared.FlatChart.{FlatChart}
 use Rattle.graph.specs.declared.Marking.{Marking}
 use Rattle.chart.specs.declared.Reading.{Reading}
 use Rattle.records.specs.Image.{nodes, relations, nodesOffset, relationsOffset, nodeAt, relationAt, outOfRange, misplaced, badNodeAt, badRelationAt, Whole}
-use Rattle.nesting.specs.Nesting.{isEvent, onLoopAt, flaggedGroupAt, eventCount}
-use Rattle.flattening.specs.Flattening.{conflict, conflictAt}
+use Rattle.nesting.specs.Nesting.{isEvent, onLoopAt, flaggedGroupAt}
 use Rattle.nesting.specs.Tables.{Groups, isEventIn, flaggedIn, EventNodes}
 use Rattle.nesting.specs.Climbing.{straight-is}
-use Rattle.flattening.specs.Cells.{Members, Good, good-of, Gathered, Flat, FlatRoles, bothAt, conflictIn, chartFrom, markingBy}
-use Rattle.flattening.specs.Meaning.{Ground, flags-are, count-is, from-is, to-is, chart-is, marking-is}
-use Rattle.chart.specs.Reading.{refused, refuseIf, refuseFirst, conflictFrom, conflictTo, readingRelations, readingNodes, reading}
+use Rattle.flattening.specs.Cells.{Members, Good, good-of, Gathered, Flat, FlatRoles, chartFrom, markingBy}
+use Rattle.flattening.specs.Meaning.{Ground, flags-are, count-is, chart-is, marking-is}
+use Rattle.chart.specs.Reading.{refused, refuseIf, refuseFirst, readingRelations, readingNodes, reading}
 
 -- ---- a scan that stops before n has found one, and one that comes to n has not
 
@@ -137,7 +136,7 @@ module _ {image : List ℕ} {n k bad : ℕ} (w : Whole image n k) (b : bad ≡ f
         pub ground-is : events ≤ maxEvents → Ground image n k groups events
         ground-is h = record { whole = w; straight = straight-is image (w .nodes) l straight; marked = g; count = count-is w g e; few = h }
 
--- ---- 8 and 9
+-- ---- 8
 
 module _ {image : List ℕ} {n k bad : ℕ} {groups : List Bool} {events : ℕ} (g : Ground image n k groups events) (b : bad ≡ first k (badRelationAt image)) where
   pub relations-bad : {r : Reading} → r ≡ refused (answer badRelation bad 0) → bad < k → r ≡ readingRelations image
@@ -148,31 +147,12 @@ module _ {image : List ℕ} {n k bad : ℕ} {groups : List Bool} {events : ℕ} 
     goods : (r : ℕ) → r < k → Good image n r
     goods r h = good-of (g .whole) refl (first-is k (badRelationAt image) .lowest r (omega arith))
 
-    module _ {nodes members gathered tables : List ℕ} {from : ℕ} (v : EventNodes groups n nodes) (m : Members image nodes events members) (a : Gathered image members k gathered)
-        (t : Flat image gathered nodes events tables) (f : from ≡ first events (conflictIn tables)) where
-      at-from : from ≡ first (eventCount image) (conflictAt image)
-      at-from = from-is g v m goods a t f
-
-      no-bad : (rest : Reading) → rest ≡ refuseFirst badRelation (relations image) (badRelationAt image) rest
-      no-bad rest =
-          passed-first badRelation (relations image) (badRelationAt image) rest (b ∙ ap (λ (x : ℕ). first x (badRelationAt image)) (g .whole .relations))
-          (let q = g .whole .relations in omega arith)
-
-      pub relations-conflict : {both to : ℕ} {r : Reading} → from < events → both ≡ bothAt tables from → to ≡ lowest maxEvents both
-          → r ≡ refused (answer includeExclude from to) → r ≡ readingRelations image
-      unfolding readingRelations conflictFrom conflictTo
-      relations-conflict {both} {to} {r} h p q e =
-          let c = g .count in
-          let o = at-from in
-          let there : conflictIn tables from ≡ true = rw f (first-is events (conflictIn tables) .passes (rw (← f) h)) in
-          let i : to ≡ first (eventCount image) (conflict image from) = to-is g v m goods a t from both to h there p q in
-          e ∙ rw (← o, ← i, first-some (eventCount image) (conflictAt image) (omega arith)) (no-bad _)
-
-      pub relations-on : {roles : List ℕ} {y : Answer} {c : FlatChart} {s : Marking} → FlatRoles image nodes events roles → events ≤ from → y ≡ granted
-          → c ≡ chartFrom events tables roles → s ≡ markingBy image nodes events
-          → record { answer = y; chart = c; marking = s } ≡ readingRelations image
-      unfolding readingRelations
-      relations-on o h p q i =
-          let c = g .count in
-          let l = at-from in
-          rw (p, chart-is g v m goods a t o q, marking-is g v i, first-not (eventCount image) (conflictAt image) (omega arith)) (no-bad _)
+    pub relations-on : {nodes members gathered tables roles : List ℕ} {y : Answer} {c : FlatChart} {s : Marking} → EventNodes groups n nodes → Members image nodes events members
+        → Gathered image members k gathered → Flat image gathered nodes events tables → FlatRoles image nodes events roles → y ≡ granted
+        → c ≡ chartFrom events tables roles → s ≡ markingBy image nodes events
+        → record { answer = y; chart = c; marking = s } ≡ readingRelations image
+    unfolding readingRelations
+    relations-on v m a t o p q i =
+        rw (p, chart-is g v m goods a t o q, marking-is g v i)
+        (passed-first badRelation (relations image) (badRelationAt image) _ (b ∙ ap (λ (x : ℕ). first x (badRelationAt image)) (g .whole .relations))
+        (let q = g .whole .relations in omega arith))

@@ -1,4 +1,4 @@
--- The paper's conditions for the refusals 1 to 9, as propositions, each tied to the test that the reader makes. Assumes nothing.
+-- The paper's conditions for the refusals 1 to 8, as propositions, each tied to the test that the reader makes. Assumes nothing.
 use Prim.Native.Nat.{ℕ, _≤_, _<_}
 use mathlib.Core.Path.{_≡_, ap₂}
 use mathlib.Core.Logic.{_↔_, _⊎_, inl, inr, ⊎-elim}
@@ -12,10 +12,10 @@ use Rattle.paper.specs.Limits.{maxNodes, maxRelations, chartHeader, noParent, m
 use Rattle.general.specs.Cases.{contra, cases, both, either, neither, all3, or-left, or-right, not-so}
 use Rattle.sets.specs.Set.{has}
 use Rattle.general.specs.Below.{some, some-of, some-at, some-none, first, first-is, first-found, Lowest}
-use Rattle.graph.specs.Chart.{Kind, include, exclude}
+use Rattle.graph.specs.Chart.{Kind}
 use Rattle.records.specs.Image.{nodes, relations, nodesOffset, relationsOffset, nodeAt, relationAt, parentOf, stateOf, rolesAt, fromOf, toOf, kindOf, outOfRange, misplaced, badNodeAt, badRelationAt}
-use Rattle.nesting.specs.Nesting.{parent, AtOrAbove, OnLoop, nested, atOrAbove, onLoopAt, isGroup, eventCount, eventNode, flaggedGroupAt, nested-so}
-use Rattle.flattening.specs.Flattening.{kindNumber, Flattened, leads, related, NamesRole, namesAt, named, conflict, conflictAt}
+use Rattle.nesting.specs.Nesting.{parent, AtOrAbove, OnLoop, nested, atOrAbove, onLoopAt, isGroup, eventNode, flaggedGroupAt, nested-so}
+use Rattle.flattening.specs.Flattening.{kindNumber, Flattened, leads, related, NamesRole, namesAt, named}
 
 -- P holds of no number below n
 abbrev pub Never : ℕ → (ℕ → Type 0) → Type 0
@@ -50,15 +50,6 @@ module _ (image : List ℕ) where
   -- 8: a from or a to that is no node, or a kind above 4
   abbrev pub BadRelation : ℕ → Type 0
   BadRelation k = ((nodes image ≤ fromOf image k) ⊎ (nodes image ≤ toOf image k)) ⊎ (kinds ≤ kindOf image k)
-
-  -- 9: "No pair may get both include and exclude."
-  abbrev pub Conflict : ℕ → ℕ → Type 0
-  Conflict e f = Flattened image include e f × Flattened image exclude e f
-
-  pub record Conflicting (e : ℕ) : Type 0 where
-    pub other : ℕ
-    pub event : other < eventCount image
-    pub pair : Conflict e other
 
 -- ---- the tests say so
 
@@ -181,20 +172,6 @@ module _ (image : List ℕ) where
         let u = both (atOrAbove image (eventNode image e) (t .0)) (has (rolesAt image (t .0)) r) (t .2) in
         record { node = t .0; exists = t .1; above = above-so (eventNode image e) (t .0) .0 (u .0); names = u .1 },
     λ n. some-of (nodes image) (namesAt image e r) (n .node) (n .exists) (rw (above-so (eventNode image e) (n .node) .1 (n .above), n .names)),
-  )
-
-  -- ---- include and exclude
-
-  pub conflict-so : (e f : ℕ) → (conflict image e f ≡ true) ↔ Conflict image e f
-  unfolding conflict
-  conflict-so e f =
-      and-so (related image (kindNumber include) e f) (related image (kindNumber exclude) e f) (related-so include e f) (related-so exclude e f)
-
-  pub conflicting-so : (e : ℕ) → (conflictAt image e ≡ true) ↔ Conflicting image e
-  unfolding conflictAt
-  conflicting-so e = (
-    λ h. let t = some-at (eventCount image) (conflict image e) h in record { other = t .0; event = t .1; pair = conflict-so e (t .0) .0 (t .2) },
-    λ r. some-of (eventCount image) (conflict image e) (r .other) (r .event) (conflict-so e (r .other) .1 (r .pair)),
   )
 
 -- ---- the first that passes a test is the lowest of which its proposition holds

@@ -1,9 +1,9 @@
--- The paper's whole chart byte for byte, its settled examples P7 and P8, and charts with roles, by computation. Assumes nothing.
+-- The paper's whole chart byte for byte, its settled examples P7 and P8 (as request (xii) has it), and charts with roles, by computation. Assumes nothing.
 use Prim.Native.Nat.{ℕ}
 use mathlib.Core.Path.{_≡_, refl}
 use mathlib.Core.List.{List, [], _∷_}
 use lib.ListN.{replicate}
-use Rattle.paper.specs.Limits.{badNode, groupFlags, includeExclude}
+use Rattle.paper.specs.Limits.{badNode, groupFlags}
 use Rattle.paper.specs.Answers.{answer, granted}
 use Rattle.sets.specs.Set.{has, collect}
 use Rattle.general.specs.Below.{some, first, tally}
@@ -13,8 +13,8 @@ use Rattle.closure.specs.Closure.{within}
 use Rattle.chart.specs.declared.Reading.{Reading}
 use Rattle.records.specs.Image.{outOfRange, misplaced, badNodeAt, badRelationAt}
 use Rattle.nesting.specs.Nesting.{parent, nested, atOrAbove, onLoopAt, isGroup, eventNode, flaggedGroupAt}
-use Rattle.flattening.specs.Flattening.{leads, related, entered, flatSet, flatTable, namesAt, named, flatRoles, roleTable, flatChart, flagged, startMarking, conflict, conflictAt}
-use Rattle.chart.specs.Reading.{refused, conflictFrom, conflictTo, readingRelations, readingNodes, reading}
+use Rattle.flattening.specs.Flattening.{leads, related, entered, flatSet, flatTable, namesAt, named, flatRoles, roleTable, flatChart, flagged, startMarking}
+use Rattle.chart.specs.Reading.{refused, readingRelations, readingNodes, reading}
 
 -- "One chart, whole": event 0 is a condition of 1 and has 1 as response; 1 excludes 0 and is pending
 abbrev pub wholeChart : List ℕ
@@ -48,13 +48,30 @@ groupChart =
     ∷ 255 ∷ 255 ∷ 0 ∷ 0 ∷ 0 ∷ 0 ∷ 4 ∷ 0 ∷ 0 ∷ 0 ∷ 4 ∷ 0 ∷ 255 ∷ 255 ∷ 4 ∷ 0
     ∷ 0 ∷ 0 ∷ 3 ∷ 0 ∷ 0 ∷ 0 ∷ []
 
--- P8: node 3 includes that group, excludes node 1
-abbrev pub conflictChart : List ℕ
-conflictChart =
+-- P8: node 3 includes that group, excludes node 1. By request (xii) "example P8 becomes an accepted chart"
+abbrev pub bothChart : List ℕ
+bothChart =
     4 ∷ 0 ∷ 2 ∷ 0 ∷ 8 ∷ 0 ∷ 24 ∷ 0
     ∷ 255 ∷ 255 ∷ 0 ∷ 0 ∷ 0 ∷ 0 ∷ 4 ∷ 0 ∷ 0 ∷ 0 ∷ 4 ∷ 0 ∷ 255 ∷ 255 ∷ 4 ∷ 0
     ∷ 3 ∷ 0 ∷ 0 ∷ 0 ∷ 3 ∷ 0
     ∷ 3 ∷ 0 ∷ 1 ∷ 0 ∷ 4 ∷ 0 ∷ []
+
+-- event 2 includes 0 and 1 and excludes 0
+abbrev pub bothReading : Reading
+bothReading =
+    record {
+      answer = granted;
+      chart = record {
+        count = 3;
+        conditions = replicate 64 0;
+        responses = replicate 64 0;
+        milestones = replicate 64 0;
+        includes = 0 ∷ 0 ∷ 3 ∷ replicate 61 0;
+        excludes = 0 ∷ 0 ∷ 1 ∷ replicate 61 0;
+        roles = replicate 64 0;
+      };
+      marking = record { executed = 0; pending = 0; included = 7 };
+    }
 
 -- the same group names role 3, node 1 role 0, and no other node a role
 abbrev pub roleChart : List ℕ
@@ -79,7 +96,7 @@ pub record Examples : Type 0 where
   pub p7-granted : reading groupChart .answer ≡ granted
   -- events 0 and 1 are conditions of 2
   pub p7-conditions : reading groupChart .chart .conditions ≡ 0 ∷ 0 ∷ 3 ∷ replicate 61 0
-  pub p8 : reading conflictChart ≡ refused (answer includeExclude 2 0)
+  pub p8 : reading bothChart ≡ bothReading
   -- upper bits are no bad record, on a group either: events 0 and 1 have the group's role, event 0 its own too, event 2 is open to everyone
   pub roles-granted : reading roleChart .answer ≡ granted
   pub roles : reading roleChart .chart .roles ≡ 9 ∷ 8 ∷ replicate 62 0
@@ -88,5 +105,5 @@ pub record Examples : Type 0 where
   pub bad-state : reading badRoleChart ≡ refused (answer badNode 1 0)
 
 pub examples : Examples
-unfolding outOfRange misplaced badNodeAt badRelationAt parent nested atOrAbove onLoopAt isGroup eventNode flaggedGroupAt leads related entered flatSet flatTable namesAt named flatRoles roleTable flatChart flagged startMarking conflict conflictAt conflictFrom conflictTo readingRelations readingNodes reading has collect some first tally tabulate u16At within
+unfolding outOfRange misplaced badNodeAt badRelationAt parent nested atOrAbove onLoopAt isGroup eventNode flaggedGroupAt leads related entered flatSet flatTable namesAt named flatRoles roleTable flatChart flagged startMarking readingRelations readingNodes reading has collect some first tally tabulate u16At within
 examples = record { whole = refl; p7-granted = refl; p7-conditions = refl; p8 = refl; roles-granted = refl; roles = refl; flagged-group = refl; bad-state = refl }

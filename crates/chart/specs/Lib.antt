@@ -5,4 +5,5 @@ pub mod Outcome
 pub mod ReadingGives
 pub mod Repeats
 pub mod Examples
+pub mod Before
 pub mod Stored

@@ -8,7 +8,7 @@ use native.Mathlib.Omega.{arith}
 use lib.ListN.{length}
 use lib.Dec.{ltb}
 use borrow.Author.Tests.{lt-ltb, le-ltb, ltb-true, ltb-false}
-use Rattle.paper.specs.Limits.{maxEvents, chartHeader, chartShort, chartCount, chartLength, badNode, parentsLoop, groupFlags, manyEvents, badRelation, includeExclude}
+use Rattle.paper.specs.Limits.{maxEvents, chartHeader, chartShort, chartCount, chartLength, badNode, parentsLoop, groupFlags, manyEvents, badRelation}
 use Rattle.paper.specs.Answers.{answer, granted, refusal}
 use Rattle.paper.specs.declared.Answer.{Answer}
 use Rattle.general.specs.Cases.{contra, cases}
@@ -16,10 +16,9 @@ use Rattle.general.specs.Below.{some, first, Lowest}
 use Rattle.chart.specs.declared.Reading.{Reading}
 use Rattle.records.specs.Image.{nodes, relations, outOfRange, misplaced, badNodeAt, badRelationAt}
 use Rattle.nesting.specs.Nesting.{OnLoop, onLoopAt, flaggedGroupAt, eventCount}
-use Rattle.flattening.specs.Flattening.{conflictAt}
-use Rattle.chart.specs.Reading.{refused, grantedReading, conflictFrom, conflictTo, readingRelations, readingNodes, reading}
-use Rattle.chart.specs.Conditions.{Never, InRange, Laid, BadNode, FlaggedGroup, BadRelation, Conflict, Conflicting, range-right, laid-right, node-bad, relation-bad, loop-so}
-use Rattle.chart.specs.Conditions.{flagged-so, conflict-so, conflicting-so, lowest-of, never-of, lowest-some, lowest-first, never-none}
+use Rattle.chart.specs.Reading.{refused, grantedReading, readingRelations, readingNodes, reading}
+use Rattle.chart.specs.Conditions.{Never, InRange, Laid, BadNode, FlaggedGroup, BadRelation, range-right, laid-right, node-bad, relation-bad, loop-so}
+use Rattle.chart.specs.Conditions.{flagged-so, lowest-of, never-of, lowest-some, lowest-first, never-none}
 
 -- none of 1 to 3
 pub record HeaderRight (image : List ℕ) : Type 0 where
@@ -35,11 +34,10 @@ pub record NodesRight (image : List ℕ) : Type 0 where
   pub plain : Never (nodes image) (FlaggedGroup image)
   pub few : eventCount image ≤ maxEvents
 
--- none of 1 to 9
+-- none of 1 to 8
 pub record AllRight (image : List ℕ) : Type 0 where
   pub nodesRight : NodesRight image
   pub records : Never (relations image) (BadRelation image)
-  pub apart : Never (eventCount image) (Conflicting image)
 
 -- which answer is due, in the paper's words
 pub data Outcome (image : List ℕ) (a : Answer) : Type 0 where
@@ -53,8 +51,6 @@ pub data Outcome (image : List ℕ) (a : Answer) : Type 0 where
   many : HeaderRight image → Never (nodes image) (BadNode image) → Never (nodes image) (OnLoop image) → Never (nodes image) (FlaggedGroup image)
       → maxEvents < eventCount image → a ≡ answer manyEvents (eventCount image) 0 → Outcome image a
   relation : (k : ℕ) → NodesRight image → Lowest (relations image) (BadRelation image) k → a ≡ answer badRelation k 0 → Outcome image a
-  pair : (e f : ℕ) → NodesRight image → Never (relations image) (BadRelation image) → Lowest (eventCount image) (Conflicting image) e
-      → Lowest (eventCount image) (Conflict image e) f → a ≡ answer includeExclude e f → Outcome image a
   fine : AllRight image → a ≡ granted → Outcome image a
 
 -- ---- what reading gives, test by test
@@ -99,14 +95,9 @@ module _ (image : List ℕ) where
                 unfolding reading readingNodes readingRelations
                 gives-relation t = rw (t1, t2, t3, t4, t5, t6, t7, t)
 
-                module _ (t8 : some (relations image) (badRelationAt image) ≡ false) where
-                  gives-pair : some (eventCount image) (conflictAt image) ≡ true → reading image ≡ refused (answer includeExclude (conflictFrom image) (conflictTo image))
-                  unfolding reading readingNodes readingRelations
-                  gives-pair t = rw (t1, t2, t3, t4, t5, t6, t7, t8, t)
-
-                  gives-fine : some (eventCount image) (conflictAt image) ≡ false → reading image ≡ grantedReading image
-                  unfolding reading readingNodes readingRelations
-                  gives-fine t = rw (t1, t2, t3, t4, t5, t6, t7, t8, t)
+                gives-fine : some (relations image) (badRelationAt image) ≡ false → reading image ≡ grantedReading image
+                unfolding reading readingNodes readingRelations
+                gives-fine t = rw (t1, t2, t3, t4, t5, t6, t7, t)
 
 -- ---- the answer that is given is due
 
@@ -115,7 +106,6 @@ module _ (image : List ℕ) where
   of e = ap (λ (r : Reading). r .answer) e
 
   pub outcome : Outcome image (reading image .answer)
-  unfolding conflictFrom conflictTo conflictAt
   outcome =
       cases (ltb (length image) chartHeader) (λ t. short (ltb-true (length image) chartHeader t) (of (gives-short image t)))
       (λ t1. let long = ltb-false (length image) chartHeader t1 in
@@ -132,18 +122,14 @@ module _ (image : List ℕ) where
       cases (ltb maxEvents (eventCount image)) (λ t. many h good straight plain (ltb-true maxEvents (eventCount image) t) (of (gives-many image t1 t2 t3 t4 t5 t6 t)))
       (λ t7. let n : NodesRight image = record { header = h; records = good; straight = straight; plain = plain; few = ltb-false maxEvents (eventCount image) t7 } in
       cases (some (relations image) (badRelationAt image)) (λ t. relation _ n (lowest-of (relation-bad image) t) (of (gives-relation image t1 t2 t3 t4 t5 t6 t7 t)))
-      (λ t8. let sound = never-of (relation-bad image) t8 in
-      cases (some (eventCount image) (conflictAt image))
-      (λ t. let l = lowest-of (conflicting-so image) t in
-      pair _ _ n sound l (lowest-of (conflict-so image (first (eventCount image) (conflictAt image))) (conflicting-so image _ .1 (l .holds))) (of (gives-pair image t1 t2 t3 t4 t5 t6 t7 t8 t)))
-      (λ t. fine (record { nodesRight = n; records = sound; apart = never-of (conflicting-so image) t }) (of (gives-fine image t1 t2 t3 t4 t5 t6 t7 t8 t)))))))))))
+      (λ t. fine (record { nodesRight = n; records = never-of (relation-bad image) t }) (of (gives-fine image t1 t2 t3 t4 t5 t6 t7 t))))))))))
 
 -- ---- and no other answer is
 
 -- the two ways in which a reading ends
 pub record Refused (image : List ℕ) (a : Answer) : Type 0 where
   pub some : 1 ≤ a .code
-  pub known : a .code ≤ includeExclude
+  pub known : a .code ≤ badRelation
   pub gives : reading image ≡ refused a
 
 pub record Granted (image : List ℕ) (a : Answer) : Type 0 where
@@ -156,11 +142,11 @@ module _ (image : List ℕ) where
   tested-long : chartHeader ≤ length image → ltb (length image) chartHeader ≡ false
   tested-long h = le-ltb (length image) chartHeader h
 
-  refusal-at : {a : Answer} (code place other : ℕ) → 1 ≤ code → code ≤ includeExclude → reading image ≡ refused (answer code place other) → a ≡ answer code place other
+  refusal-at : {a : Answer} (code place other : ℕ) → 1 ≤ code → code ≤ badRelation → reading image ≡ refused (answer code place other) → a ≡ answer code place other
       → Refused image a ⊎ Granted image a
   refusal-at code place other l h g e = inl (record { some = rw e l; known = rw e h; gives = g ∙ ap refused (sym e) })
 
-  refusal-first : {a : Answer} (code n : ℕ) (f : ℕ → Bool) (i : ℕ) → 1 ≤ code → code ≤ includeExclude → reading image ≡ refused (answer code (first n f) 0)
+  refusal-first : {a : Answer} (code n : ℕ) (f : ℕ → Bool) (i : ℕ) → 1 ≤ code → code ≤ badRelation → reading image ≡ refused (answer code (first n f) 0)
       → i ≡ first n f → a ≡ answer code i 0 → Refused image a ⊎ Granted image a
   refusal-first code n f i l h g p e = refusal-at code i 0 l h (g ∙ ap (λ (x : ℕ). refused (answer code x 0)) (sym p)) e
 
@@ -196,7 +182,6 @@ module _ (image : List ℕ) where
     l7 = le-ltb maxEvents (eventCount image) (n .few)
 
   pub ends : {a : Answer} → Outcome image a → Refused image a ⊎ Granted image a
-  unfolding conflictFrom conflictTo conflictAt
   ends (short s e) = refusal-at chartShort 0 0 (omega arith) (omega arith) (gives-short image (lt-ltb (length image) chartHeader s)) e
   ends (range l r e) = refusal-at chartCount 0 0 (omega arith) (omega arith) (gives-range image (tested-long l) (wrong (outOfRange image) (range-right image .0) r)) e
   ends (laid l i r e) =
@@ -217,19 +202,13 @@ module _ (image : List ℕ) where
       let h = n .header in
       refusal-first badRelation (relations image) (badRelationAt image) k (omega arith) (omega arith)
       (gives-relation image (l1 h) (l2 h) (l3 h) (l4 n) (l5 n) (l6 n) (l7 n) (lowest-some (relation-bad image) l)) (lowest-first (relation-bad image) l) e
-  ends (pair x y n s l m e) =
-      let h = n .header in
-      let p : x ≡ first (eventCount image) (conflictAt image) = lowest-first (conflicting-so image) l in
-      refusal-at includeExclude x y (omega arith) (omega arith)
-      (gives-pair image (l1 h) (l2 h) (l3 h) (l4 n) (l5 n) (l6 n) (l7 n) (never-none (relation-bad image) s) (lowest-some (conflicting-so image) l)
-      ∙ rw (← p, ← lowest-first (conflict-so image x) m) refl) e
   ends (fine a e) =
       let n = a .nodesRight in
       let h = n .header in
       inr (record {
         right = a;
         none = e;
-        gives = gives-fine image (l1 h) (l2 h) (l3 h) (l4 n) (l5 n) (l6 n) (l7 n) (never-none (relation-bad image) (a .records)) (never-none (conflicting-so image) (a .apart));
+        gives = gives-fine image (l1 h) (l2 h) (l3 h) (l4 n) (l5 n) (l6 n) (l7 n) (never-none (relation-bad image) (a .records));
       })
 
   only : {a : Answer} → Outcome image a → reading image .answer ≡ a

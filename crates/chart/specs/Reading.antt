@@ -4,7 +4,7 @@ use mathlib.Core.Bool.{Bool, cond}
 use mathlib.Core.List.{List}
 use lib.ListN.{length}
 use lib.Dec.{ltb}
-use Rattle.paper.specs.Limits.{maxEvents, chartHeader, chartShort, chartCount, chartLength, badNode, parentsLoop, groupFlags, manyEvents, badRelation, includeExclude}
+use Rattle.paper.specs.Limits.{maxEvents, chartHeader, chartShort, chartCount, chartLength, badNode, parentsLoop, groupFlags, manyEvents, badRelation}
 use Rattle.paper.specs.Answers.{answer, granted, refusal}
 use Rattle.paper.specs.declared.Answer.{Answer}
 use Rattle.general.specs.Below.{some, first}
@@ -12,7 +12,7 @@ use Rattle.graph.specs.Chart.{emptyChart, emptyMarking}
 use Rattle.chart.specs.declared.Reading.{Reading}
 use Rattle.records.specs.Image.{nodes, relations, outOfRange, misplaced, badNodeAt, badRelationAt}
 use Rattle.nesting.specs.Nesting.{onLoopAt, flaggedGroupAt, eventCount}
-use Rattle.flattening.specs.Flattening.{flatChart, startMarking, conflict, conflictAt}
+use Rattle.flattening.specs.Flattening.{flatChart, startMarking}
 
 -- "A refused reading gives an empty flat chart with count 0 and an empty marking"
 abbrev pub refused : Answer → Reading
@@ -31,19 +31,9 @@ abbrev pub refuseFirst : ℕ → ℕ → (ℕ → Bool) → Reading → Reading
 refuseFirst code n test rest = refuseIf (some n test) (answer code (first n test) 0) rest
 
 module _ (image : List ℕ) where
-  -- the lowest event that is in conflict, and the lowest with which it is
-  unfoldable pub conflictFrom : ℕ
-  conflictFrom = first (eventCount image) (conflictAt image)
-
-  unfoldable pub conflictTo : ℕ
-  conflictTo = first (eventCount image) (conflict image conflictFrom)
-
-  -- 8 and 9
+  -- 8, and no more by request (xii): "Code 9 is never given any more"
   unfoldable pub readingRelations : Reading
-  readingRelations =
-      refuseFirst badRelation (relations image) (badRelationAt image)
-      (refuseIf (some (eventCount image) (conflictAt image)) (answer includeExclude conflictFrom conflictTo)
-      (grantedReading image))
+  readingRelations = refuseFirst badRelation (relations image) (badRelationAt image) (grantedReading image)
 
   -- 4 to 7
   unfoldable pub readingNodes : Reading

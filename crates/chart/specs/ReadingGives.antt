@@ -9,7 +9,7 @@ use native.Mathlib.Omega.{arith}
 use lib.ListN.{getD, List·getD-eq-default}
 use lib.Dec.{eqb, ltb}
 use borrow.Author.Tests.{lt-ltb, le-ltb, ltb-true, ltb-false, not-true}
-use Rattle.paper.specs.Limits.{maxEvents, maxRoles, flagsByte, includeExclude}
+use Rattle.paper.specs.Limits.{maxEvents, maxRoles, flagsByte, badRelation, includeExclude}
 use Rattle.paper.specs.Answers.{answer}
 use Rattle.paper.specs.declared.Answer.{Answer}
 use Rattle.general.specs.Cases.{contra, cases, both, not-so, lt-suc}
@@ -35,9 +35,13 @@ module _ (image : List ℕ) where
   ended : Refused image (reading image .answer) ⊎ Granted image (reading image .answer)
   ended = ends image (outcome image)
 
-  -- every byte string is answered, with one of 0 to 9
-  pub answers : reading image .answer .code ≤ includeExclude
+  -- every byte string is answered, with one of 0 to 8
+  pub answers : reading image .answer .code ≤ badRelation
   answers = ⊎-elim (λ r. r .known) (λ g. rw (g .none) (omega arith)) ended
+
+  -- Request (xii): "Code 9 is never given any more, which is to be shown"
+  pub never-nine : reading image .answer .code ≡ includeExclude → ⊥
+  never-nine e = let l = answers in omega arith
 
   -- "A refused reading gives an empty flat chart with count 0 and an empty marking"
   pub refused-empty : (reading image .answer .code ≡ 0 → ⊥) → reading image ≡ refused (reading image .answer)
@@ -213,10 +217,6 @@ module _ (image : List ℕ) where
           few = few;
           inside = λ κ e f l h. flat-relates image few κ e f .0 h .other;
           past = λ κ e h l. none-zero (setOf (flatChart image) κ e) (λ f. not-so (λ i. let o = flat-relates image few κ e f .0 i .one in absurd (omega arith)));
-          apart = λ e f l p q.
-              let a = flat-relates image few include e f .0 p in
-              let b = flat-relates image few exclude e f .0 q in
-              r .apart e (a .one) (record { other = f; event = a .other; pair = (a .entered, b .entered) });
           unnamed = no-role image;
         }
 

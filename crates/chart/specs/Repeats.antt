@@ -15,11 +15,11 @@ use Rattle.graph.specs.Chart.{Kind, condition, response, milestone, include, ex
 use Rattle.sets.specs.Collecting.{collect-same}
 use Rattle.records.specs.Image.{nodes, relations, parentOf, flagsOf, fromOf, toOf, kindOf, badNodeAt, badRelationAt}
 use Rattle.nesting.specs.Nesting.{parent, nested, atOrAbove, onLoopAt, isGroup, isEvent, number, eventCount, eventNode, flaggedGroupAt}
-use Rattle.flattening.specs.Flattening.{kindNumber, holdsBack, leads, related, entered, flatSet, flatTable, flatChart, flagged, startMarking, conflict, conflictAt}
+use Rattle.flattening.specs.Flattening.{kindNumber, holdsBack, leads, related, entered, flatSet, flatTable, flatChart, flagged, startMarking}
 use Rattle.flattening.specs.Flattening.{namesAt, named, flatRoles, roleTable}
 use Rattle.paper.specs.Limits.{maxEvents, maxRoles, flagsByte, badNode, parentsLoop, groupFlags}
 use Rattle.chart.specs.declared.Reading.{Reading}
-use Rattle.chart.specs.Reading.{refuseFirst, conflictFrom, conflictTo, readingRelations, readingNodes, reading}
+use Rattle.chart.specs.Reading.{refuseFirst, readingRelations, readingNodes, reading}
 use Rattle.chart.specs.Conditions.{Never, BadRelation, relation-bad, never-none}
 use Rattle.chart.specs.Outcome.{HeaderRight, header-on}
 use Rattle.chart.specs.ReadingGives.{event-node}
@@ -153,24 +153,6 @@ module _ {a b : List ℕ} (s : SameNodes a b) (m : Among a b) (o : Among b a) wh
   unfolding flaggedGroupAt
   same-flaggedGroup i h = rw (same-group s i, s .flags i h)
 
-  same-conflict : (e f : ℕ) → conflict a e f ≡ conflict b e f
-  unfolding conflict
-  same-conflict e f = ap₂ _&&_ (same-related s m o (kindNumber include) e f) (same-related s m o (kindNumber exclude) e f)
-
-  same-conflictAt : (e : ℕ) → conflictAt a e ≡ conflictAt b e
-  unfolding conflictAt
-  same-conflictAt e = some-same (eventCount a) (conflict a e) (conflict b e) (λ f l. same-conflict e f) ∙ ap (λ (n : ℕ). some n (conflict b e)) (same-count s)
-
-  same-from : conflictFrom a ≡ conflictFrom b
-  unfolding conflictFrom
-  same-from = first-same (eventCount a) (conflictAt a) (conflictAt b) (λ e l. same-conflictAt e) ∙ ap (λ (n : ℕ). first n (conflictAt b)) (same-count s)
-
-  same-to : conflictTo a ≡ conflictTo b
-  unfolding conflictTo
-  same-to =
-      first-same (eventCount a) (conflict a (conflictFrom a)) (conflict b (conflictFrom a)) (λ f l. same-conflict (conflictFrom a) f)
-      ∙ ap₂ (λ (n e : ℕ). first n (conflict b e)) (same-count s) same-from
-
   same-record : (k r : ℕ) → SameRecord b a r k → badRelationAt a k ≡ badRelationAt b r
   unfolding badRelationAt
   same-record k r e = rw (e .from, e .to, e .kind, s .count)
@@ -188,10 +170,6 @@ module _ {a b : List ℕ} (s : SameNodes a b) (m : Among a b) (o : Among b a) wh
         rw (
           never-none (relation-bad a) p,
           never-none (relation-bad b) none-bad,
-          some-same (eventCount a) (conflictAt a) (conflictAt b) (λ e l. same-conflictAt e),
-          same-count s,
-          same-from,
-          same-to,
           same-chart s m o,
           same-marking s,
         )

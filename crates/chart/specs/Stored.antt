@@ -1,5 +1,5 @@
--- Charts stored before there were roles read as they did: without upper bits the reading is the one whose tests 4 and 6 take a node's whole flags and whose flat
--- chart names no role. Assumes nothing.
+-- Charts stored before there were roles read as they did, but those that 9 was given for: without upper bits the reading is the one whose tests 4 and 6 take a node's
+-- whole flags and whose flat chart names no role. Assumes nothing.
 use Prim.Native.Nat.{ℕ, zero, suc, _≤_, _<_}
 use mathlib.Core.Path.{_≡_, refl, ap, _∙_}
 use mathlib.Core.Bool.{Bool, not, _&&_, _||_}
@@ -18,9 +18,10 @@ use Rattle.graph.specs.declared.FlatChart.{FlatChart}
 use Rattle.chart.specs.declared.Reading.{Reading}
 use Rattle.records.specs.Image.{nodes, relations, parentOf, flagsOf, stateOf, rolesAt, outOfRange, misplaced, badNodeAt, badRelationAt}
 use Rattle.nesting.specs.Nesting.{isGroup, onLoopAt, flaggedGroupAt, eventCount}
-use Rattle.flattening.specs.Flattening.{flatTable, flatRoles, roleTable, flatChart, startMarking, conflictAt}
-use Rattle.chart.specs.Reading.{refuseIf, refuseFirst, conflictFrom, conflictTo, readingRelations, readingNodes, reading}
+use Rattle.flattening.specs.Flattening.{flatTable, flatRoles, roleTable, flatChart, startMarking}
+use Rattle.chart.specs.Reading.{refuseIf, refuseFirst, reading}
 use Rattle.chart.specs.ReadingGives.{refused-empty, granted-right, chain-open}
+use Rattle.chart.specs.Before.{conflictAt, conflictFrom, conflictTo, readingThen, reads-as-then}
 
 module _ (image : List ℕ) where
   -- no node has upper bits, "since stored charts have none"
@@ -72,7 +73,7 @@ unfolding tabulate
 zeros zero f h = refl
 zeros (suc n) f h = rw (h zero, zeros n (λ e. f (suc e)) (λ e. h (suc e)))
 
--- ---- without upper bits it is the reading still
+-- ---- without upper bits it is the reading of then, and the reading still where 9 was not given
 
 module _ (image : List ℕ) (p : Plain image) where
   -- "The lower byte keeps its old rules"
@@ -91,9 +92,9 @@ module _ (image : List ℕ) (p : Plain image) where
   unfolding flatChart chartBefore roleTable
   same-chart = rw (zeros maxEvents (flatRoles image) (λ e. chain-open image e (λ g l a. p g l)))
 
-  pub reads-as-before : reading image ≡ readingBefore image
-  unfolding reading readingNodes readingRelations readingBefore
-  reads-as-before =
+  pub then-as-before : readingThen image ≡ readingBefore image
+  unfolding readingThen readingBefore
+  then-as-before =
       rw (
         some-same (nodes image) (badNodeAt image) (badBefore image) same-bad,
         first-same (nodes image) (badNodeAt image) (badBefore image) same-bad,
@@ -101,6 +102,9 @@ module _ (image : List ℕ) (p : Plain image) where
         first-same (nodes image) (flaggedGroupAt image) (flaggedBefore image) same-flagged,
         same-chart,
       )
+
+  pub reads-as-before : (readingBefore image .answer .code ≡ includeExclude → ⊥) → reading image ≡ readingBefore image
+  reads-as-before n = reads-as-then image (rw then-as-before n) ∙ then-as-before
 
   -- "byte 0 everywhere"
   pub all-open : reading image .chart .roles ≡ replicate maxEvents 0

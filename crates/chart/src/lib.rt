@@ -25,7 +25,6 @@ use paper::CHART_HEADER;
 use paper::CHART_LENGTH;
 use paper::CHART_SHORT;
 use paper::GROUP_FLAGS;
-use paper::INCLUDE_EXCLUDE;
 use paper::MANY_EVENTS;
 use paper::MAX_EVENTS;
 use paper::MAX_NODES;
@@ -74,7 +73,7 @@ fn start_marking(image: &[u8], nodes: &[usize; MAX_EVENTS], events: usize) -> Ma
     }
 }
 
-// 8 and 9, and what is granted.
+// 8, and what is granted.
 fn read_relations(
     image: &[u8],
     n: usize,
@@ -94,11 +93,6 @@ fn read_relations(
     }
     let mut roles = [0u8; MAX_EVENTS];
     let tables = flattening::flatten(image, n, k, &gathered, &nodes, events, &mut roles);
-    let from = flattening::first_conflict(&tables, events);
-    if from < events {
-        let to = sets::least(flattening::both_at(&tables, from));
-        return refuse(INCLUDE_EXCLUDE, from as u32, to);
-    }
     // Made before the chart: its loops would keep a second copy of the tables on the stack.
     let marking = start_marking(image, &nodes, events);
     Reading {

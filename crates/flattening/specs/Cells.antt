@@ -2,17 +2,17 @@
 -- Assumes nothing.
 use Prim.Native.Nat.{ℕ, _+_, _*_, _≤_, _<_}
 use mathlib.Core.Path.{_≡_, refl, sym, ap, _∙_}
-use mathlib.Core.Bool.{Bool, true, false, not, cond, _&&_, _||_, and-true, and-false, or-false, or-assoc}
+use mathlib.Core.Bool.{Bool, true, false, cond, _&&_, _||_, and-true, and-false, or-false, or-assoc}
 use mathlib.Core.List.{List}
 use native.Mathlib.Numerals.{add-one}
 use native.Mathlib.Omega.{arith}
 use lib.ListN.{length, getD, set, replicate, length-set, length-replicate}
 use lib.Seq.{getD-set-same, getD-set-other, ext-getD}
 use lib.Dec.{eqb, leb, ltb}
-use borrow.Author.Tests.{eq-eqb, ne-eqb, eqb-true, eqb-false, leb-false, lt-ltb, le-ltb, ltb-false}
+use borrow.Author.Tests.{eq-eqb, eqb-true, eqb-false, leb-false, lt-ltb, le-ltb, ltb-false}
 use Rattle.paper.specs.Limits.{maxNodes, maxEvents, maxRoles, flagsByte, kinds}
 use Rattle.general.specs.Cases.{contra, cases, both, either, neither, or-left, or-right, same-test, lt-suc}
-use Rattle.sets.specs.Set.{has, union, inter, only, putIf, collect}
+use Rattle.sets.specs.Set.{has, union, only, putIf, collect}
 use Rattle.sets.specs.Laws.{has-union, has-only, has-empty, above}
 use Rattle.general.specs.Below.{some, some-of, some-at, some-none, some-step, first}
 use Rattle.general.specs.Tables.{tabulate, length-tabulate, getD-tabulate, zeros-at}
@@ -374,22 +374,6 @@ roles-more {image} {nodes} {roles} {e} {own} m h a =
 
 pub roles-end : {image nodes roles : List ℕ} {events e : ℕ} → e ≤ events → events ≤ e → FlatRoles image nodes e roles → FlatRoles image nodes events roles
 roles-end {image} {nodes} {roles} = at-end (λ (e : ℕ). FlatRoles image nodes e roles)
-
--- ---- include and exclude
-
-abbrev pub bothAt : List ℕ → ℕ → ℕ
-bothAt tables e = inter (cell tables (kindNumber include) e) (cell tables (kindNumber exclude) e)
-
-abbrev pub conflictIn : List ℕ → ℕ → Bool
-conflictIn tables e = not (eqb (bothAt tables e) 0)
-
--- a scan for the first event with a conflict: one that has none, one that has
-module _ (tables : List ℕ) {n e both : ℕ} (m : Passed n (conflictIn tables) e) (h : e < n) (q : both ≡ bothAt tables e) where
-  pub conflict-none : both ≡ 0 → Passed n (conflictIn tables) (e + 1)
-  conflict-none z = passed-more m h refl (rw (← q, z))
-
-  pub conflict-found : (both ≡ 0 → ⊥) → e ≡ first n (conflictIn tables)
-  conflict-found z = passed-found m h refl (rw (← q, ne-eqb both 0 z))
 
 -- ---- one table of the five
 

@@ -95,11 +95,3 @@ module _ (image : List ℕ) where
   -- "the start marking, which the events' flags name"
   unfoldable pub startMarking : Marking
   startMarking = record { executed = flagged 0; pending = flagged 1; included = flagged 2 }
-
-  -- "No pair may get both include and exclude."
-  unfoldable pub conflict : ℕ → ℕ → Bool
-  conflict e f = related image (kindNumber include) e f && related image (kindNumber exclude) e f
-
-  -- e has a conflict with some event
-  unfoldable pub conflictAt : ℕ → Bool
-  conflictAt e = some (eventCount image) (conflict e)

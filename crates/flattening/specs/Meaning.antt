@@ -1,5 +1,5 @@
 -- What the reader's tables say of the image: each is what the definitions name. Assumes nothing.
-use Prim.Native.Nat.{ℕ, _+_, _^_, _≤_, _<_}
+use Prim.Native.Nat.{ℕ, _+_, _≤_, _<_}
 use mathlib.Core.Path.{_≡_, refl, sym, ap, ap₂, _∙_, subst}
 use mathlib.Core.Bool.{Bool, true, false, cond, _&&_, and-false, and-comm}
 use mathlib.Core.List.{List}
@@ -7,12 +7,12 @@ use native.Mathlib.Omega.{arith}
 use lib.ListN.{length, getD}
 use lib.Seq.{ext-getD}
 use lib.Dec.{eqb, ltb}
-use borrow.Author.Tests.{lt-ltb, ltb-true, eq-eqb, ne-eqb, eqb-true, eqb-false, not-true}
+use borrow.Author.Tests.{lt-ltb, ltb-true, eq-eqb, eqb-true}
 use Rattle.paper.specs.Limits.{maxEvents, maxRoles, kinds}
-use Rattle.general.specs.Cases.{contra, cases, both, not-so, same-test}
-use Rattle.sets.specs.Set.{has, lowest, collect}
-use Rattle.sets.specs.Laws.{ext, has-collect, has-inter, has-empty, none-zero, below, lowest-lt, lowest-has, lowest-least}
-use Rattle.general.specs.Below.{some, some-of, some-at, some-none, some-same, first, first-found, first-same, tally, tally-same}
+use Rattle.general.specs.Cases.{cases, both, same-test}
+use Rattle.sets.specs.Set.{has, collect}
+use Rattle.sets.specs.Laws.{ext, has-collect, has-empty}
+use Rattle.general.specs.Below.{some, some-of, some-at, some-none, some-same, first, first-same, tally, tally-same}
 use Rattle.general.specs.Tables.{tabulate, tabulate-same, length-tabulate, getD-tabulate}
 use Rattle.graph.specs.Chart.{Kind, condition, response, milestone, include, exclude}
 use Rattle.graph.specs.declared.FlatChart.{FlatChart}
@@ -23,9 +23,9 @@ use Rattle.records.specs.Image.{nodes as nodes-of, relations, fromOf, toOf, kin
 use Rattle.nesting.specs.Nesting.{parent, atOrAbove, isGroup, isEvent, number, eventCount, eventNode, flaggedGroupAt}
 use Rattle.nesting.specs.Climbing.{Straight, fromUp}
 use Rattle.nesting.specs.Tables.{Groups, isEventIn, flaggedIn, EventNodes}
-use Rattle.flattening.specs.Flattening.{kindNumber, holdsBack, leads, related, entered, flatSet, flatTable, flatChart, flagged, startMarking, conflict, conflictAt}
+use Rattle.flattening.specs.Flattening.{kindNumber, holdsBack, leads, related, entered, flatSet, flatTable, flatChart, flagged, startMarking}
 use Rattle.flattening.specs.Flattening.{namesAt, named, flatRoles, roleTable}
-use Rattle.flattening.specs.Cells.{cell, holds, Members, near, nearOf, farOf, near-fits, Good, entersAt, Gathered, aboveHas, Flat, bothAt, conflictIn, flaggedBy, chartFrom, markingBy}
+use Rattle.flattening.specs.Cells.{cell, holds, Members, near, nearOf, farOf, near-fits, Good, entersAt, Gathered, aboveHas, Flat, flaggedBy, chartFrom, markingBy}
 use Rattle.flattening.specs.Cells.{someAbove, aboveNames, FlatRoles}
 
 -- ---- nodes
@@ -103,12 +103,6 @@ kind-fits response = omega arith
 kind-fits milestone = omega arith
 kind-fits include = omega arith
 kind-fits exclude = omega arith
-
--- a set that is not empty has a member
-member-of : (n s : ℕ) → ((f : ℕ) → has s f ≡ true → f < n) → (s ≡ 0 → ⊥) → (f : ℕ) × (f < n) × (has s f ≡ true)
-member-of n s h z =
-    cases (some n (has s)) (λ t. some-at n (has s) t)
-    (λ t. absurd (z (none-zero s (λ f. not-so (λ i. contra (some-of n (has s) f (h f i) i) t)))))
 
 -- ---- what the reader has when it comes to the relations
 
@@ -233,55 +227,6 @@ module _ {image : List ℕ} {n k : ℕ} {groups : List Bool} {events : ℕ} (g :
           pub table-is : (κ : Kind) (out : List ℕ) → out ≡ tabulate maxEvents (cell tables (kindNumber κ)) → out ≡ flatTable image κ
           unfolding flatTable
           table-is κ out e = e ∙ tabulate-same maxEvents (cell tables (kindNumber κ)) (flatSet image (kindNumber κ)) (λ x h. cell-is (kindNumber κ) x (kind-fits κ))
-
-          -- the events with which e is in conflict
-          both-has : (e f : ℕ) → e < events → has (bothAt tables e) f ≡ (ltb f events && conflict image e f)
-          unfolding conflict entered
-          both-has e f h =
-              let n = g .count in
-              let in-count : ltb e (eventCount image) ≡ true = lt-ltb e (eventCount image) (omega arith) in
-              has-inter (cell tables (kindNumber include) e) (cell tables (kindNumber exclude) e) f
-              ∙ ap₂ _&&_ (in-set include) (in-set exclude)
-              ∙ rw (in-count, n) (twice (ltb f (eventCount image)) (related image (kindNumber include) e f) (related image (kindNumber exclude) e f))
-            where
-              in-set : (κ : Kind) → holds tables (kindNumber κ) e f ≡ ((ltb e (eventCount image) && ltb f (eventCount image)) && entered image (kindNumber κ) e f)
-              in-set κ = ap (λ (x : ℕ). has x f) (cell-is (kindNumber κ) e (kind-fits κ)) ∙ flat-has image (kindNumber κ) e f
-
-              twice : (x a b : Bool) → ((x && a) && (x && b)) ≡ (x && (a && b))
-              twice true a b = refl
-              twice false a b = refl
-
-          conflict-is : (e : ℕ) → e < events → conflictIn tables e ≡ conflictAt image e
-          unfolding conflictAt
-          conflict-is e h =
-              let n = g .count in
-              same-test (conflictIn tables e) (some (eventCount image) (conflict image e))
-              (λ t.
-              let p = member-of events (bothAt tables e) (λ f i. ltb-true f events (both (ltb f events) (conflict image e f) (sym (both-has e f h) ∙ i) .0))
-              (eqb-false (bothAt tables e) 0 (not-true (eqb (bothAt tables e) 0) t)) in
-              some-of (eventCount image) (conflict image e) (p .0) (let l = p .1 in omega arith) (both (ltb (p .0) events) (conflict image e (p .0)) (sym (both-has e (p .0) h) ∙ p .2) .1))
-              (λ t. let p = some-at (eventCount image) (conflict image e) t in
-              rw (ne-eqb (bothAt tables e) 0 (λ z. contra (both-has e (p .0) h ∙ rw (lt-ltb (p .0) events (let l = p .1 in omega arith), p .2)) (ap (λ (x : ℕ). has x (p .0)) z ∙ has-empty (p .0)))))
-
-          pub from-is : {r : ℕ} → r ≡ first events (conflictIn tables) → r ≡ first (eventCount image) (conflictAt image)
-          from-is e = e ∙ first-same events (conflictIn tables) (conflictAt image) conflict-is ∙ ap (λ (x : ℕ). first x (conflictAt image)) (g .count)
-
-          -- the least event with which e is in conflict
-          pub to-is : (e s r : ℕ) → e < events → conflictIn tables e ≡ true → s ≡ bothAt tables e → r ≡ lowest maxEvents s → r ≡ first (eventCount image) (conflict image e)
-          to-is e s r h t p q =
-              let few = g .few in
-              let z : bothAt tables e ≡ 0 → ⊥ = eqb-false (bothAt tables e) 0 (not-true (eqb (bothAt tables e) 0) t) in
-              let inside : (f : ℕ) → has (bothAt tables e) f ≡ true → f < events = λ f i. ltb-true f events (both (ltb f events) (conflict image e f) (sym (both-has e f h) ∙ i) .0) in
-              let wide : bothAt tables e < 2 ^ maxEvents = below maxEvents (bothAt tables e) (λ f l. not-so (λ i. let o = inside f i in absurd (omega arith))) in
-              let least : has (bothAt tables e) (lowest maxEvents (bothAt tables e)) ≡ true = lowest-has maxEvents (bothAt tables e) (lowest-lt maxEvents (bothAt tables e) (omega arith) wide) in
-              let found = both (ltb (lowest maxEvents (bothAt tables e)) events) (conflict image e (lowest maxEvents (bothAt tables e)))
-              (sym (both-has e (lowest maxEvents (bothAt tables e)) h) ∙ least) in
-              let l : lowest maxEvents (bothAt tables e) < events = ltb-true (lowest maxEvents (bothAt tables e)) events (found .0) in
-              q ∙ ap (lowest maxEvents) p
-              ∙ first-found events (conflict image e) (lowest maxEvents (bothAt tables e)) l
-              (λ f i. not-so (λ o. contra (both-has e f h ∙ rw (lt-ltb f events (omega arith), o)) (lowest-least maxEvents (bothAt tables e) f i)))
-              (found .1)
-              ∙ ap (λ (x : ℕ). first x (conflict image e)) (g .count)
 
           pub chart-is : {roles : List ℕ} {c : FlatChart} → FlatRoles image nodes events roles → c ≡ chartFrom events tables roles → c ≡ flatChart image
           unfolding chartFrom flatChart

@@ -9,7 +9,7 @@ ghost use Rattle.general.specs.Below.{first};
 ghost use Rattle.general.specs.Tables.{tabulate};
 ghost use Rattle.records.specs.Image.{nodeAt, badRelationAt, Whole};
 ghost use Rattle.nesting.specs.Climbing.{Straight};
-ghost use Rattle.flattening.specs.Cells.{cell, putIn, addTo, TakenIn, Members, Gathered, Taken, Flat, Roles, FlatRoles, bothAt, conflictIn, flaggedBy};
+ghost use Rattle.flattening.specs.Cells.{cell, putIn, addTo, TakenIn, Members, Gathered, Taken, Flat, Roles, FlatRoles, flaggedBy};
 use paper::KINDS;
 use paper::MAX_EVENTS;
 use paper::MAX_NODES;
@@ -160,28 +160,6 @@ pub fn flatten(
         roles[e] = take_above(image, n, k, gathered, &mut tables, e, nodes[e]);
     }
     tables
-}
-
-// What event e both includes and excludes.
-pub fn both_at(tables: &[u64; CELLS], e: usize) -> u64
-    requires { ⌜ e < maxEvents ⌝ }
-    ensures { λ r. ⌜ r ≡ bothAt (now (tables .entry)) e ⌝ }
-{
-    tables[e * SETS + INCLUDE] & tables[e * SETS + EXCLUDE]
-}
-
-// The lowest event that both includes and excludes an event, or the count of events.
-pub fn first_conflict(tables: &[u64; CELLS], events: usize) -> usize
-    requires { ⌜ events ≤ maxEvents ⌝ }
-    ensures { λ r. ⌜ r ≡ first events (conflictIn (now (tables .entry))) ⌝ }
-{
-    for e in 0..events {
-        let both = both_at(tables, e);
-        if both != 0 {
-            return e;
-        }
-    }
-    events
 }
 
 // One kind's table.
