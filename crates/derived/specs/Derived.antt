@@ -46,7 +46,7 @@ listed g s f = cond (has s f) (g f) []
 -- ---- "on completion of e", of n events, where e includes the set i, excludes x and has the responses r
 
 module _ (n e : ℕ) where
-  -- "set included f if e includes f, or clear it if e excludes f"
+  -- "set included f if e includes f, or clear it if e excludes f"; request (xii): "The deriver writes the clearing rule only where there is no include."
   unfoldable pub inclusion : ℕ → ℕ → ℕ → List Rule
   inclusion i x f = cond (has i f) (on e true (includedMark n f) ∷ []) (cond (has x f) (on e false (includedMark n f) ∷ []) [])
 

@@ -1,5 +1,6 @@
 -- The root of the crate's specs.
 pub mod Derived
+pub mod Overruled
 pub mod Meaning
 pub mod OneChart
 pub mod Members

@@ -1,4 +1,5 @@
--- What each rule and each word of a derived book says of its chart, and that each relation has its rule or its word. Assumes nothing.
+-- What each rule and each word of a derived book says of its chart, and that each relation has its rule or its word: of the exclusions, those that no inclusion overrules.
+-- Assumes nothing.
 use Prim.Native.Nat.{ℕ, _*_, _≤_, _<_}
 use mathlib.Core.Path.{_≡_, refl}
 use mathlib.Core.Bool.{true, false}
@@ -8,11 +9,13 @@ use Rattle.general.specs.Cases.{contra, cases, not-so}
 use Rattle.general.specs.Lists.{flat, All, all-append, append-all, all-flat, flat-all}
 use Rattle.sets.specs.Set.{has}
 use Rattle.graph.specs.Chart.{condition, response, milestone, include, exclude, setOf, In, Fit}
+use Rattle.graph.specs.Overruled.{standingAt}
 use Rattle.graph.specs.declared.FlatChart.{FlatChart}
 use Rattle.book.specs.declared.Rule.{Rule}
 use Rattle.book.specs.declared.Trigger.the-variants.{None, Completed}
 use Rattle.derived.specs.Derived.{executedMark, includedMark, answeredMark, on, listed, clause, inclusion, responding, answering, settingExecuted, textFor}
 use Rattle.derived.specs.Derived.{derivedRules, derivedText, join, parts}
+use Rattle.derived.specs.Overruled.{stands-both}
 
 module _ (c : FlatChart) where
   abbrev n : ℕ
@@ -23,7 +26,7 @@ module _ (c : FlatChart) where
   -- on completion of e an included mark set or cleared, and an answered mark cleared
   pub record Says (r : Rule) : Type 0 where
     pub includes : (e f : ℕ) → f < n → r .trigger ≡ Completed e → r .effect ≡ true → r .target ≡ includedMark n f → In (setOf c include e) f
-    pub excludes : (e f : ℕ) → f < n → r .trigger ≡ Completed e → r .effect ≡ false → r .target ≡ includedMark n f → In (setOf c exclude e) f
+    pub excludes : (e f : ℕ) → f < n → r .trigger ≡ Completed e → r .effect ≡ false → r .target ≡ includedMark n f → In (standingAt c e) f
     pub responds : (e f : ℕ) → f < n → r .trigger ≡ Completed e → r .effect ≡ false → r .target ≡ answeredMark n f → In (setOf c response e) f
 
   -- a rule without trigger says nothing
@@ -42,7 +45,7 @@ module _ (c : FlatChart) where
           responds = λ d g l t b q. contra refl b;
         }
 
-    exclude-says : f < n → In (setOf c exclude e) f → Says (on e false (includedMark n f))
+    exclude-says : f < n → In (standingAt c e) f → Says (on e false (includedMark n f))
     exclude-says h m =
         record {
           includes = λ d g l t b q. contra b refl;
@@ -70,7 +73,7 @@ module _ (c : FlatChart) where
       join c Says (record {
         inclusions = λ e h f l.
             cases (has (setOf c include e) f) (λ t. rw t (include-says e f t, tt))
-            (λ t. cases (has (setOf c exclude e) f) (λ u. rw (t, u) (exclude-says e f l u, tt)) (λ u. rw (t, u) tt));
+            (λ t. cases (has (setOf c exclude e) f) (λ u. rw (t, u) (exclude-says e f l (stands-both c e f .1 (u, λ i. contra i t)), tt)) (λ u. rw (t, u) tt));
         responses = λ e h f l. cases (has (setOf c response e) f) (λ t. rw t (respond-says e f t, tt)) (λ t. rw t tt);
         answers = λ e h. cases (has (setOf c response e) e) (λ t. rw t tt) (λ t. rw t (answer-says e, tt));
         executed = executed-says;
@@ -84,12 +87,11 @@ module _ (c : FlatChart) where
     unfolding inclusion
     of-include m = (rw m at (parts c P a .inclusions e h f (fit .inside include e f h m))) .0
 
-    pub of-exclude : In (setOf c exclude e) f → P (on e false (includedMark n f))
+    pub of-exclude : In (standingAt c e) f → P (on e false (includedMark n f))
     unfolding inclusion
     of-exclude m =
-        let l : n ≤ maxEvents = fit .few in
-        let z : has (setOf c include e) f ≡ false = not-so (λ i. fit .apart e f (omega arith) i m) in
-        (rw (z, m) at (parts c P a .inclusions e h f (fit .inside exclude e f h m))) .0
+        let (x, o) = stands-both c e f .0 m in
+        (rw (not-so o, x) at (parts c P a .inclusions e h f (fit .inside exclude e f h x))) .0
 
     pub of-response : In (setOf c response e) f → P (on e false (answeredMark n f))
     unfolding responding
