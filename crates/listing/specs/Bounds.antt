@@ -17,8 +17,7 @@ use Rattle.graph.specs.Tests.{fitChart}
 use Rattle.graph.specs.Fitness.{tested-fit}
 use Rattle.records.specs.Image.{nodes, relations, outOfRange, misplaced, badNodeAt, badRelationAt}
 use Rattle.nesting.specs.Nesting.{eventCount, isEvent, onLoopAt, flaggedGroupAt}
-use Rattle.flattening.specs.Flattening.{conflict, conflictAt}
-use Rattle.chart.specs.Reading.{conflictFrom, conflictTo, readingRelations, readingNodes, reading}
+use Rattle.chart.specs.Reading.{readingRelations, readingNodes, reading}
 use Rattle.book.specs.Book.{Book, noRule, ruleOf, textOf}
 use Rattle.book.specs.GoodTexts.{GoodText, isOperator}
 use Rattle.book.specs.WellRead.{triggerExists, senseExists, RuleFormed}
@@ -241,21 +240,11 @@ module _ (image : List ℕ) where
     events-few : eventCount image ≤ maxNodes
     events-few = let t : tally (nodes image) (isEvent image) ≤ nodes image = tally-le (nodes image) (isEvent image) in omega arith
 
-    conflicts-few : (conflictFrom image ≤ maxNodes) × (conflictTo image ≤ maxNodes)
-    unfolding conflictFrom conflictTo
-    conflicts-few =
-        let e : eventCount image ≤ maxNodes = events-few in
-        let p : first (eventCount image) (conflictAt image) ≤ eventCount image = first-is (eventCount image) (conflictAt image) .fits in
-        let o : first (eventCount image) (conflict image (conflictFrom image)) ≤ eventCount image = first-is (eventCount image) (conflict image (conflictFrom image)) .fits in
-        (omega arith, omega arith)
-
     relations-short : Short (readingRelations image .answer)
-    unfolding readingRelations tens
+    unfolding readingRelations
     relations-short =
-        let f = conflicts-few in
         cases (some (relations image) (badRelationAt image)) (λ a. rw a (first-short 8 (relations image) (badRelationAt image) (omega arith) k))
-        (λ a. cases (some (eventCount image) (conflictAt image)) (λ d. rw (a, d) (record { code = omega arith; place = omega arith; other = omega arith }))
-        (λ d. rw (a, d) (plain-short 0 0 (omega arith) (omega arith))))
+        (λ a. rw a (plain-short 0 0 (omega arith) (omega arith)))
 
     nodes-short : Short (readingNodes image .answer)
     unfolding readingNodes

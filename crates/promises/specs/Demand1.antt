@@ -7,7 +7,7 @@ use mathlib.Core.List.{List, _++_}
 use native.Mathlib.Omega.{arith}
 use lib.ListN.{length, drop, replicate}
 use lib.Dec.{leb}
-use Rattle.paper.specs.Limits.{maxEvents, maxMarks, unfit}
+use Rattle.paper.specs.Limits.{maxEvents, maxMarks, includeExclude, unfit}
 use Rattle.paper.specs.Answers.{granted, refusal}
 use Rattle.paper.specs.declared.Answer.{Answer}
 use Rattle.general.specs.Cases.{cases, coincide}
@@ -25,7 +25,7 @@ use Rattle.graph.specs.declared.steps.Finished.{Finished}
 use Rattle.chart.specs.Reading.{reading, refused}
 use Rattle.chart.specs.declared.Reading.{Reading}
 use Rattle.chart.specs.Outcome.{Outcome, outcome, judged}
-use Rattle.chart.specs.ReadingGives.{refused-empty}
+use Rattle.chart.specs.ReadingGives.{refused-empty, never-nine}
 use Rattle.order_theory.specs.Order.{countedRules}
 use Rattle.order_theory.specs.Running.{runningOrder}
 use Rattle.book.specs.declared.Snapshot.{Snapshot}
@@ -98,10 +98,11 @@ derive-granted c room e =
 -- ---- the demand, call by call: the answer is a row of the paper's table, no other answer is one, and what a refusal gives
 
 pub record Demand1 : Type 0 where
-  -- reading: 1 to 9, else the chart; a refused reading is empty
+  -- reading: 1 to 8, else the chart, and never 9 (request xii); a refused reading is empty
   pub read : (image : List ℕ) → Outcome image (reading image .answer)
   pub readOnly : (image : List ℕ) (a : Answer) → Outcome image a → a ≡ reading image .answer
   pub readRefused : (image : List ℕ) → (reading image .answer .code ≡ 0 → ⊥) → reading image ≡ refused (reading image .answer)
+  pub readNever : (image : List ℕ) → reading image .answer .code ≡ includeExclude → ⊥
   -- the open test: 14, 10, 11, 12, 13; it hands back no marking, and with other codes than 12 and 13 two empty sets
   pub openTest : (c : FlatChart) (m : Marking) (e : ℕ) → Opens c m e (opening c m e)
   pub openTestOnly : (c : FlatChart) (m : Marking) (e : ℕ) (t : OpenTest) → Opens c m e t → t ≡ opening c m e
@@ -184,6 +185,7 @@ demand-1 =
       read = outcome;
       readOnly = λ image a o. sym (judged image a .0 o);
       readRefused = refused-empty;
+      readNever = never-nine;
       openTest = opens;
       openTestOnly = λ c m e t x. opens-only c m e x;
       openTestOthers = others-empty;

@@ -11,6 +11,7 @@ pub mod Looked
 pub mod Replays
 pub mod Blocks
 pub mod Roles
+pub mod IncludeWins
 pub mod Stages
 pub mod ReadBack
 pub mod OneChart

@@ -11,11 +11,12 @@ use lib.Seq.{take-at}
 use borrow.Author.Tests.{leb-false}
 use Rattle.paper.specs.Limits.{maxEvents}
 use Rattle.general.specs.Cases.{cases}
-use Rattle.graph.specs.Chart.{Kind, condition, response, milestone, include, exclude, table, setOf, rolesOf, Fit}
+use Rattle.graph.specs.Chart.{Kind, condition, milestone, table, setOf, rolesOf, Fit}
 use Rattle.graph.specs.Roles.{Permits, permits-so}
 use Rattle.graph.specs.Tests.{fit}
 use Rattle.graph.specs.Fitness.{fit-tested}
-use Rattle.graph.specs.Steps.{stepping, steppingBy, executing}
+use Rattle.graph.specs.Steps.{stepping, steppingBy, testing, executing}
+use Rattle.graph.specs.Overruled.{standing}
 use Rattle.graph.specs.declared.FlatChart.{FlatChart}
 use Rattle.graph.specs.declared.Marking.{Marking}
 use Rattle.graph.specs.declared.steps.Step.{Step}
@@ -24,6 +25,7 @@ use Rattle.chart.specs.ReadingGives.{reading-fit}
 use Rattle.book.specs.Image.{bookOf}
 use Rattle.book.specs.ImageOf.{book-of-image}
 use Rattle.derived.specs.Derived.{derivedBook}
+use Rattle.derived.specs.Overruled.{standingOf, same-after}
 use Rattle.derived.specs.OneChart as one
 use Rattle.derived.specs.OneChart.{SameRelations}
 use Rattle.deriver.specs.Deriving.{derivedImage, derivingAnswer}
@@ -37,7 +39,8 @@ use Rattle.promises.specs.Lists.{Permitted}
 one-book : (c d : FlatChart) → derivedImage c ≡ derivedImage d → derivedBook c ≡ derivedBook d
 one-book c d q = sym (book-of-image (derivedBook c)) ∙ ap bookOf q ∙ book-of-image (derivedBook d)
 
--- "two fit flat charts whose derived books have the same bytes have the same event count and the same five relations. Marking and roles are left out."
+-- "two fit flat charts whose derived books have the same bytes have the same event count and the same five relations. Marking and roles are left out."; request (xii): of
+-- exclusions those that no inclusion overrules
 pub no-two-charts : (c d : FlatChart) → Fit c → Fit d → derivedImage c ≡ derivedImage d → SameRelations c d
 no-two-charts c d x y q = one.no-two-charts c d x y (one-book c d q)
 
@@ -50,8 +53,8 @@ no-two-charts-short c d x y q =
       relations = λ k e h. sym (bare-set c k e h) ∙ ap (λ (b : FlatChart). setOf b k e) z ∙ bare-set d k e h;
     }
 
--- of charts as the calls have them: the five tables are one
-pub same-tables : (c d : FlatChart) → Sized c → Sized d → SameRelations c d → (k : Kind) → table c k ≡ table d k
+-- of charts as the calls have them: the five tables are one, without the overruled exclusions
+pub same-tables : (c d : FlatChart) → Sized c → Sized d → SameRelations c d → (k : Kind) → table (standing c) k ≡ table (standing d) k
 same-tables c d x y s k = sym (bare-table c x k) ∙ ap (λ (b : FlatChart). table b k) (bare-one c d s) ∙ bare-table d y k
 
 -- ---- what it is for: charts with the same relations, each event by roles that its chart permits, step alike
@@ -62,14 +65,14 @@ module _ (c d : FlatChart) (x : Fit c) (y : Fit d) (s : SameRelations c d) where
   fits-alike m = rw (fit-tested c x, fit-tested d y, s .count)
 
   pub step-alike : (m : Marking) (e r t : ℕ) → Permits (rolesOf c e) r → Permits (rolesOf d e) t → executing c m e r ≡ executing d m e t
-  unfolding executing steppingBy stepping
+  unfolding executing steppingBy stepping testing
   step-alike m e r t p q =
       rw (fits-alike m, s .count, permits-so (rolesOf c e) r .1 p, permits-so (rolesOf d e) t .1 q)
       (cases (leb (d .count) e) (λ l. rw l)
       (λ l. let h : e < d .count = leb-false (d .count) e l in
       let i : d .count ≤ maxEvents = y .few in
-      let at : (k : Kind) → setOf c k e ≡ setOf d k e = λ k. s .relations k e (omega arith) in
-      rw (at condition, at response, at milestone, at include, at exclude)))
+      let at : (k : Kind) → standingOf c k e ≡ standingOf d k e = λ k. s .relations k e (omega arith) in
+      rw (at condition, at milestone, same-after c d m e (omega arith) at)))
 
 -- along the steps, each an event and a role, from each marking to the next
 abbrev pub StepAlike : FlatChart → FlatChart → Marking → List (ℕ × ℕ) → Type 0
@@ -90,7 +93,7 @@ pub record SameBookAlike (image other : List ℕ) : Type 0 where
   -- from equal markings they grant the same events, each by a role that it permits
   pub grants : (m : Marking) (e r t : ℕ) → Permits (rolesOf (reading image .chart) e) r → Permits (rolesOf (reading other .chart) e) t
       → (executing (reading image .chart) m e r .answer .code ≡ 0) ↔ (executing (reading other .chart) m e t .answer .code ≡ 0)
-  -- "and step alike along every list of events by roles that both permit"
+  -- and step alike along every list of events by roles that both permit
   pub steps : (m : Marking) (steps : List (ℕ × ℕ)) → Permitted (reading image .chart) steps → Permitted (reading other .chart) steps
       → StepAlike (reading image .chart) (reading other .chart) m steps
 

@@ -9,6 +9,7 @@ use Rattle.paper.specs.Limits.{maxEvents, notDerived}
 use Rattle.paper.specs.Answers.{granted}
 use Rattle.paper.specs.declared.Answer.{Answer}
 use Rattle.graph.specs.Chart.{Kind, table, Fit}
+use Rattle.graph.specs.Overruled.{standing}
 use Rattle.graph.specs.declared.FlatChart.{FlatChart}
 use Rattle.chart.specs.Reading.{reading}
 use Rattle.chart.specs.ReadingGives.{reading-fit}
@@ -25,17 +26,18 @@ use Rattle.promises.specs.Demand2.{passes, written, granted-bytes}
 pub record ThereAndBack (image room more : List ℕ) : Type 0 where
   -- the book that derive wrote is accepted
   pub accepted : readingBack (written (reading image .chart) room) .answer ≡ granted
-  -- its chart has the count and the five relations of the chart that was read
+  -- its chart has the count and the relations of the chart that was read, of exclusions those that no inclusion overrules
   pub same : SameRelations (readingBack (written (reading image .chart) room) .chart) (reading image .chart)
   -- deriving from it is granted, and the second book is the first, byte for byte
   pub derives : derivingAnswer (readingBack (written (reading image .chart) room) .chart) (length more) ≡ granted
   pub again : written (readingBack (written (reading image .chart) room) .chart) more ≡ written (reading image .chart) room
 
 pub record ReadsBackAsPromised : Type 0 where
-  -- "accept exactly the books that the deriver writes for some fit flat chart, and give that chart without marking or roles"
+  -- "accept exactly the books that the deriver writes for some fit flat chart, and give that chart without marking or roles"; request (xii): without the exclusions that an
+  -- inclusion overrules
   pub back : (c : FlatChart) → Fit c → readingBack (derivedImage c) ≡ readBack granted (bare c)
   pub same : (c : FlatChart) → Fit c → SameRelations (readingBack (derivedImage c) .chart) c
-  pub tables : (c : FlatChart) → Fit c → Sized c → (k : Kind) → table (readingBack (derivedImage c) .chart) k ≡ table c k
+  pub tables : (c : FlatChart) → Fit c → Sized c → (k : Kind) → table (readingBack (derivedImage c) .chart) k ≡ table (standing c) k
   -- what is read back is fit and names no role; "deriving from it writes the same bytes again"
   pub fit : (book : List ℕ) → readingBack book .answer .code ≡ 0 → Fit (readingBack book .chart)
   pub unnamed : (book : List ℕ) → readingBack book .answer .code ≡ 0 → readingBack book .chart .roles ≡ replicate maxEvents 0

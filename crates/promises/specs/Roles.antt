@@ -9,13 +9,14 @@ use native.Mathlib.Omega.{arith}
 use lib.ListN.{getD, replicate}
 use lib.Dec.{eqb, leb}
 use borrow.Author.Tests.{eq-eqb}
-use Rattle.paper.specs.Limits.{maxEvents, maxRoles, noSuchEvent, notPermitted, unfit}
+use Rattle.paper.specs.Limits.{maxEvents, maxRoles, includeExclude, noSuchEvent, notPermitted, unfit}
 use Rattle.general.specs.Cases.{contra, not-so}
 use Rattle.sets.specs.Set.{has}
 use Rattle.sets.specs.Laws.{has-empty, has-union, none-zero}
 use Rattle.general.specs.Tables.{zeros-at}
 use Rattle.graph.specs.Chart.{rolesOf, Fit, FitMarking}
-use Rattle.graph.specs.Tests.{spillOf, rolesFrom, fitMarking, fitTables, fitChart, fit}
+use Rattle.graph.specs.Tests.{rolesFrom, fitMarking, fit}
+use Rattle.graph.specs.Before.{Apart, spillOfThen, fitTablesThen, fitChartThen, fitThen, fit-as-then}
 use Rattle.graph.specs.Roles.{Permits, permits-so}
 use Rattle.graph.specs.Steps.{rowOf, refusing, executing}
 use Rattle.graph.specs.Execution.{granted-enabled, executes-only, isForbidden, refused-kept}
@@ -25,7 +26,8 @@ use Rattle.graph.specs.declared.Marking.{Marking}
 use Rattle.flattening.specs.Flattening.{flatChart}
 use Rattle.chart.specs.Reading.{reading}
 use Rattle.chart.specs.ReadingGives.{Names, granted-right, reading-names, reading-fit}
-use Rattle.chart.specs.Stored.{Plain, readingBefore, reads-as-before, all-open}
+use Rattle.chart.specs.Before.{apart-then}
+use Rattle.chart.specs.Stored.{Plain, readingBefore, then-as-before, reads-as-before, all-open}
 use Rattle.chart.specs.declared.Reading.{Reading}
 
 -- ---- along a sequence of steps, each an event and a role: no step of event e by role r is granted, and none changes the marking
@@ -100,7 +102,7 @@ unfoldable pub fitBefore : FlatChart → Marking → Bool
 fitBefore c m =
     fitMarking (c .count) m
     && (leb 1 (c .count) && leb (c .count) maxEvents
-    && eqb (spillOf (c .count) (c .conditions) (c .responses) (c .milestones) (c .includes) (c .excludes) maxEvents) 0)
+    && eqb (spillOfThen (c .count) (c .conditions) (c .responses) (c .milestones) (c .includes) (c .excludes) maxEvents) 0)
 
 unfoldable pub executingBefore : FlatChart → Marking → ℕ → StepThen
 executingBefore c m e =
@@ -108,15 +110,15 @@ executingBefore c m e =
     (cond (leb (c .count) e) (refusingThen noSuchEvent 0 m)
     (steppingThen m e (rowOf c e)))
 
-module _ (c : FlatChart) (plain : c .roles ≡ replicate maxEvents 0) where
+module _ (c : FlatChart) (plain : c .roles ≡ replicate maxEvents 0) (apart : Apart c) where
   unnamed : (n k : ℕ) → rolesFrom (c .roles) n k ≡ 0
   unfolding rolesFrom
   unnamed n zero = refl
   unnamed n (suc k) = rw (unnamed n k, plain, zeros-at maxEvents (n + k)) (none-zero _ (λ f. has-union 0 0 f ∙ rw (has-empty f)))
 
   fits-as-before : (m : Marking) → fit c m ≡ fitBefore c m
-  unfolding fit fitChart fitTables fitBefore
-  fits-as-before m = rw (eq-eqb _ 0 (unnamed (c .count) (maxEvents - c .count)), and-true)
+  unfolding fitThen fitChartThen fitTablesThen fitBefore
+  fits-as-before m = fit-as-then c apart m ∙ rw (eq-eqb _ 0 (unnamed (c .count) (maxEvents - c .count)), and-true)
 
   -- "every step by any role 0 to 7 is what it was"
   pub steps-as-before : (m : Marking) (e r : ℕ) → r < maxRoles → leftOut (executing c m e r) ≡ executingBefore c m e
@@ -126,16 +128,16 @@ module _ (c : FlatChart) (plain : c .roles ≡ replicate maxEvents 0) where
       step-as-then c m e r
       ∙ rw (fits-as-before m, permits-so (rolesOf c e) r .1 (record { known = h; open-or-named = inl z }))
 
--- of a chart whose nodes have no upper bits: the reading is the one of then, and so is every step by a role 0 to 7
+-- of a chart whose nodes have no upper bits, and that was not refused with 9: the reading is the one of then, and so is every step by a role 0 to 7
 pub record StoredChart (image : List ℕ) : Type 0 where
   pub reads : reading image ≡ readingBefore image
   pub unnamed : reading image .chart .roles ≡ replicate maxEvents 0
   pub steps : (m : Marking) (e r : ℕ) → r < maxRoles → leftOut (executing (reading image .chart) m e r) ≡ executingBefore (reading image .chart) m e
 
-pub stored : (image : List ℕ) → Plain image → StoredChart image
-stored image p =
+pub stored : (image : List ℕ) → Plain image → (readingBefore image .answer .code ≡ includeExclude → ⊥) → StoredChart image
+stored image p n =
     record {
-      reads = reads-as-before image p;
+      reads = reads-as-before image p n;
       unnamed = all-open image p;
-      steps = steps-as-before (reading image .chart) (all-open image p);
+      steps = steps-as-before (reading image .chart) (all-open image p) (apart-then image (rw (then-as-before image p) n));
     }

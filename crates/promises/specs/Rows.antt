@@ -7,7 +7,7 @@ use mathlib.Core.Logic.{inl}
 use native.Mathlib.Omega.{arith}
 use lib.ListN.{length, getD, set, replicate}
 use lib.Count.{trailingZeros}
-use Rattle.paper.specs.Limits.{maxEvents, maxMarks, conditionWanting, includeExclude, loopFound, orderUnfit, stageClosed}
+use Rattle.paper.specs.Limits.{maxEvents, maxMarks, conditionWanting, loopFound, orderUnfit, stageClosed}
 use Rattle.paper.specs.Limits as limit
 use Rattle.paper.specs.Answers.{answer, granted, refusal}
 use Rattle.paper.specs.declared.Answer.{Answer}
@@ -23,10 +23,10 @@ use Rattle.graph.specs.Examples.{none, pair, marking}
 use Rattle.graph.specs.Examples as graph
 use Rattle.graph.specs.declared.FlatChart.{FlatChart}
 use Rattle.graph.specs.declared.Marking.{Marking}
-use Rattle.chart.specs.Reading.{reading, refused}
+use Rattle.chart.specs.Reading.{reading}
 use Rattle.chart.specs.ReadingGives.{reading-fit}
 use Rattle.chart.specs.declared.Reading.{Reading}
-use Rattle.chart.specs.Examples.{wholeChart, groupChart, conflictChart}
+use Rattle.chart.specs.Examples.{wholeChart, groupChart, bothChart, bothReading}
 use Rattle.chart.specs.Examples as examples
 use Rattle.book.specs.Text.{snapOf}
 use Rattle.general.specs.Lists.{flat}
@@ -117,8 +117,8 @@ pub record Rows : Type 0 where
   pub p6 : executing (pair none none (set none 1 1)) (marking 0 1 2) 1 0 ≡ granting (marking 2 1 2)
   -- "P7: group 0 with members 1, 2 is condition of 3: events 0 and 1 are conditions of 2."
   pub p7 : (reading groupChart .answer ≡ granted) × (reading groupChart .chart .conditions ≡ 0 ∷ (0 ∷ (3 ∷ replicate 61 0)))
-  -- "P8: node 3 includes that group, excludes node 1: code 9, places 2, 0."
-  pub p8 : reading conflictChart ≡ refused (answer includeExclude 2 0)
+  -- "P8: node 3 includes that group, excludes node 1", by request (xii) an accepted chart: event 2 includes 0 and 1, excludes 0, and after it both are included
+  pub p8 : (reading bothChart ≡ bothReading) × (executing (bothReading .chart) (bothReading .marking) 2 0 ≡ granting (marking 4 0 7))
   -- "P9: one stage, one mark, "if not mark 0, set mark 0" alone: 25, place 0."
   pub p9 : checking p9 0 1 ≡ answer loopFound 0 0
   -- "P10: set and clear mark 1 on completions of 0 and 1 pass; both on 0: 26, places 0, 1."
@@ -135,6 +135,12 @@ pub record Rows : Type 0 where
   -- "P12: a rule listed twice: 27.": in every order of every book that passes
   pub p12 : (s order : List ℕ) (i j : ℕ) → Passes s → i < j → j < length order → getD order i 0 ≡ getD order j 0 → (snapshot : Snapshot) (stage : ℕ) → stage < stagesIn s
       → completing s order snapshot stage ≡ record { answer = refusal orderUnfit; snapshot = snapshot }
+
+-- ---- P8, a step of the chart that the bytes give
+
+p8-step : executing (bothReading .chart) (bothReading .marking) 2 0 ≡ granting (marking 4 0 7)
+unfolding executing steppingBy stepping testing permits fit fitChart fitMarking fitTables rolesFrom spillOf spillAt rowSpill has unmetOf awaitedOf afterWith trailingZeros
+p8-step = refl
 
 -- ---- P1 to P3, computed on the chart that the bytes give
 
@@ -260,7 +266,7 @@ rows =
       p5 = graph.examples .p5;
       p6 = graph.examples .p6;
       p7 = (examples.examples .p7-granted, examples.examples .p7-conditions);
-      p8 = examples.examples .p8;
+      p8 = (examples.examples .p8, p8-step);
       p9 = p9-loop;
       p10 = (p10-pass .0, p10-pass .1, p10-clash .0);
       pairPasses = (pair-pass .0, pair-pass .1);

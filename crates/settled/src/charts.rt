@@ -92,9 +92,9 @@ fn relations() {
         b"chart-no-such-node",
         b"\x01\x00\x01\x00\x08\x00\x0C\x00\xFF\xFF\x04\x00\x00\x00\x01\x00\x00\x00",
     );
-    // node 3 includes the group 0 of 1 and 2, and excludes node 1
+    // P8: node 3 includes the group 0 of 1 and 2, and excludes node 1
     case(
-        b"chart-include-exclude",
+        b"chart-p8",
         b"\x04\x00\x02\x00\x08\x00\x18\x00\xFF\xFF\x00\x00\x00\x00\x04\x00\x00\x00\x04\x00\xFF\xFF\x04\x00\x03\x00\x00\x00\x03\x00\x03\x00\x01\x00\x04\x00",
     );
     case(

@@ -1,4 +1,4 @@
-// Steps and deriving: the mortgage application's run of document 000, section 2, and the room of a book.
+// Steps and deriving: the mortgage application's run of document 000, section 2, P8, and the room of a book.
 use crate::show;
 use graph::FlatChart;
 use graph::Marking;
@@ -41,6 +41,30 @@ fn mortgage() {
     show::told(b"mortgage-finished", assessed.finished(chart).yes);
 }
 
+// P8: event 2 includes 0 and 1 and excludes 0. Inclusion wins: afterwards all three are open. Its completion has two rules on what is
+// included, so that the book has 14 rules and takes 202 bytes.
+fn both() {
+    let read = chart::read(
+        b"\x04\x00\x02\x00\x08\x00\x18\x00\xFF\xFF\x00\x00\x00\x00\x04\x00\x00\x00\x04\x00\xFF\xFF\x04\x00\x03\x00\x00\x00\x03\x00\x03\x00\x01\x00\x04\x00",
+    );
+    let chart = read.chart;
+    show::sets(
+        b"p8-includes-excludes",
+        read.answer,
+        chart.includes[2],
+        chart.excludes[2],
+    );
+    let taken = step(b"p8-step", chart, read.marking, 2);
+    show::sets(
+        b"p8-included-before-after",
+        read.answer,
+        read.marking.included,
+        taken.included,
+    );
+    let mut short = [0u8; 201];
+    show::line(b"p8-book", deriver::derive(chart, &mut short));
+}
+
 // The paper's chart needs 162 bytes.
 fn room() {
     let read = chart::read(
@@ -65,5 +89,6 @@ fn room() {
 
 pub fn run() {
     mortgage();
+    both();
     room();
 }

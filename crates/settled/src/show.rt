@@ -35,6 +35,14 @@ pub fn counted(name: &[u8], answer: Answer, count: u32, lowest: u32) {
     io::write_all(STDOUT_FILENO, b"\n");
 }
 
+// One case with two sets.
+pub fn sets(name: &[u8], answer: Answer, one: u64, other: u64) {
+    answered(name, answer);
+    number(one);
+    number(other);
+    io::write_all(STDOUT_FILENO, b"\n");
+}
+
 // One case that is yes or no.
 pub fn told(name: &[u8], yes: bool) {
     io::write_all(STDOUT_FILENO, name);
