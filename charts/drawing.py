@@ -8,7 +8,6 @@ from words import CHART_HEADER, FLAGS_BYTE, MAX_EVENTS, MAX_NODES, MAX_RELATIONS
 
 FLAGS = {'executed': 1, 'pending': 2, 'included': 4}
 KINDS = {'condition': 0, 'response': 1, 'milestone': 2, 'include': 3, 'exclude': 4}
-OPPOSITES = {'include': 'exclude', 'exclude': 'include'}
 
 # The longest text that is read, in bytes; comments and long names have room in it.
 MAX_TEXT = 1048576
@@ -72,7 +71,7 @@ def shown(word):
 
 
 def read(data):
-    """The drawing of a text's bytes. Its image is read with no other refusal than 5 and 9, which `judge` rules out."""
+    """The drawing of a text's bytes. Its image is read with no other refusal than 5, which `judge` rules out."""
     drawing = Drawing()
     for number, line in enumerate(lines(data), 1):
         words = line.split('#')[0].split()
@@ -89,7 +88,6 @@ def read(data):
 def judge(drawing):
     """Hands the drawing back if its image is read without a refusal."""
     check_loops(drawing)
-    check_pairs(drawing)
     return drawing
 
 
@@ -255,57 +253,6 @@ def check_names(drawing):
         for name in (relation.origin, relation.to):
             if name not in drawing.nodes:
                 raise mistake(relation.line, 'there is no event or group %s', name)
-
-
-def check_pairs(drawing):
-    """No event may both include and exclude an event, itself or through groups."""
-    events, inside = drawing.events(), members(drawing)
-    reached = {kind: [0] * len(events) for kind in OPPOSITES}
-    for relation in drawing.relations:
-        if relation.kind not in OPPOSITES:
-            continue
-        origins, targets = inside[relation.origin], inside[relation.to]
-        for e, event in enumerate(events):
-            if origins >> e & 1:
-                both = reached[OPPOSITES[relation.kind]][e] & targets
-                if both:
-                    raise Mistake(conflict(drawing, relation, event, events[lowest(both)]))
-                reached[relation.kind][e] |= targets
-
-
-def members(drawing):
-    """The events in each node by its name, an event in itself: event e is bit e."""
-    inside = dict.fromkeys(drawing.nodes, 0)
-    for e, event in enumerate(drawing.events()):
-        for node in drawing.above(event):
-            inside[node.name] |= 1 << e
-    return inside
-
-
-def lowest(bits):
-    return (bits & -bits).bit_length() - 1
-
-
-def conflict(drawing, later, event, target):
-    """The words for a pair that a line both includes and excludes with an earlier one: `event` would do both to `target`."""
-    froms, tos = names_above(drawing, event), names_above(drawing, target)
-    earlier = next(relation for relation in drawing.relations
-                   if relation.kind == OPPOSITES[later.kind] and relation.origin in froms and relation.to in tos)
-    what = later.to if later.to == earlier.to else target.name
-    text = 'line %d %ss %s%s; line %d %ss it%s' % (
-        later.line, later.kind, shown(what), through(later, what), earlier.line, earlier.kind, through(earlier, what))
-    groups = sorted({later.origin, earlier.origin} - {event.name}, key=froms.index)
-    if groups and later.origin != earlier.origin:
-        text += ' (%s is in %s)' % (shown(event.name), ' and '.join(map(shown, groups)))
-    return text
-
-
-def names_above(drawing, node):
-    return [above.name for above in drawing.above(node)]
-
-
-def through(relation, what):
-    return '' if relation.to == what else ' through ' + shown(relation.to)
 
 
 # ---- The image
