@@ -5,7 +5,7 @@
 
 import ozhimka as model
 from chances import (NO_ROLES, in_turn, random_chart_image, random_flat, random_nodes, random_order, random_relations, random_snapshot, some,
-                     sound_book)
+                     sound_book, told_by_book)
 from ozhimka import (AND, BECOME_NO, BECOME_YES, CLEAR, COMPLETED, CONDITION, EXCLUDE, GRANTED, INCLUDE, MILESTONE, NONE, NOT,
                      OR, SET, Book, FlatChart, Marking, Rule, book_image, chart_image, on_completion, without_trigger)
 from protocol import (BAD, MAX_BODY, MAX_ROOM_BYTES, MAX_ROOM_NUMBERS, MAX_STEPS, back_request, bytes16, bytes32, check_request,
@@ -127,27 +127,31 @@ def group_causes(rng):
     yield plain(8, 5), read_request(chart_image([FREE], [(0, 0, 1)] * 5 + [(1, 0, 1)]))
 
 
-def conflict_causes(rng):
-    """Code 9: directly and through groups, at each end, with the lowest pair named."""
+def of_both(nodes, relations, *pairs):
+    """A chart in which these pairs of events get both include and exclude, and no others do."""
+    image = chart_image(nodes, relations)
+    chart = model.read_chart(image)[1]
+    assert [(e, f) for e in range(chart.count) for f in sorted(chart.includes[e] & chart.excludes[e])] == list(pairs)
+    return GRANTED, read_request(image)
+
+
+def both_causes(rng):
+    """Include and exclude of one pair, directly and through groups, at each end: code 9 is never given any more."""
     nested = [(NONE, 0), (0, 4), (0, 4), FREE]  # events 0 and 1 are nodes 1 and 2 of group 0; event 2 is node 3
-    yield plain(9, 2, 0), read_request(chart_image(nested, [(3, 0, INCLUDE), (3, 1, EXCLUDE)]))  # P8
-    yield plain(9, 2, 1), read_request(chart_image(nested, [(3, 2, INCLUDE), (3, 0, EXCLUDE)]))
-    yield plain(9, 0, 2), read_request(chart_image(nested, [(0, 3, INCLUDE), (1, 3, EXCLUDE)]))
-    yield plain(9, 1, 2), read_request(chart_image(nested, [(2, 3, EXCLUDE), (0, 3, INCLUDE)]))
-    yield plain(9, 0, 0), read_request(chart_image(nested, [(0, 0, INCLUDE), (0, 0, EXCLUDE)]))
-    yield plain(9, 0, 1), read_request(chart_image(nested, [(0, 2, INCLUDE), (1, 0, EXCLUDE)]))
-    yield plain(9, 1, 1), read_request(chart_image(nested, [(0, 0, EXCLUDE), (2, 2, INCLUDE)]))
-    yield plain(9, 0, 0), read_request(chart_image([FREE], [(0, 0, EXCLUDE), (0, 0, INCLUDE)]))
+    yield of_both(nested, [(3, 0, INCLUDE), (3, 1, EXCLUDE)], (2, 0))  # P8
+    yield of_both(nested, [(3, 2, INCLUDE), (3, 0, EXCLUDE)], (2, 1))
+    yield of_both(nested, [(0, 3, INCLUDE), (1, 3, EXCLUDE)], (0, 2))
+    yield of_both(nested, [(2, 3, EXCLUDE), (0, 3, INCLUDE)], (1, 2))
+    yield of_both(nested, [(0, 0, INCLUDE), (0, 0, EXCLUDE)], (0, 0), (0, 1), (1, 0), (1, 1))
+    yield of_both(nested, [(0, 2, INCLUDE), (1, 0, EXCLUDE)], (0, 1))
+    yield of_both(nested, [(0, 0, EXCLUDE), (2, 2, INCLUDE)], (1, 1))
+    yield of_both([FREE], [(0, 0, EXCLUDE), (0, 0, INCLUDE)], (0, 0))
     flat = [FREE] * 64
-    pairs = [(63, 63), (5, 9), (5, 8), (7, 0)]
-    relations = [(a, b, kind) for a, b in pairs for kind in (EXCLUDE, INCLUDE)]
-    yield plain(9, 5, 8), read_request(chart_image(flat, relations))
-    yield plain(9, 63, 63), read_request(chart_image(flat, relations[:2]))
+    pairs = [(5, 8), (5, 9), (7, 0), (63, 63)]
+    yield of_both(flat, [(a, b, kind) for a, b in pairs for kind in (EXCLUDE, INCLUDE)], *pairs)
     deep = [(1, 4), (2, 0), (3, 0), (NONE, 0), FREE]  # node 0 in 1 in 2 in 3
-    yield plain(9, 0, 1), read_request(chart_image(deep, [(3, 4, INCLUDE), (1, 4, EXCLUDE)]))
-    yield plain(9, 1, 0), read_request(chart_image(deep, [(4, 3, INCLUDE), (4, 0, EXCLUDE)]))
-    for _ in range(8):
-        yield None, read_request(random_chart_image(rng, conflicts=1.0))
+    yield of_both(deep, [(3, 4, INCLUDE), (1, 4, EXCLUDE)], (0, 1))
+    yield of_both(deep, [(4, 3, INCLUDE), (4, 0, EXCLUDE)], (1, 0))
 
 
 def accepted_charts(rng):
@@ -195,7 +199,7 @@ def charts_with_roles(rng):
     everyone = [(NONE, 256 * 32)] + [(0, 4 + 256 * (n % 4)) for n in range(64)]
     yield GRANTED, read_request(chart_image(everyone, [(0, 0, kind) for kind in (0, 1, 2, 4)]))
     yield plain(8, 0), read_request(chart_image(everyone, [(0, 65, CONDITION)]))  # a refused chart gives no roles
-    yield plain(9, 0, 0), read_request(chart_image(everyone, [(0, 0, INCLUDE), (0, 0, EXCLUDE)]))
+    yield GRANTED, read_request(chart_image(everyone, [(0, 0, INCLUDE), (0, 0, EXCLUDE)]))
 
 
 # ---- flat charts and markings
@@ -242,17 +246,6 @@ def unfit_flats(rng):
         e, below = ((count, ()), (63, range(count)), (rng.randrange(count, 64), rng.choice(((), range(count)))))[role % 3]
         yield with_roles(model.empty_chart(count), {**{f: range(8) for f in below}, e: {role}})
     yield with_roles(small_flat(), {e: range(8) for e in range(64)})
-    for e, f in ((0, 0), (0, 3), (3, 0), (2, 2)):
-        both = small_flat()
-        both.includes[e].add(f)
-        both.excludes[e].add(f)
-        yield both
-    both = random_flat(rng, 64, 0.3)
-    both.includes[63].add(63)
-    both.excludes[63].add(63)
-    yield both
-
-
 MARKING_CALLS = (count_request, finished_request, matching_request)
 
 
@@ -328,6 +321,28 @@ def held_back():
     chart.conditions[4] |= set(range(8))
     chart.milestones[4] |= set(range(8))
     return chart
+
+
+def inclusion_causes(rng):
+    """A pair in both tables of a flat chart: it is fit in every call, the step leaves the event included, and the book has the setting rule alone."""
+    for e, f in ((0, 0), (0, 3), (3, 0), (2, 2), (63, 62), (62, 63)):
+        chart = model.empty_chart(64) if e > 3 else small_flat()
+        chart.includes[e].add(f)
+        chart.excludes[e].add(f)
+        everyone = set(range(chart.count))
+        for included in (everyone, everyone - {f} | {e}):  # in before or out
+            start = Marking({0, 2}, set(), set(included))
+            assert f in model.execute(chart, start, e, 0)[1].included
+            yield GRANTED, execute_request(chart, start, e, 0)
+        book = model.derived_book(chart)
+        assert [rule.effect for rule in book.rules if rule.trigger == 1 and (rule.number, rule.target) == (e, 2 * chart.count + f)] == [SET]
+        yield GRANTED, derive_request(len(book_image(book)), chart)
+        yield GRANTED, open_request(chart, start, e)
+        yield GRANTED, rng.choice((count_request, finished_request))(chart, start)
+        yield GRANTED, matching_request(chart, start)
+        yield GRANTED, replay_request(chart, start, [(e, 0), (f, 0)])
+        yield None, strike_request(chart, start, 0, [(f, 0), (e, 0)])
+        yield GRANTED, back_request(book_image(book))
 
 
 def blocking_causes(rng):
@@ -857,7 +872,7 @@ def pair_causes(rng):
     for count in (65, 126):  # 5 before 7
         yield plain(5, 0), read_request(chart_image([(1, 0), (0, 0)] + [FREE] * count, []))
         yield plain(5, count), read_request(chart_image([FREE] * count + [(count + 1, 0), (count, 0)], []))
-    fight, bad = [(0, 1, INCLUDE), (0, 1, EXCLUDE)], [(0, 2, CONDITION)]  # 8 before 9
+    fight, bad = [(0, 1, INCLUDE), (0, 1, EXCLUDE)], [(0, 2, CONDITION)]  # 8 beside a pair that gets both
     yield plain(8, 0), read_request(chart_image([FREE] * 2, bad + fight))
     yield plain(8, 2), read_request(chart_image([FREE] * 2, fight + bad))
 
@@ -1477,7 +1492,7 @@ def back_causes(rng):
     for chart in (model.empty_chart(1), own, small_flat(), filed_flat(), with_roles(filed_flat(), {0: {0}, 3: range(8)}), model.read_chart(model.PAPER_CHART)[1],
                   model.empty_chart(63), model.empty_chart(64), random_flat(rng, 9, 0.4), random_flat(rng, 5, 1.0)):
         image = book_image(model.derived_book(chart))
-        assert model.read_back(image) == (GRANTED, with_roles(chart, {}))
+        assert model.read_back(image) == (GRANTED, told_by_book(chart))
         yield GRANTED, back_request(image)
     book = model.derived_book(filed_flat())
     for answer, other in less_a_rule(book):
@@ -1639,7 +1654,6 @@ def refused_listings(rng):
     image = model.PAPER_CHART
     nodes, relations = largest_chart(rng)
     largest = chart_image(nodes, relations)
-    nested = [(NONE, 0), (0, 4), (0, 4), FREE]
     yield b'', (1, 0, 0)
     yield image[:7], (1, 0, 0)
     yield with_number16(image, 0, 129), (2, 0, 0)
@@ -1654,8 +1668,6 @@ def refused_listings(rng):
     yield chart_image([FREE, (NONE, 256 + 3), (1, 4), FREE], []), (6, 1, 0)
     yield chart_image([FREE] * 100, []), (7, 100, 0)
     yield with_number16(largest, len(largest) - 2, 5), (8, 4095, 0)
-    yield chart_image(nested, [(3, 0, INCLUDE), (3, 1, EXCLUDE)]), (9, 2, 0)
-    yield chart_image([FREE] * 64, [(a, b, kind) for a, b in ((63, 63), (5, 12)) for kind in (EXCLUDE, INCLUDE)]), (9, 5, 12)
     everyone = [(NONE, 0)] + [(0, 4)] * 64
     yield chart_image(everyone, [(0, 0, kind) for kind in (0, 1, 2, 3)]), (15, 166432, 0)
     yield full_chart(497, (CONDITION, MILESTONE)), (15, 49162, 0)
@@ -1668,6 +1680,8 @@ def listed_charts(rng):
     named = [(parent, flags + 256 * (n * 80 + 1)) for n, (parent, flags) in enumerate(nodes)]
     assert model.listing(chart_image(named, relations)) == model.listing(chart_image(nodes, relations))  # books carry no roles
     yield chart_image(named, relations)
+    yield chart_image([(NONE, 0), (0, 4), (0, 4), FREE], [(3, 0, INCLUDE), (3, 1, EXCLUDE)])  # P8
+    yield chart_image([FREE] * 64, [(a, b, kind) for a, b in ((63, 63), (5, 12)) for kind in (EXCLUDE, INCLUDE)])
     for count in (1, 2, 5, 10, 11, 30, 63, 64):
         nodes = [(NONE, rng.choice((4, 6, 5, 0)))] * count
         yield chart_image(nodes, random_relations(rng, nodes, 4 * count))
@@ -1685,10 +1699,11 @@ def listing_causes(rng):
         yield None, listing_request(image)
 
 
-CAUSES = (header_causes, node_causes, group_causes, conflict_causes, accepted_charts, charts_with_roles, unfit_causes, step_causes,
-          blocking_causes, role_causes, marking_causes, derive_causes, book_header_causes, rule_causes, condition_causes, loop_causes, stage_loop_causes,
-          looping_stage_causes, whole_book_causes, clash_causes, order_causes, order_room_causes, pair_causes, index_room_causes,
-          unfit_index_causes, indexed_causes, list_causes, list_order_causes, evaluated_causes, running_order_causes, firing_causes,
-          bad_requests, request_limits, listing_causes, replay_causes, strike_causes, unfit_record_causes, back_causes)
+CAUSES = (header_causes, node_causes, group_causes, both_causes, accepted_charts, charts_with_roles, unfit_causes, step_causes,
+          inclusion_causes, blocking_causes, role_causes, marking_causes, derive_causes, book_header_causes, rule_causes, condition_causes,
+          loop_causes, stage_loop_causes, looping_stage_causes, whole_book_causes, clash_causes, order_causes, order_room_causes,
+          pair_causes, index_room_causes, unfit_index_causes, indexed_causes, list_causes, list_order_causes, evaluated_causes,
+          running_order_causes, firing_causes, bad_requests, request_limits, listing_causes, replay_causes, strike_causes,
+          unfit_record_causes, back_causes)
 LARGEST = (largest_charts, largest_derivings, largest_derived_book, largest_indexes, largest_lists, largest_hand_made,
            completions_with_conditions, wide_conditions, record_limits)

@@ -43,12 +43,6 @@ def forest(rng, count, nesting):
     return parents
 
 
-def root(parents, n):
-    while parents[n] != NONE:
-        n = parents[n]
-    return n
-
-
 def random_nodes(rng, count, nesting=0.5):
     parents, named = forest(rng, count, nesting), rng.random() < 0.6
     groups = set(parents)
@@ -56,37 +50,42 @@ def random_nodes(rng, count, nesting=0.5):
     return [(parent, flags[n] + (256 * random_roles(rng) if named else 0)) for n, parent in enumerate(parents)]
 
 
-def random_relations(rng, nodes, count, kinds=(0, 1, 2, 3, 4), conflicts=0.0):
-    """Include or exclude goes by the roots of both ends, so that no pair gets both, unless conflicts are wanted."""
-    parents = [parent for parent, flags in nodes]
-    excluding = {(a, b) for a in range(len(nodes)) for b in range(len(nodes)) if rng.random() < 0.5}
+def random_relations(rng, nodes, count):
+    """Relations of any kind; now and then one that includes beside one that excludes, at the same nodes or at one of their parents."""
     relations = []
     for _ in range(count):
-        a, b, kind = rng.randrange(len(nodes)), rng.randrange(len(nodes)), rng.choice(kinds)
-        if kind in (3, 4) and rng.random() >= conflicts:
-            kind = 4 if (root(parents, a), root(parents, b)) in excluding else 3
+        a, b, kind = rng.randrange(len(nodes)), rng.randrange(len(nodes)), rng.randrange(5)
+        if relations and relations[-1][2] in (3, 4) and rng.random() < 0.3:
+            a, b, kind = relations[-1][0], relations[-1][1], 7 - relations[-1][2]
+            a, b = [nodes[n][0] if nodes[n][0] != NONE and rng.random() < 0.3 else n for n in (a, b)]
         relations.append((a, b, kind))
     return relations
 
 
-def random_chart_image(rng, conflicts=0.0):
+def random_chart_image(rng):
     count = rng.choice((1, 2, 3, 4, 5, 6, 8, 10, 12, 16))
     nodes = random_nodes(rng, count, rng.choice((0, 0.3, 0.6, 0.9)))
-    return model.chart_image(nodes, random_relations(rng, nodes, rng.randrange(0, 3 * count + 1), conflicts=conflicts))
+    return model.chart_image(nodes, random_relations(rng, nodes, rng.randrange(0, 3 * count + 1)))
 
 
 def random_flat(rng, count=None, chance=None):
     count = count or rng.choice((1, 2, 3, 4, 5, 8, 13, 32, 63, 64))
     chance = rng.choice((0.02, 0.1, 0.3, 0.7)) if chance is None else chance
     chart = model.empty_chart(count)
-    named = rng.random() < 0.6
+    named, apart = rng.random() < 0.6, rng.random() < 0.4
     for e in range(count):
         chart.roles[e] |= model.roles_in(random_roles(rng)) if named else set()
         for table in model.tables(chart):
             table[e] |= some(rng, range(count), chance)
-        for f in chart.includes[e] & chart.excludes[e]:
+        for f in chart.includes[e] & chart.excludes[e] if apart else ():
             rng.choice((chart.includes, chart.excludes))[e].discard(f)
     return chart
+
+
+def told_by_book(chart):
+    """What of a chart its book tells: no roles, and of the exclusions those that no inclusion overrules."""
+    overruled = [excluded - included for excluded, included in zip(chart.excludes, chart.includes)]
+    return chart._replace(excludes=overruled, roles=[set() for e in range(64)])
 
 
 def random_marking(rng, count):
@@ -384,7 +383,7 @@ def random_snapshot(rng, marks):
 # ---- families of requests: each yields bodies
 
 def charts(rng):
-    yield read_request(random_chart_image(rng, conflicts=rng.choice((0, 0, 0.5))))
+    yield read_request(random_chart_image(rng))
 
 
 def steps(rng):
@@ -708,7 +707,7 @@ def read_backs(rng):
     """A derived book read back, and the same changed in one way or two; whatever is accepted is what the deriver writes for its chart."""
     chart = random_flat(rng, rng.choice((1, 2, 2, 3, 3, 4, 5, 8)), rng.choice((0.0, 0.1, 0.3, 0.5, 1.0)))
     book = model.derived_book(chart)
-    assert model.read_back(model.book_image(book)) == (model.GRANTED, chart._replace(roles=[set() for e in range(64)]))
+    assert model.read_back(model.book_image(book)) == (model.GRANTED, told_by_book(chart))
     yield back_request(model.book_image(book))
     for ways in ((other_rules,), (other_rules,), (other_texts,), (other_texts,), (other_counts,), (other_rules, other_texts), (other_texts, other_texts)):
         other = book
@@ -752,7 +751,7 @@ def badly_flagged(rng):
 
 
 def listings(rng):
-    yield listing_request(random_chart_image(rng, conflicts=rng.choice((0, 0, 0.5))))
+    yield listing_request(random_chart_image(rng))
     yield listing_request(with_bytes_changed(rng, random_chart_image(rng)))
 
 

@@ -118,7 +118,7 @@ def chart_records(image):
 # ---- Flattening
 
 def flatten(nodes, events, relations):
-    """The flat chart and the start marking: refusal 9."""
+    """The flat chart and the start marking. A pair may get both include and exclude."""
     chart = empty_chart(len(events))
     members = {n: set() for n in range(len(nodes))}  # of a node: the events that are it or stand below it
     for e, node in enumerate(events):
@@ -139,7 +139,6 @@ def flatten(nodes, events, relations):
                 chart.includes[e].update(targets)
             elif relation.kind == EXCLUDE:
                 chart.excludes[e].update(targets)
-    refuse_lowest(9, [(e, f) for e in range(64) for f in chart.includes[e] & chart.excludes[e]])
 
     start = Marking(*[{e for e, node in enumerate(events) if nodes[node].flags & flag}
                       for flag in (EXECUTED, PENDING, INCLUDED)])
@@ -158,8 +157,7 @@ def is_fit_chart(chart):
     return (1 <= chart.count <= 64
             and all(f < chart.count for table in tables(chart) for entry in table for f in entry)
             and all(not table[e] for table in tables(chart) for e in range(chart.count, 64))
-            and all(not chart.roles[e] for e in range(chart.count, 64))
-            and not any(chart.includes[e] & chart.excludes[e] for e in range(64)))
+            and all(not chart.roles[e] for e in range(chart.count, 64)))
 
 
 def is_fit_marking(chart, marking):
@@ -411,7 +409,7 @@ def derived_book(chart):
         for f in range(n):
             if f in chart.includes[e]:
                 rules.append(on_completion(e, SET, included(f)))
-            elif f in chart.excludes[e]:
+            elif f in chart.excludes[e]:  # only where there is no include
                 rules.append(on_completion(e, CLEAR, included(f)))
         for f in range(n):
             if f in chart.responses[e]:
@@ -753,7 +751,8 @@ def chart_behind(book):
 
 
 def read_back(image):
-    """The answer and the chart, without marking or roles. Accepted are exactly the books that the deriver writes for some fit flat chart."""
+    """The answer and the chart, without marking or roles, and of its exclusions those that no inclusion overrules. Accepted are exactly the
+    books that the deriver writes for some fit flat chart."""
     try:
         chart = chart_behind(judged_book(image))
         refuse_if(33, not is_fit_chart(chart) or book_image(derived_book(chart)) != image)
@@ -841,7 +840,8 @@ def settled_examples():
     answer, chart, start = read_chart(chart_image(nested, [(0, 3, CONDITION)]))
     assert chart.count == 3 and chart.conditions[2] == {0, 1}  # P7
     answer, chart, start = read_chart(chart_image(nested, [(3, 0, INCLUDE), (3, 1, EXCLUDE)]))
-    assert answer == (9, 2, 0) and chart == empty_chart() and start == empty_marking()  # P8
+    assert answer == GRANTED and (chart.includes[2], chart.excludes[2]) == ({0, 1}, {0})  # P8
+    assert execute(chart, start, 2, 0)[1].included == {0, 1, 2}  # inclusion wins
 
     loop = Book(1, 1, [without_trigger(NEGATED, 0, SET, 0)], [(0, 1)], [0])
     assert check_book(book_image(loop), 0, [0])[0] == (25, 0, 0)  # P9
@@ -1020,12 +1020,27 @@ def back_examples():
         chart = empty_chart(1)
         for table in range(5):
             chart[1 + table][0].update({0} if tables_of_one >> table & 1 else ())
-        if is_fit_chart(chart):
-            charts.append(chart)
-            assert read_back(book_image(derived_book(chart))) == (GRANTED, chart)
-            chart.roles[0].add(3)
-            assert read_back(book_image(derived_book(chart)))[1].roles[0] == set()
-    assert len(charts) == 24 and len({book_image(derived_book(chart)) for chart in charts}) == 24
+        without = chart._replace(excludes=[excluded - included for excluded, included in zip(chart.excludes, chart.includes)])
+        assert read_back(book_image(derived_book(chart))) == (GRANTED, without)
+        chart.roles[0].add(3)
+        assert read_back(book_image(derived_book(chart)))[1].roles[0] == set()
+        charts.append(chart)
+    assert len(charts) == 32 and len({book_image(derived_book(chart)) for chart in charts}) == 24  # eight have an exclusion overruled
+
+
+def both_examples():
+    """Event 2 excludes the group of 0 and 1 and includes 1: after it 0 is out, and 1 is in, whether it was before or not; so in the book."""
+    nodes = [(NONE, 0), (0, INCLUDED), (0, 0), (NONE, INCLUDED)]
+    answer, chart, start = read_chart(chart_image(nodes, [(3, 0, EXCLUDE), (3, 2, INCLUDE)]))
+    assert answer == GRANTED and is_fit_chart(chart) and (chart.includes[2], chart.excludes[2]) == ({1}, {0, 1})
+    after = execute(chart, start, 2, 0)[1]
+    assert after.included == {1, 2}
+    book = derived_book(chart)
+    assert [rule for rule in book.rules if rule.target in range(6, 9)] == [on_completion(2, CLEAR, 6), on_completion(2, SET, 7)]
+    image, snapshot = book_image(book), matching(chart, start)[1]
+    assert complete(image, running_order(book, 2), snapshot, 2) == (GRANTED, matching(chart, after)[1])
+    back = read_back(image)[1]
+    assert (back.includes[2], back.excludes[2]) == ({1}, {0}) and derived_book(back) == book
 
 
 def orders_agree():
@@ -1063,5 +1078,6 @@ if __name__ == '__main__':
         replay_examples()
         blocking_examples()
         back_examples()
+        both_examples()
         orders_agree()
         print('the settled examples hold')

@@ -23,7 +23,7 @@ BATCH = 5000  # requests that one run of the program gets
 BOOK_CODES = (20, 21, 22, 23, 24, 25, 26)
 STEP_CODES = (10, 32, 11, 12, 13)
 # of each operation with an answer: the codes that its call gives
-CODES = {1: range(10), 2: (0, 14) + STEP_CODES, 3: (0, 14), 4: (0, 14), 5: (0, 14), 6: (0, 14, 15), 7: (0,) + BOOK_CODES + (29, 31),
+CODES = {1: range(9), 2: (0, 14) + STEP_CODES, 3: (0, 14), 4: (0, 14), 5: (0, 14), 6: (0, 14, 15), 7: (0,) + BOOK_CODES + (29, 31),
          8: (0,) + BOOK_CODES + (29, 27, 28, 30), 9: (0,) + BOOK_CODES + (35,), 10: (0,) + BOOK_CODES + (34, 28, 29, 30),
          11: (0,) + BOOK_CODES + (34, 28, 38, 29, 30), 12: (0, 14), 13: (0, 14, 36) + STEP_CODES,
          14: (0, 14, 10, 11, 12, 13), 15: (0,) + BOOK_CODES + (33,)}
