@@ -102,9 +102,6 @@ static struct answer flatten(const struct nodes *nodes, const uint8_t *event, co
             chart->excludes[e] |= gathered[4][n];
             chart->roles[e] |= (uint8_t)(nodes->flags[n] / FLAGS_BYTE);
         }
-        uint64_t both = chart->includes[e] & chart->excludes[e];
-        if (both != 0)
-            return refused(9, e, lowest(both));
     }
     return granted;
 }
@@ -143,18 +140,16 @@ static bool fit_chart(const struct flat_chart *chart)
     uint32_t count = chart->count;
     if (count < 1 || count > MAX_EVENTS)
         return false;
-    uint64_t within = 0, past = 0, both = 0;
-    for (uint32_t e = 0; e < count; e++) {
+    uint64_t within = 0, past = 0;
+    for (uint32_t e = 0; e < count; e++)
         within |= chart->conditions[e] | chart->responses[e] | chart->milestones[e] | chart->includes[e] | chart->excludes[e];
-        both |= chart->includes[e] & chart->excludes[e];
-    }
     for (uint32_t e = count; e < MAX_EVENTS; e++)
         past |= chart->conditions[e] | chart->responses[e] | chart->milestones[e] | chart->includes[e] | chart->excludes[e];
     uint8_t named = 0; // in a loop of its own, so that the one over sets needs no bytes
     for (uint32_t e = count; e < MAX_EVENTS; e++)
         named |= chart->roles[e];
     uint64_t outside = count == 64 ? 0 : ~(uint64_t)0 << count;
-    return (within & outside) == 0 && past == 0 && named == 0 && both == 0;
+    return (within & outside) == 0 && past == 0 && named == 0;
 }
 
 static bool fit(const struct flat_chart *chart, struct marking marking)

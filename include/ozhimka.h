@@ -188,7 +188,7 @@ enum ozhimka_code {
     OZHIMKA_GROUP_FLAGS = 6,       // group with flags in the lower byte; place: node
     OZHIMKA_MANY_EVENTS = 7,       // over 64 events; place: how many
     OZHIMKA_BAD_RELATION = 8,      // from or to not below N, or a kind above 4; place: relation
-    OZHIMKA_INCLUDE_EXCLUDE = 9,   // include and exclude of one pair; place: from event, other: to event
+    OZHIMKA_INCLUDE_EXCLUDE = 9,   // never given any more, and reserved: a pair may have include and exclude, and inclusion wins
     OZHIMKA_NO_SUCH_EVENT = 10,
     OZHIMKA_NOT_INCLUDED = 11,
     OZHIMKA_CONDITION_WANTING = 12, // place: lowest condition that is included and not executed; in a strike the step's position
@@ -224,8 +224,8 @@ struct ozhimka_answer {
 
 // A flat chart: sets of events, event f at bit f. conditions[e] and milestones[e] hold event e back; responses[e] become pending,
 // includes[e] included and excludes[e] excluded when e is executed. Role r may execute e where bit r of roles[e] is set; where roles[e] is
-// 0, e is open to everyone, which is to roles 0 to 7. The chart is fit if count is 1 to 64, no set has a bit at or above count, every entry
-// at or above count is 0, in roles too, and no entry's includes and excludes have a bit in common.
+// 0, e is open to everyone, which is to roles 0 to 7. The chart is fit if count is 1 to 64, no set has a bit at or above count, and every
+// entry at or above count is 0, in roles too. What e both excludes and includes is included.
 struct ozhimka_chart {
     uint32_t count;
     uint64_t conditions[OZHIMKA_MAX_EVENTS], responses[OZHIMKA_MAX_EVENTS], milestones[OZHIMKA_MAX_EVENTS];
@@ -343,7 +343,7 @@ struct ozhimka_counts {
     uint32_t stages, marks, rules, conditions, words;
 };
 
-// The flat chart and the start marking of a chart image of `length` bytes. Refuses with 1 to 9, and then gives a chart of count 0
+// The flat chart and the start marking of a chart image of `length` bytes. Refuses with 1 to 8, and then gives a chart of count 0
 // with every set empty and no roles, and an empty marking.
 struct ozhimka_reading ozhimka_read_chart(const uint8_t *image, size_t length);
 
@@ -378,7 +378,7 @@ struct ozhimka_struck ozhimka_strike_in(uint32_t count, const uint64_t *conditio
 // The marking after an event is executed by a role. The role has to be permitted: 0 to 7, and one of roles[event] unless that is 0; for a
 // chart that names no roles any of 0 to 7 will do. The event has to be open: included, each included condition of it executed, no included
 // milestone of it pending. It is then executed and, unless it is its own response, pending no more; its responses are pending, what it
-// excludes is excluded, what it includes included. Refuses with the first that holds of 14 (unfit chart or marking), 10 (no such event), 32
+// excludes is excluded, and then what it includes included. Refuses with the first that holds of 14 (unfit chart or marking), 10 (no such event), 32
 // (role not permitted), 11 (not included), 12 (condition wanting), 13 (milestone wanting), and then hands the marking back; 12 and 13 come
 // with all that blocks the event, which ozhimka_open_test tells without a step and without a role.
 // Replay and strike take the roles of a record's steps. No other call takes a role, and a rule book carries none: a controller that runs
@@ -567,7 +567,7 @@ static inline const char *ozhimka_reason(uint32_t code)
     case OZHIMKA_GROUP_FLAGS: return "a group has flags in the lower byte (place: its node)";
     case OZHIMKA_MANY_EVENTS: return "the chart has over 64 events (place: how many)";
     case OZHIMKA_BAD_RELATION: return "a relation names no node of the chart, or no kind (place: the relation)";
-    case OZHIMKA_INCLUDE_EXCLUDE: return "an event both includes and excludes another (place: the one, other: the other)";
+    case OZHIMKA_INCLUDE_EXCLUDE: return "a code that is never given any more: an event may both include and exclude another";
     case OZHIMKA_NO_SUCH_EVENT: return "the chart has no such event";
     case OZHIMKA_NOT_INCLUDED: return "the event is not included";
     case OZHIMKA_CONDITION_WANTING: return "a condition of the event was not executed (place: the lowest such, in a strike the step's position)";

@@ -45,7 +45,7 @@ LONGEST_CHART = CHART_HEADER + NODE_SIZE * MAX_NODES + RELATION_SIZE * MAX_RELAT
 LONGEST_BOOK = BOOK_HEADER + RULE_SIZE * MAX_RULES + CONDITION_SIZE * MAX_CONDITIONS + WORD_SIZE * MAX_WORDS
 
 # ---- refusals: each code's name in crates/paper and its words. In braces stand the limits above, `place` and `other` as numbers, and what
-# they are the number of: `node`, `relation`, `event`, `rule`, `condition`, `mark` of place, `other_event` and `other_rule` of other.
+# they are the number of: `node`, `relation`, `event`, `rule`, `condition`, `mark` of place, `other_rule` of other.
 
 REFUSALS = {
     1: ('CHART_SHORT', 'the chart is too short to have a header, which takes {CHART_HEADER} bytes'),
@@ -56,7 +56,7 @@ REFUSALS = {
     6: ('GROUP_FLAGS', '{node} is a group, since other nodes have it as parent, and a group has no flags but its roles'),
     7: ('MANY_EVENTS', 'the chart has {place} events, and at most {MAX_EVENTS} are allowed'),
     8: ('BAD_RELATION', '{relation} is a bad record: it names a node that is not there, or a kind that is none of 0 to 4'),
-    9: ('INCLUDE_EXCLUDE', '{event} both includes and excludes {other_event}, itself or through groups'),
+    9: ('INCLUDE_EXCLUDE', 'a code that is never given any more: an event may both include and exclude another, and inclusion wins'),
     10: ('NO_SUCH_EVENT', 'there is no such event'),
     11: ('NOT_INCLUDED', 'the event is not included'),
     12: ('CONDITION_WANTING', '{event} is a condition and has not been executed'),
@@ -81,6 +81,7 @@ REFUSALS = {
     34: ('INDEX_UNFIT', "the index is not this book's: it was made for another book, or has been altered"),
     35: ('INDEX_ROOM', 'the index takes {place:,} bytes, more than there is room for'),
     36: ('NO_SUCH_POSITION', 'there is no such position in the record'),
+    37: ('MEND_ROOM', 'the mended chart takes {place:,} bytes and the list of changes {other:,}, and one of them has less room'),
     38: ('LONG_LIST', 'the list has {place:,} stages, and at most {MAX_LIST:,} are allowed'),
 }
 
