@@ -1,4 +1,4 @@
--- Steps as the code takes them: the open rule, executing, counting and the finished test, and the law for each return. Assumes nothing.
+-- Steps as the code takes them: the open rule, the open test, executing, counting and the finished test, and the law for each return. Assumes nothing.
 use Prim.Native.Nat.{ℕ, _+_, _*_, _%_, _≤_, _<_, _^_}
 use mathlib.Core.Path.{_≡_, refl, sym, _∙_}
 use mathlib.Core.Bool.{Bool, true, false, not, _&&_, cond, and-true, and-false}

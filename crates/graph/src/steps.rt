@@ -1,4 +1,4 @@
-// Steps of a flat chart: the open rule, executing, counting what is open, the finished test.
+// Steps of a flat chart: the open rule, the open test, executing, counting what is open, the finished test.
 ghost use mathlib.Core.Path.{_≡_};
 ghost use mathlib.Core.Bool.{cond};
 ghost use Prim.Native.Nat.{_*_, _%_, _^_, _<_, _≤_};

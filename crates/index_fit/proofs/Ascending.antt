@@ -1,9 +1,8 @@
 -- What the pass that finds whether orders rise keeps, and the loop over the entries of an order that should. Assumes nothing.
 use mathlib.Core.Path.{_≡_, refl, sym, ap, _∙_}
-use mathlib.Core.Bool.{Bool, true, false, not, _&&_, _||_, and-true}
-use mathlib.Core.List.{List, [], _∷_}
+use mathlib.Core.Bool.{Bool, true, false, not, _&&_, _||_}
+use mathlib.Core.List.{List}
 use Prim.Native.Nat.{ℕ, suc, _+_, _-_, _*_, _/_, _≤_, _<_}
-use native.Mathlib.Nat.{zero-add}
 use native.Mathlib.Numerals.{add-one}
 use native.Mathlib.Omega.{arith}
 use lib.Dec.{eqb, leb, ltb}
@@ -16,7 +15,7 @@ use Rattle.general.specs.Comparing.{standsAt}
 use Rattle.general.specs.Writing.{Fits}
 use Rattle.closure.specs.BitRows.{bit, putBit}
 use Rattle.closure.specs.Reached.{put-bit, length-putBit}
-use Rattle.order_theory.specs.Order.{countedRules, before, NoLoop}
+use Rattle.order_theory.specs.Order.{countedRules, NoLoop}
 use Rattle.order_theory.specs.Rising.{Rising, rises}
 use Rattle.book.specs.Book.{ruleOf}
 use Rattle.book.specs.Firing.{refers}

@@ -1,4 +1,4 @@
-// Whether given bytes are the index image, compared run by run while the orders are made: no copy of the image is kept.
+// Whether given bytes are the index image, compared run by run while the orders are made, or entry by entry where orders rise: no copy of the image is kept.
 pub mod rising;
 
 ghost use mathlib.Core.Path.{_≡_};

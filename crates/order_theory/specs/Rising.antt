@@ -2,7 +2,7 @@
 -- it rises, each of its rules counts, and there are as many as count. Assumes nothing.
 use mathlib.Core.Path.{_≡_, refl, sym, ap, _∙_}
 use mathlib.Core.Logic.{_↔_}
-use mathlib.Core.Bool.{Bool, true, false, cond, _&&_, _||_}
+use mathlib.Core.Bool.{Bool, true, false, cond, _&&_}
 use mathlib.Core.List.{List, [], _∷_}
 use Prim.Native.Nat.{ℕ, zero, suc, _+_, _≤_, _<_}
 use native.Mathlib.Nat.{add-zero, zero-add, add-suc, suc-add}
@@ -10,9 +10,9 @@ use native.Mathlib.Numerals.{add-one}
 use native.Mathlib.Omega.{arith}
 use lib.Dec.{eqb, leb, ltb}
 use lib.ListN.{length}
-use borrow.Author.Tests.{eqb-true, eqb-false, eq-eqb, ne-eqb, lt-ltb, le-ltb, ltb-true, ltb-false, le-leb, leb-true}
+use borrow.Author.Tests.{eqb-true, eqb-false, eq-eqb, lt-ltb, le-ltb, ltb-true, ltb-false, le-leb, leb-true}
 use Rattle.general.specs.Cases.{contra, cases, both, not-so}
-use Rattle.general.specs.Below.{first, first-found, first-none, tally, tally-none, tally-step}
+use Rattle.general.specs.Below.{first-found, first-none, tally, tally-step}
 use Rattle.order_theory.specs.Order.{Net, Counted, countedRules, before}
 use Rattle.order_theory.specs.Written.{Written, none, write}
 use Rattle.order_theory.specs.Running.{ready, ready-is, is-ready, next, unwritten, unwritten-first, unwritten-less, greedy, greedy-on, greedy-end, runningOrder}

@@ -1,7 +1,7 @@
 -- What replay and strike give, in the order of their refusals. Assumes nothing.
 use Prim.Native.Nat.{ℕ, suc, _+_}
 use mathlib.Core.Bool.{false, not, cond}
-use mathlib.Core.List.{List, [], _++_}
+use mathlib.Core.List.{List, _++_}
 use lib.ListN.{length, take, drop}
 use lib.Seq.{slice}
 use lib.Dec.{eqb, leb, ltb}

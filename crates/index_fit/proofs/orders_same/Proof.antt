@@ -25,7 +25,8 @@ orders-same-spec =
     (λ c. search needs) (λ c. search needs)
     (λ c κs. let p = c .before .before .before .before .before .pre in (p .0 .opened .formed, ready-rules _ _ _ _ _ (p .0), p .0 .references))
     (λ c. search stand-start)
-    (λ c κs. let z = ready-sized _ _ _ _ _ (c .before .before .before .before .before .before .before .before .pre .0) in (omega (arith, z .few, c .loop-test .taken), z .each _ (c .loop-test .taken)))
+    (λ c κs. let z = ready-sized _ _ _ _ _ (c .before .before .before .before .before .before .before .before .pre .0) in
+    (omega (arith, z .few, c .loop-test .taken), z .each _ (c .loop-test .taken)))
     (λ c. omega (arith, ready-sized _ _ _ _ _ (c .before .before .before .before .before .before .before .before .before .pre .0) .few, c .before .loop-test .taken))
     (λ c κs. let p = c .before .before .before .before .before .before .before .before .before .pre in (
       p .0 .opened .formed,
@@ -37,7 +38,7 @@ orders-same-spec =
       orders-fits _ _ _ _ _ _ (p .0) _ _ _ (c .before .before .loop .inv) (p .1) (c .before .loop-test .taken),
     ))
     (λ c. search stand-not)
-    (λ c. record { fits = omega (arith, ready-sized _ _ _ _ _ (c .before .before .before .before .before .before .before .before .before .before .before .pre .0) .each _ (c .before .before .before .loop-test .taken), c .before .before .order-size .ensures) })
+    (λ c. let b = c .before .before .before in record { fits = omega (arith, ready-sized _ _ _ _ _ (b .before .before .before .before .before .before .before .before .pre .0) .each _ (b .loop-test .taken), c .before .before .order-size .ensures) })
     (λ c. let p = c .before .before .before .before .before .before .before .before .before .before .before .pre in
     record {
       fits = omega (
@@ -47,6 +48,7 @@ orders-same-spec =
       );
     })
     (λ c. search needs) (λ c. search needs)
-    (λ c. orders-more _ _ _ _ _ _ (c .before .before .before .before .before .before .before .before .before .before .before .pre .0) _ _ _ (c .before .before .before .before .loop .inv) _ _ (c .before .before .before .loop-test .taken) (c .before .before .order-size .ensures)
+    (λ c. let b = c .before .before .before in
+    orders-more _ _ _ _ _ _ (b .before .before .before .before .before .before .before .before .pre .0) _ _ _ (b .before .loop .inv) _ _ (b .loop-test .taken) (c .before .before .order-size .ensures)
     (c .before .stage-same .ensures) (c .if1 .left))
     (λ c. search stand-done))

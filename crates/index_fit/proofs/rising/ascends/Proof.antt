@@ -22,9 +22,10 @@ ascends-spec =
     (λ c. let p = c .before .before .pre in later-first _ (p .0) _ _ (p .1) refl)
     (λ c. search needs)
     (λ c κs. let p = c .before .before .before .before .before .pre in (p .0, omega (arith, c .before .before .loop .inv .few, c .before .loop-test .taken)))
-    (λ c κs. let p = c .before .before .before .before .before .before .before .pre in (p .0, p .2, omega (arith, c .before .before .before .before .loop .inv .few, c .before .before .before .loop-test .taken)))
+    (λ c κs. let b = c .before .before .before in let p = b .before .before .before .before .pre in (p .0, p .2, omega (arith, b .before .loop .inv .few, b .loop-test .taken)))
     (λ c e. contra e refl)
     (λ c. search needs)
-    (λ c. later-more _ (c .before .before .before .before .before .before .before .before .before .pre .0) _ _ _ (c .before .before .before .before .before .before .loop .inv) (omega (arith, c .before .before .before .before .before .loop-test .taken)) _ (c .before .before .before .put-target .ensures)
+    (λ c. let b = c .before .before .before .before .before in
+    later-more _ (b .before .before .before .before .pre .0) _ _ _ (b .before .loop .inv) (omega (arith, b .loop-test .taken)) _ (c .before .before .before .put-target .ensures)
     (sym (c .before .rule-touches .ensures) ∙ c .if1 .left))
     (λ c e. later-last _ (c .before .before .before .before .pre .0) _ _ (c .before .loop .inv) (search needs)))

@@ -24,7 +24,8 @@ entries-rise-spec =
     (λ c κs. search needs)
     (λ c. search climbing-not)
     (λ c. search needs)
-    (λ c. record { fits = omega (arith, climbing-fits _ _ _ _ _ _ _ _ (c .before .before .before .before .loop .inv) (c .before .before .before .before .before .before .before .pre .2) (c .before .before .before .loop-test .taken), c .before .before .before .before .before .before .before .good) })
+    (λ c. let b = c .before .before .before .before in
+    record { fits = omega (arith, climbing-fits _ _ _ _ _ _ _ _ (b .loop .inv) (b .before .before .before .pre .2) (c .before .before .before .loop-test .taken), b .before .before .before .good) })
     (λ c. search needs)
     (λ c. search needs)
     (λ c. search climbing-more)
