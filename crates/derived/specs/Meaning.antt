@@ -107,6 +107,21 @@ module _ (c : FlatChart) where
     few : n ≤ maxEvents
     few = fit .few
 
+    -- what holds of every word holds of the one that a relation has
+    module _ (P : ℕ → Type 0) (a : All P (derivedText c e)) (f : ℕ) where
+      clauses : All P (flat n (listed (clause n (executedMark n)) (setOf c condition e))) × All P (flat n (listed (clause n (answeredMark n)) (setOf c milestone e)))
+      unfolding derivedText textFor
+      clauses = append-all P (flat n (listed (clause n (executedMark n)) (setOf c condition e))) _ (a .1)
+
+      of-clause : (mark : ℕ → ℕ) (s : ℕ) → All P (flat n (listed (clause n mark) s)) → f < n → In s f → P (mark f)
+      of-clause mark s b l m = (rw m at (flat-all P n (listed (clause n mark) s) b f l)) .1 .1 .0
+
+      pub of-condition : In (setOf c condition e) f → P (executedMark n f)
+      of-condition m = of-clause (executedMark n) (setOf c condition e) (clauses .0) (fit .inside condition e f h m) m
+
+      pub of-milestone : In (setOf c milestone e) f → P (answeredMark n f)
+      of-milestone m = of-clause (answeredMark n) (setOf c milestone e) (clauses .1) (fit .inside milestone e f h m) m
+
     -- an included mark or an operator names neither
     other : (w : ℕ) → ((f : ℕ) → f < n → w ≡ executedMark n f → ⊥) → ((f : ℕ) → f < n → w ≡ answeredMark n f → ⊥) → Names e w
     other w x y = record { conditions = λ f l q. absurd (x f l q); milestones = λ f l q. absurd (y f l q) }
@@ -134,18 +149,3 @@ module _ (c : FlatChart) where
           (clause-names (answeredMark n) (setOf c milestone e) (λ f l m.
           record { conditions = λ g k q. absurd (omega arith); milestones = λ g k q. let z : f ≡ g = omega arith in rw (← z) m })),
     )
-
-    -- what holds of every word holds of the one that a relation has
-    module _ (P : ℕ → Type 0) (a : All P (derivedText c e)) (f : ℕ) where
-      clauses : All P (flat n (listed (clause n (executedMark n)) (setOf c condition e))) × All P (flat n (listed (clause n (answeredMark n)) (setOf c milestone e)))
-      unfolding derivedText textFor
-      clauses = append-all P (flat n (listed (clause n (executedMark n)) (setOf c condition e))) _ (a .1)
-
-      of-clause : (mark : ℕ → ℕ) (s : ℕ) → All P (flat n (listed (clause n mark) s)) → f < n → In s f → P (mark f)
-      of-clause mark s b l m = (rw m at (flat-all P n (listed (clause n mark) s) b f l)) .1 .1 .0
-
-      pub of-condition : In (setOf c condition e) f → P (executedMark n f)
-      of-condition m = of-clause (executedMark n) (setOf c condition e) (clauses .0) (fit .inside condition e f h m) m
-
-      pub of-milestone : In (setOf c milestone e) f → P (answeredMark n f)
-      of-milestone m = of-clause (answeredMark n) (setOf c milestone e) (clauses .1) (fit .inside milestone e f h m) m

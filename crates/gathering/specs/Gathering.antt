@@ -41,7 +41,7 @@ gatheredBy mark b n rules e = passing noRule n (λ f. adds e b (mark n f)) rules
 unfoldable pub namedIn : (ℕ → ℕ → ℕ) → ℕ → List ℕ → ℕ
 namedIn mark n text = passing 0 n (λ f. eqb (mark n f)) text
 
--- ---- "set included f if e includes f, or clear it if e excludes f; clear answered f if f is a response of e"
+-- ---- "set included f if e includes f, or clear it if e excludes f; .. clear answered f if f is a response of e"
 
 abbrev pub gatheredIncludes : ℕ → List Rule → ℕ → ℕ
 gatheredIncludes = gatheredBy includedMark true

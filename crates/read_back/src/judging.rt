@@ -1,4 +1,4 @@
-// 20 to 26 of a book, judged in arrays of its own, so that they do not stand beside the chart.
+// 20 to 26 of a book, judged in arrays by its size.
 ghost use mathlib.Core.Path.{_≡_};
 ghost use Prim.Native.Nat.{_≤_};
 ghost use Rattle.book.specs.Image.{marksIn, conditionsIn};

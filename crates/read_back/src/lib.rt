@@ -19,7 +19,7 @@ pub struct ReadBack {
     pub chart: FlatChart,
 }
 
-// Whether the chart of these tables, without roles, is fit and the deriver writes this book for it.
+// Whether the chart of these tables, which names no roles, is fit and the deriver writes this book for it.
 fn written_for<'a>(
     book: &[u8],
     count: u32,
@@ -66,7 +66,8 @@ fn refuse(answer: Answer) -> ReadBack
 
 // 20 to 26 and 33 with the empty chart, or 0 and the chart for which the deriver writes this book: no roles, and no marking, which a book does not carry.
 // Cost: the passes of `judge::judge_book`, one over the rules and one over the texts that gather the chart, and one over the book that compares it.
-// Stack: the arrays that the book is judged in, 16 KiB; behind them two charts of 2.6 KiB and the room for a part of the book, 1.3 KiB.
+// Stack: 24 KiB, and 25 with the caller's copy: one frame of 21 holds the arrays that the book is judged in, 16, the chart, 2.6, and the room for a
+// part of the book, 1.3; the search for clashes takes 3.
 pub fn read_back(book: &[u8]) -> ReadBack
     ensures { λ r. ⌜ r ≡ readingBack (now (book .entry)) ⌝ }
 {
