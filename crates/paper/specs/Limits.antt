@@ -92,6 +92,26 @@ indexStage = 8
 abbrev pub indexRule : ℕ
 indexRule = 2
 
+-- ---- what mending writes: a change's size in bytes, and the five steps
+
+abbrev pub changeSize : ℕ
+changeSize = 10
+
+abbrev pub mendParent : ℕ
+mendParent = 1
+
+abbrev pub mendFlags : ℕ
+mendFlags = 2
+
+abbrev pub mendLoop : ℕ
+mendLoop = 3
+
+abbrev pub mendGroup : ℕ
+mendGroup = 4
+
+abbrev pub mendRelation : ℕ
+mendRelation = 5
+
 -- ---- refusals
 
 abbrev pub chartShort : ℕ
@@ -190,6 +210,9 @@ indexRoom = 35
 
 abbrev pub noSuchPosition : ℕ
 noSuchPosition = 36
+
+abbrev pub mendRoom : ℕ
+mendRoom = 37
 
 abbrev pub longList : ℕ
 longList = 38

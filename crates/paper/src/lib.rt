@@ -61,6 +61,19 @@ pub const INDEX_STAGE: usize = 8;
 
 pub const INDEX_RULE: usize = 2;
 
+// ---- what mending writes: a change's size in bytes, and the five steps
+pub const CHANGE_SIZE: usize = 10;
+
+pub const MEND_PARENT: u16 = 1;
+
+pub const MEND_FLAGS: u16 = 2;
+
+pub const MEND_LOOP: u16 = 3;
+
+pub const MEND_GROUP: u16 = 4;
+
+pub const MEND_RELATION: u16 = 5;
+
 // ---- refusals
 pub const CHART_SHORT: u32 = 1;
 
@@ -126,6 +139,8 @@ pub const INDEX_UNFIT: u32 = 34;
 pub const INDEX_ROOM: u32 = 35;
 
 pub const NO_SUCH_POSITION: u32 = 36;
+
+pub const MEND_ROOM: u32 = 37;
 
 pub const LONG_LIST: u32 = 38;
 
