@@ -16,7 +16,8 @@ use Rattle.book.specs.GoodTexts.{GoodText}
 use Rattle.book.specs.Book.{Book, noRule, conditionOf, textOf}
 use Rattle.book.specs.Image.{stagesIn, marksIn, rulesIn, conditionsIn, wordsIn, rulePlace, conditionPlace, conditionFrom}
 use Rattle.general.specs.Lists.{All, all-at}
-use Rattle.book.specs.ImageOf.{Local, read-behind, kindByte, triggerNumber, senseByte, conditionNumber, effectByte, ruleRecord, ruleBytes, length-rule, number16, heads, conditionRun}
+use Rattle.general.specs.Packing.{Local, read-behind}
+use Rattle.book.specs.ImageOf.{kindByte, triggerNumber, senseByte, conditionNumber, effectByte, ruleRecord, ruleBytes, length-rule, number16, heads, conditionRun}
 use Rattle.book.specs.ImageOf.{wordRun, header-at, length-header, image-length, imageOf, book-of-image}
 use Rattle.book.specs.Read.{condition-read, text-read}
 use Rattle.book.specs.Judging.{triggerFits, senseFits, ruleFits}

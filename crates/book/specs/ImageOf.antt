@@ -1,20 +1,21 @@
 -- The image of a book, which reads back as the book, its length, and the limits within which it is made of bytes. Assumes nothing.
-use Prim.Native.Nat.{ℕ, zero, suc, _+_, _*_, _/_, _%_, _≤_, _<_}
+use Prim.Native.Nat.{ℕ, _+_, _*_, _/_, _%_, _≤_, _<_}
 use mathlib.Core.Path.{_≡_, refl, _∙_}
 use mathlib.Core.Bool.{Bool, true, false}
 use mathlib.Core.List.{List, [], _∷_, _++_, append-assoc, append-nil}
-use native.Mathlib.Nat.{add-assoc, mul-zero}
+use native.Mathlib.Nat.{add-assoc}
 use native.Mathlib.Omega.{arith}
 use lib.Dec.{eqb}
 use lib.ListN.{length, getD, length-append, List·getD-append}
 use lib.Seq.{getD-append-add}
 use Rattle.paper.specs.Limits.{maxEvents, maxMarks, maxRules, maxConditions, maxWords, bookHeader, ruleSize, conditionSize, wordSize}
 use Rattle.general.specs.Tables.{tabulate}
+use Rattle.general.specs.Packing.{Local, read-run, read-list}
 use Rattle.wire.specs.Wire.{u16At, u32At, bytes16, bytes32}
 use Rattle.wire.specs.Laws.{u16-first, u16-second, u32-first, u32-second, u16-bytes, u32-bytes, length-bytes16, length-bytes32}
 use Rattle.book.specs.Book.{Book, Condition, noRule, noCondition}
 use Rattle.book.specs.Image.{rulePlace, conditionPlace, wordPlace, triggerFrom, senseFrom, ruleFrom, conditionFrom, bookOf}
-use Rattle.general.specs.Lists.{All, all-append, packed, packed-all, length-packed, tabulated}
+use Rattle.general.specs.Lists.{All, all-append, packed, packed-all, length-packed}
 use Rattle.book.specs.declared.Rule.{Rule}
 use Rattle.book.specs.declared.Trigger.{Trigger}
 use Rattle.book.specs.declared.Trigger.the-variants.{None, Completed, BecomeYes, BecomeNo}
@@ -71,35 +72,7 @@ imageOf b =
     headerBytes (b .stages) (b .marks) (length (b .rules)) (length (b .conditions)) (length (b .words))
     ++ (packed ruleBytes (b .rules) ++ (packed conditionBytes (b .conditions) ++ packed bytes16 (b .words)))
 
--- ---- records of one length read back from where they lie
-
--- a reading that looks at w bytes from its place
-pub record Local {B : Type 0} (g : List ℕ → ℕ → B) (w : ℕ) : Type 0 where
-  pub first : (s t : List ℕ) (at : ℕ) → at + w ≤ length s → g (s ++ t) at ≡ g s at
-  pub second : (s t : List ℕ) (at : ℕ) → g (s ++ t) (length s + at) ≡ g t at
-
-module _ {A B : Type 0} (f : A → List ℕ) (g : List ℕ → ℕ → B) (w : ℕ) (sized : (x : A) → length (f x) ≡ w) (c : Local g w) (d : A) where
-  read-run : (l : List A) (post : List ℕ) (i : ℕ) → i < length l → g (packed f l ++ post) (w * i) ≡ g (f (getD l i d)) 0
-  unfolding packed
-  read-run [] post i h = absurd (omega arith)
-  read-run (x ∷ l) post zero h =
-      let n : length (f x) ≡ w = sized x in
-      rw (append-assoc (f x) (packed f l) post, mul-zero w) (c .first (f x) (packed f l ++ post) 0 (omega arith))
-  read-run (x ∷ l) post (suc i) h =
-      let n : length (f x) ≡ w = sized x in
-      let p : w * suc i ≡ length (f x) + w * i = omega arith in
-      rw (append-assoc (f x) (packed f l) post, p) (c .second (f x) (packed f l ++ post) (w * i) ∙ read-run l post i (omega arith))
-
-  -- a record in a run behind what is p long
-  pub read-behind : (pre : List ℕ) (l : List A) (post : List ℕ) (p : ℕ) → length pre ≡ p → (i : ℕ) → i < length l
-      → g (pre ++ (packed f l ++ post)) (p + w * i) ≡ g (f (getD l i d)) 0
-  read-behind pre l post p q i h = rw (← q) (c .second pre (packed f l ++ post) (w * i) ∙ read-run l post i h)
-
--- the whole run, where each record reads back
-read-list : {A : Type 0} (f : A → List ℕ) (g : List ℕ → ℕ → A) (w : ℕ) (sized : (x : A) → length (f x) ≡ w) (c : Local g w) (d : A) → ((x : A) → g (f x) 0 ≡ x)
-    → (pre : List ℕ) (l : List A) (post : List ℕ) (p : ℕ) → length pre ≡ p → tabulate (length l) (λ i. g (pre ++ (packed f l ++ post)) (p + w * i)) ≡ l
-read-list f g w sized c d back pre l post p q =
-    tabulated d l (λ i. g (pre ++ (packed f l ++ post)) (p + w * i)) (λ i h. read-behind f g w sized c d pre l post p q i h ∙ back (getD l i d))
+-- ---- the parts read back
 
 word-local : Local u16At wordSize
 word-local = record { first = u16-first; second = u16-second }

@@ -8,3 +8,4 @@ pub mod Writing
 pub mod Scan
 pub mod Refusals
 pub mod Comparing
+pub mod Packing
