@@ -1,0 +1,4 @@
+-- The root of the crate's specs.
+pub mod Steps
+pub mod Groups
+pub mod Bytes
