@@ -49,6 +49,8 @@ use Rattle.replay.specs.declared.Struck.{Struck}
 use Rattle.read_back.specs.ReadingBack.{readingBack}
 use Rattle.read_back.specs.Table.{ReadsBack, reads-back, reads-back-is, refused-back}
 use Rattle.read_back.specs.declared.ReadBack.{ReadBack}
+use Rattle.mend.specs.Calling.{mending}
+use Rattle.mend.specs.Table.{Mends, mends, mends-only, Written, mend-written, Kept, mend-kept}
 use Rattle.promises.specs.Tables as table
 use Rattle.promises.specs.Tables.{Unfit, CountsOpen, counts-open, counts-only, Finishes, finishes, finishes-only, Derives, derives, derives-only}
 use Rattle.promises.specs.Matching as matching
@@ -177,9 +179,14 @@ pub record Demand1 : Type 0 where
   pub readBack : (book : List ℕ) → ReadsBack book (readingBack book)
   pub readBackOnly : (book : List ℕ) (r : ReadBack) → ReadsBack book r → r ≡ readingBack book
   pub readBackRefused : (book : List ℕ) → (readingBack book .answer .code ≡ 0 → ⊥) → readingBack book ≡ record { answer = readingBack book .answer; chart = emptyChart }
+  -- mending: 1, 2, 3, 7, 37; both rooms past what is written stay as they were; a refusal gives 0 entries and writes nothing
+  pub mend : (image : List ℕ) (chart list : ℕ) → Mends image chart list (mending image chart list .answer)
+  pub mendOnly : (image : List ℕ) (chart list : ℕ) (a : Answer) → Mends image chart list a → a ≡ mending image chart list .answer
+  pub mendGranted : (image chart list : List ℕ) → mending image (length chart) (length list) .answer .code ≡ 0 → Written image chart list
+  pub mendRefused : (image chart list : List ℕ) → (mending image (length chart) (length list) .answer .code ≡ 0 → ⊥) → Kept image chart list
 
 pub demand-1 : Demand1
-unfolding completing completingIndexed
+unfolding completing completingIndexed mending
 demand-1 =
     record {
       read = outcome;
@@ -236,6 +243,10 @@ demand-1 =
       readBack = reads-back;
       readBackOnly = reads-back-is;
       readBackRefused = refused-back;
+      mend = mends;
+      mendOnly = λ image chart list a x. mends-only image chart list x;
+      mendGranted = mend-written;
+      mendRefused = mend-kept;
     }
 
 -- ---- two results that meet a contract coincide: the calls whose lemma stands here; the others' stand beside their definitions

@@ -10,6 +10,7 @@ pub mod Lists
 pub mod Looked
 pub mod Replays
 pub mod Blocks
+pub mod Mends
 pub mod Roles
 pub mod IncludeWins
 pub mod Stages

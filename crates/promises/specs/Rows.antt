@@ -13,9 +13,11 @@ use Rattle.paper.specs.Answers.{answer, granted, refusal}
 use Rattle.paper.specs.declared.Answer.{Answer}
 use Rattle.general.specs.Below.{tally}
 use Rattle.sets.specs.Set.{has}
-use Rattle.general.specs.Tables.{zeros-at}
+use Rattle.general.specs.Tables.{tabulate, zeros-at}
 use Rattle.graph.specs.Chart.{rolesOf, Fit, FitMarking}
 use Rattle.graph.specs.Tests.{rowSpill, spillAt, spillOf, rolesFrom, fitTables, fitChart, fitMarking, fit}
+use Rattle.graph.specs.Fitness.{tested-fit}
+use Rattle.graph.specs.Overruled.{standingAt}
 use Rattle.graph.specs.Roles.{Permits, permits}
 use Rattle.graph.specs.Steps.{openWith, unmetOf, awaitedOf, afterWith, testing, stepping, steppingBy, executing, granting, finishing}
 use Rattle.graph.specs.Execution.{holding}
@@ -52,9 +54,14 @@ use Rattle.runner.specs.Completing.{completing}
 use Rattle.runner.specs.Completion.{Open, granted-only, completes, written-fit}
 use Rattle.runner.specs.Examples as runner
 use Rattle.runner.specs.declared.Completion.{Completion}
+use Rattle.gathering.specs.Behind.{bare}
+use Rattle.read_back.specs.ReadingBack.{readingBack}
+use Rattle.read_back.specs.Table.{readBack}
+use Rattle.read_back.specs.declared.ReadBack.{ReadBack}
 use Rattle.promises.specs.Matching.{matched, marks-whole}
 use Rattle.promises.specs.Demand2.{derived-passes, stages-are, Alike, written, ordered, Demand2, demand-2}
 use Rattle.promises.specs.Demand1.{demand-1}
+use Rattle.promises.specs.ReadBack.{reads-back-as-promised}
 use Rattle.promises.specs.Looked.{fullChart, fullCompletion, full-granted, full-reaches}
 
 -- ---- P1 to P3, of what reading the paper's chart gives
@@ -118,6 +125,9 @@ pub record Rows : Type 0 where
   -- "P7: group 0 with members 1, 2 is condition of 3: events 0 and 1 are conditions of 2."
   pub p7 : (reading groupChart .answer ≡ granted) × (reading groupChart .chart .conditions ≡ 0 ∷ (0 ∷ (3 ∷ replicate 61 0)))
   -- "P8: node 3 includes that group, excludes node 1", by request (xii) an accepted chart: event 2 includes 0 and 1, excludes 0, and after it both are included
+  -- request (ix): the paper's chart read back from its book; and of P8's chart the exclusions, of which no inclusion overrules one: there are none
+  pub back : readingBack (derivedImage paperChart) ≡ readBack granted paperChart
+  pub backBoth : readingBack (derivedImage (bothReading .chart)) .chart .excludes ≡ replicate maxEvents 0
   pub p8 : (reading bothChart ≡ bothReading) × (executing (bothReading .chart) (bothReading .marking) 2 0 ≡ granting (marking 4 0 7))
   -- "P9: one stage, one mark, "if not mark 0, set mark 0" alone: 25, place 0."
   pub p9 : checking p9 0 1 ≡ answer loopFound 0 0
@@ -141,6 +151,22 @@ pub record Rows : Type 0 where
 p8-step : executing (bothReading .chart) (bothReading .marking) 2 0 ≡ granting (marking 4 0 7)
 unfolding executing steppingBy stepping testing permits fit fitChart fitMarking fitTables rolesFrom spillOf spillAt rowSpill has unmetOf awaitedOf afterWith trailingZeros
 p8-step = refl
+
+paper-fit : Fit paperChart
+unfolding fitChart fitTables rolesFrom spillOf spillAt rowSpill
+paper-fit = tested-fit paperChart refl
+
+both-fit : Fit (bothReading .chart)
+unfolding fitChart fitTables rolesFrom spillOf spillAt rowSpill
+both-fit = tested-fit (bothReading .chart) refl
+
+paper-back : readingBack (derivedImage paperChart) ≡ readBack granted paperChart
+unfolding bare standingAt tabulate
+paper-back = reads-back-as-promised .back paperChart paper-fit
+
+both-back : readingBack (derivedImage (bothReading .chart)) .chart .excludes ≡ replicate maxEvents 0
+unfolding bare standingAt tabulate
+both-back = ap (λ (r : ReadBack). r .chart .excludes) (reads-back-as-promised .back (bothReading .chart) both-fit)
 
 -- ---- P1 to P3, computed on the chart that the bytes give
 
@@ -266,6 +292,8 @@ rows =
       p5 = graph.examples .p5;
       p6 = graph.examples .p6;
       p7 = (examples.examples .p7-granted, examples.examples .p7-conditions);
+      back = paper-back;
+      backBoth = both-back;
       p8 = (examples.examples .p8, p8-step);
       p9 = p9-loop;
       p10 = (p10-pass .0, p10-pass .1, p10-clash .0);
