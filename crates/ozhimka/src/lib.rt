@@ -14,6 +14,7 @@ ghost use Rattle.indexed.specs.Building.{building, builtRoom};
 ghost use Rattle.indexed.specs.Indexed.{completingIndexed};
 ghost use Rattle.indexed.specs.InList.{completingList};
 ghost use Rattle.read_back.specs.ReadingBack.{readingBack};
+ghost use Rattle.mend.specs.Calling.{mending, mendedRoom, changesRoom};
 use book::Snapshot;
 use chart::Reading;
 use deriver::Matched;
@@ -24,6 +25,7 @@ use graph::steps::OpenTest;
 use graph::steps::Step;
 use indexed::IndexedCompletion;
 use indexed::ListCompletion;
+use mend::Mended;
 use paper::Answer;
 use paper::MAX_EVENTS;
 use read_back::ReadBack;
@@ -302,4 +304,11 @@ pub extern "C" fn ozhimka_read_back(book: &[u8]) -> ReadBack
     ensures { λ r. ⌜ r ≡ readingBack (now (book .entry)) ⌝ }
 {
     read_back::read_back(book)
+}
+
+#[no_mangle]
+pub extern "C" fn ozhimka_mend(image: &[u8], chart: &mut [u8], list: &mut [u8]) -> Mended
+    ensures { λ r. ⌜ (r ≡ mending (now (image .entry)) (length (now (chart .entry))) (length (now (list .entry)))) × (now (chart .exit) ≡ mendedRoom (now (image .entry)) (now (chart .entry)) (now (list .entry))) × (now (list .exit) ≡ changesRoom (now (image .entry)) (now (chart .entry)) (now (list .entry))) ⌝ }
+{
+    mend::mend(image, chart, list)
 }
