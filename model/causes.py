@@ -10,7 +10,7 @@ from ozhimka import (AND, BECOME_NO, BECOME_YES, CLEAR, COMPLETED, CONDITION, EX
                      OR, SET, Book, FlatChart, Marking, Rule, book_image, chart_image, on_completion, without_trigger)
 from protocol import (BAD, MAX_BODY, MAX_ROOM_BYTES, MAX_ROOM_NUMBERS, MAX_STEPS, back_request, bytes16, bytes32, check_request,
                       complete_request, count_request, derive_request, execute_request, finished_request, index_request, indexed_request,
-                      list_request, listing_request, matching_request, open_request, read_request, replay_request, strike_request)
+                      list_request, listing_request, matching_request, mend_request, open_request, read_request, replay_request, strike_request)
 
 FREE = (NONE, 4)
 HUGE = 0xFFFFFFFF
@@ -1182,7 +1182,10 @@ def bad_requests(rng):
     """Unknown operations and bodies too short for their fields; the program goes on."""
     chart, start = model.empty_chart(1), model.empty_marking()
     yield plain(20), back_request(b'')
-    for operation in (b'\x00', b'\x10', b'\x11', b'\x13', b'\x20', b'\xff'):
+    for length in (1, 5, 8):
+        yield BAD, mend_request(0, 0, b'')[:length]
+    yield plain(1), mend_request(0, 0, b'')
+    for operation in (b'\x00', b'\x10', b'\x13', b'\x20', b'\xff'):
         yield BAD, operation
         yield BAD, operation + rng.randbytes(20)
     whole = (execute_request(chart, start, 0, 0), count_request(chart, start), finished_request(chart, start),
@@ -1224,7 +1227,10 @@ def request_limits(rng):
         yield BAD, derive_request(MAX_ROOM_BYTES + past, chart)
         yield BAD, check_request(MAX_ROOM_NUMBERS + past, 0, image)
         yield BAD, index_request(MAX_ROOM_BYTES + past, image)
+        yield BAD, mend_request(MAX_ROOM_BYTES + past, 0, model.PAPER_CHART)
+        yield BAD, mend_request(100, MAX_ROOM_BYTES + past, model.PAPER_CHART)
     yield GRANTED, index_request(MAX_ROOM_BYTES, image)
+    yield GRANTED, mend_request(MAX_ROOM_BYTES, MAX_ROOM_BYTES, model.PAPER_CHART)
     whole = indexed_request(0, [True] + [False] * 255, INDEX_OF_SMALL, image)
     yield GRANTED, whole
     for length in (len(INDEX_OF_SMALL) + len(image) + 1, 1 << 31, HUGE):
@@ -1516,6 +1522,158 @@ def back_causes(rng):
     yield plain(25, 3), back_request(book_image(of_texts(book, looping)))
 
 
+# ---- mending
+
+def of_mend(nodes, relations, changes, room=0):
+    """A mend that is granted, in rooms just enough and so much more, with the changes meant as (step, record)."""
+    image = chart_image(nodes, relations)
+    mended_nodes, mended_relations, listed = model.mended(image)
+    assert [change[:2] for change in listed] == list(changes), (listed, changes)
+    better = chart_image(mended_nodes, mended_relations)
+    assert model.mended(better) == (mended_nodes, mended_relations, []) and model.read_chart(better)[0] == GRANTED
+    return GRANTED, mend_request(len(better) + room, 10 * len(listed) + room, image)
+
+
+def mended_causes(rng):
+    """Every chart of the reader's causes is mended: codes 1 to 3 stay, 7 comes where so many events remain, and what the reader accepts comes
+    out with the same bytes and an empty list."""
+    for make in (header_causes, node_causes, group_causes, both_causes, accepted_charts, charts_with_roles):
+        for answer, body in make(rng):
+            image, code = body[1:], -1 if answer is None else answer[0]
+            if code == 0:
+                assert model.mend(image, image, b'') == (GRANTED, 0, image, b'')
+                if rng.random() < 0.3:
+                    yield GRANTED, mend_request(len(image), 0, image)
+            else:
+                yield answer if code in (1, 2, 3) else None, mend_request(len(image) + rng.choice((0, 1)), rng.choice((200, 2000)), image)
+
+
+def mend_step_causes(rng):
+    """Each step alone and beside the others: what is a fault and what is none."""
+    count = 6
+    for parent in (count, count + 1, 128, 32768, 65534):  # step 1
+        for n in (0, 3, 5):
+            nodes = [FREE] * count
+            nodes[n] = (parent, rng.choice((4, 256 * 255 + 7)))
+            yield of_mend(nodes, [], [(1, n)])
+    yield of_mend([(count, 4)] * count, [], [(1, n) for n in range(count)])
+    for flags in (8, 16, 32, 64, 128, 248, 255, 9, 256 + 8, 65535, 65280 + 128):  # step 2
+        for n in (0, 5):
+            nodes = [(NONE, 256 * 255 + 7)] * count
+            nodes[n] = (NONE, flags)
+            yield of_mend(nodes, [], [(2, n)], rng.choice((0, 7)))
+    yield of_mend([(NONE, 8)] * count, [], [(2, n) for n in range(count)])
+    for flags in range(1, 8):  # step 4, roles staying
+        yield of_mend([FREE, (NONE, flags), (1, 4)], [], [(4, 1)])
+        yield of_mend([(2, flags), (2, 4), (NONE, 256 * rng.randrange(256) + flags)], [], [(4, 2)])
+    for wrong in ((3, 0, 0), (65535, 0, 0), (0, 3, 0), (0, 65535, 1), (0, 0, 5), (0, 0, 65535), (1, 2, 256), (3, 3, 5)):  # step 5
+        good = (rng.randrange(3), rng.randrange(3), rng.randrange(3))
+        yield of_mend([FREE] * 3, [wrong], [(5, 0)])
+        yield of_mend([FREE] * 3, [good, wrong, good, good], [(5, 1)])
+        yield of_mend([FREE] * 3, [wrong, good, wrong, wrong, good, wrong], [(5, r) for r in (0, 2, 3, 5)], 1)
+    yield of_mend([FREE] * 3, [(2, 2, 4), (0, 1, 0), (0, 1, 0)], [])
+    # one node in several steps: a parent that is none and flags, flags and a loop, flags and a group, all that one node can have
+    yield of_mend([(9, 255), FREE], [], [(1, 0), (2, 0)])
+    yield of_mend([FREE, (1, 255)], [], [(2, 1), (3, 1)])
+    yield of_mend([FREE, (NONE, 255), (1, 4)], [], [(2, 1), (4, 1)])
+    yield of_mend([(1, 4), (1, 12)], [], [(2, 1), (3, 1), (4, 1)])
+    yield of_mend([(1, 4), (9, 12)], [], [(1, 1), (2, 1), (4, 1)])
+    yield of_mend([(1, 4), (NONE, 8)], [(2, 0, 0)], [(2, 1), (5, 0)])  # bits 8 to 128 of a group are no third change
+
+
+def mend_loop_causes(rng):
+    """Step 3: loops of each length, several, with chains that lead into them; groups that vanish where a loop is cut, and those that stay."""
+    def cut(parents, at, flags=None, more=()):
+        nodes = [(parent, (flags or {}).get(n, 0)) for n, parent in enumerate(parents)]
+        return of_mend(nodes, [], [(3, n) for n in at] + list(more))
+
+    for n in range(4):
+        yield cut([n if m == n else NONE for m in range(4)], [n], {n: 256 * 5 + 7})  # its own parent: an event, with its flags
+    yield cut([0, 1, 2, 3], [0, 1, 2, 3], {n: 7 for n in range(4)})
+    # two around: the lower one loses its parent and stays the other's; the other has no child and keeps its flags
+    yield cut([1, 0], [0], {0: 256, 1: 256 + 7})
+    yield cut([1, 0], [0], {0: 256 + 7, 1: 7}, [(4, 0)])
+    yield cut([1, 0, 1], [0], {0: 4, 1: 6, 2: 4}, [(4, 0), (4, 1)])  # with another child the other is still a group
+    for length in (2, 3, 4, 5, 9):
+        row = rng.sample(range(length + 2), length)
+        parents = [NONE] * (length + 2)
+        for i, n in enumerate(row):
+            parents[n] = row[i - 1]
+        lowest = min(row)
+        last = row[row.index(lowest) - 1]  # the lowest one's parent until then: nobody's parent from then on
+        flagged = {n: 7 for n in row}
+        yield cut(parents, [lowest], flagged, [(4, n) for n in sorted(row) if n != last])
+    # chains lead into the loop from nodes that are lower, and hang below it; the lowest on the loop is cut, not the lowest that meets it
+    yield cut([4, 0, 3, 5, 5, 4, 2], [4], {n: 4 for n in range(7)}, [(4, n) for n in (0, 2, 3, 4, 5)])
+    yield cut([1, 2, 3, 4, 4], [4])
+    yield cut([1, 4, 4, 1, 2], [2])
+    # two and three loops, side by side and one inside the other's numbers
+    yield cut([5, 2, 1, 4, 3, 0], [0, 1, 3])
+    yield cut([3, 1, 4, 0, 2, 5], [0, 1, 2, 5])
+    yield cut([2, 3, 0, 1, 0, 1], [0, 1], {2: 1, 4: 7, 5: 7})
+    # a parent that is none is no part of a loop, and cuts one
+    yield of_mend([(1, 4), (9, 6), (3, 4), (2, 4)], [], [(1, 1), (3, 2), (4, 1), (4, 2)])
+    for count in (2, 64, 65, 128):
+        row = rng.sample(range(count), count)
+        parents = [0] * count
+        for i, n in enumerate(row):
+            parents[n] = row[i - 1]
+        yield cut(parents, [0])
+        pairs = [n ^ 1 for n in range(count // 2 * 2)]
+        yield cut(pairs, range(0, count // 2 * 2, 2), {n: 4 for n in range(1, count, 2)})
+
+
+def mend_room_causes(rng):
+    """Codes 7 and 37, in their order, and both rooms around what is needed: a refusal writes nothing to either."""
+    bad = [(200, 0, 0)] * 3
+    for count in (64, 65, 128):
+        answer = GRANTED if count == 64 else plain(7, count)
+        for nodes in ([FREE] * count, [(200, 12)] * count, [(n, 4) for n in range(count)]):
+            for relations in ([], bad):
+                yield answer, mend_request(3000, 10 * (3 * count + 3), chart_image(nodes, relations))
+            yield answer if answer[0] else plain(37, 8 + 4 * count, 10 * len(model.mended(chart_image(nodes, bad))[2])), \
+                mend_request(rng.choice((0, 7)), rng.choice((0, 5000)), chart_image(nodes, bad))
+    # a loop of two leaves one event more than it had, a loop of one too; a group with flags none
+    pair, alone = [(65, 4), (64, 4)], [(64, 4)]
+    for events, loop, answer in ((64, pair, plain(7, 65)), (63, [(64, 4), (63, 4)], GRANTED), (64, alone, plain(7, 65)), (63, [(63, 4)], GRANTED)):
+        yield answer, mend_request(1000, 100, chart_image([FREE] * events + loop, bad))
+    nodes = [(64, 4)] * 64 + [(NONE, 7)]
+    yield GRANTED, mend_request(1000, 10, chart_image(nodes, []))
+    damaged = [(9, 12), (2, 1), (1, 255)], [(0, 0, 0), (0, 3, 0), (1, 2, 4)]
+    cases = (damaged, ([FREE], []), ([FREE] * 2, [(0, 0, 9)]), ([FREE], [(0, 0, 0)]), ([(0, 8)], [(0, 0, 0)] * 3 + [(0, 1, 0)] * 5))
+    for nodes, relations in cases:
+        image = chart_image(nodes, relations)
+        better_nodes, better_relations, changes = model.mended(image)
+        chart, listed = len(chart_image(better_nodes, better_relations)), 10 * len(changes)
+        for one in {chart - 1, 0, chart // 2}:
+            yield plain(37, chart, listed), mend_request(one, listed, image)
+            yield plain(37, chart, listed), mend_request(one, listed + 100, image)
+        for two in {listed - 1, 0, listed // 2, listed - 10} & set(range(listed)):
+            yield plain(37, chart, listed), mend_request(chart, two, image)
+            yield plain(37, chart, listed), mend_request(rng.choice((0, chart - 1, chart + 50)), two, image)
+        for one, two in ((0, 0), (1, 10), (6, 0), (1000, 1000)):
+            yield GRANTED, mend_request(chart + one, listed + two, image)
+    for wrong, answer in ((model.PAPER_CHART[:7], plain(1)), (with_number16(model.PAPER_CHART, 0, 0), plain(2)), (model.PAPER_CHART + b'\0', plain(3)),
+                          (chart_image([FREE] * 65, [])[:-1], plain(3))):  # before 7 and 37
+        for rooms in ((0, 0), (1000, 1000)):
+            yield answer, mend_request(*rooms, wrong)
+
+
+def largest_mends(rng):
+    """128 nodes and 4,096 relations: all of them bad, every second one, none; the longest list of all."""
+    nodes = [(n ^ 1, 255) for n in range(128)]  # 128 entries of step 2, 64 of step 3, 64 of step 4
+    for relations in ([(0, 128, 0)] * 4096, [(r % 128, 127, 4 + r % 2) for r in range(4096)]):
+        image = chart_image(nodes, relations)
+        better_nodes, better_relations, changes = model.mended(image)
+        chart, listed = len(chart_image(better_nodes, better_relations)), 10 * len(changes)
+        yield GRANTED, mend_request(chart, listed, image)
+        if not better_relations:
+            assert listed == 43520
+            yield plain(37, chart, listed), mend_request(chart, listed - 1, image)
+    nodes, relations = largest_chart(rng)
+    yield GRANTED, mend_request(25096, 0, chart_image(nodes, relations))
+
+
 # ---- the largest sizes
 
 def largest_chart(rng):
@@ -1704,6 +1862,6 @@ CAUSES = (header_causes, node_causes, group_causes, both_causes, accepted_charts
           loop_causes, stage_loop_causes, looping_stage_causes, whole_book_causes, clash_causes, order_causes, order_room_causes,
           pair_causes, index_room_causes, unfit_index_causes, indexed_causes, list_causes, list_order_causes, evaluated_causes,
           running_order_causes, firing_causes, bad_requests, request_limits, listing_causes, replay_causes, strike_causes,
-          unfit_record_causes, back_causes)
+          unfit_record_causes, back_causes, mended_causes, mend_step_causes, mend_loop_causes, mend_room_causes)
 LARGEST = (largest_charts, largest_derivings, largest_derived_book, largest_indexes, largest_lists, largest_hand_made,
-           completions_with_conditions, wide_conditions, record_limits)
+           completions_with_conditions, wide_conditions, record_limits, largest_mends)

@@ -3,8 +3,8 @@
 import ozhimka as model
 from ozhimka import AND, NONE, NOT, OR, Book, Marking, Rule
 from protocol import (FLAT_BYTES, back_request, check_request, complete_request, count_request, derive_request, execute_request,
-                      finished_request, index_request, indexed_request, list_request, listing_request, matching_request, open_request,
-                      read_request, replay_request, strike_request)
+                      finished_request, index_request, indexed_request, list_request, listing_request, matching_request, mend_request,
+                      open_request, read_request, replay_request, strike_request)
 
 
 def some(rng, population, chance):
@@ -737,7 +737,46 @@ def with_bytes_changed(rng, image):
 
 
 def damaged_charts(rng):
-    yield read_request(with_bytes_changed(rng, random_chart_image(rng)))
+    image = with_bytes_changed(rng, random_chart_image(rng))
+    yield read_request(image)
+    yield mend_request(len(image), rng.choice((0, 10, 100)), image)
+
+
+def damaged_nodes(rng, count):
+    """Nodes of which some have a parent that is none or is on a loop, or flags that a node or a group may not have."""
+    nodes, worse = random_nodes(rng, count, rng.choice((0, 0.3, 0.6, 0.9))), rng.choice((0.05, 0.2, 0.5))
+    parents, flags = [parent for parent, _ in nodes], [flags for _, flags in nodes]
+    for _ in range(rng.choice((0, 1, 1, 2, 5))):  # loops, of one node and more
+        ring = rng.sample(range(count), min(count, rng.choice((1, 1, 2, 2, 3, 5, 8))))
+        for i, n in enumerate(ring):
+            parents[n] = ring[i - 1]
+    for n in range(count):
+        if rng.random() < worse / 2:
+            parents[n] = rng.choice((count, count + 1, 65534, 32768 + n, rng.randrange(count)))
+        if rng.random() < worse:
+            flags[n] = flags[n] & 65280 | rng.randrange(256)
+    return list(zip(parents, flags))
+
+
+def damaged_relations(rng, count):
+    return [tuple(rng.choice((count, 65535, rng.randrange(65536))) if rng.random() < 0.1 else rng.randrange(limit) for limit in (count, count, 5))
+            for _ in range(rng.choice((0, 1, 2, 5, 10)))]
+
+
+def mendings(rng):
+    """A damaged chart mended, with both rooms around what is needed, and what comes out mended again and read."""
+    count = rng.choice((1, 2, 3, 4, 5, 6, 8, 12, 12, 66, 70, 100, 128))
+    image = model.chart_image(damaged_nodes(rng, count), damaged_relations(rng, count))
+    nodes, relations, changes = model.mended(image)
+    better = model.chart_image(nodes, relations)
+    needs, places = (len(better), 10 * len(changes)), [change[:2] for change in changes]
+    assert places == sorted(set(places)) and model.mended(better) == (nodes, relations, [])
+    assert (better == image) == (not changes) and model.read_chart(better)[0][0] in (0, 7)
+    assert model.read_chart(image)[0][0] != 0 or not changes
+    yield mend_request(*needs, image)
+    for short in rng.sample(((0, -1), (-1, 0), (-1, -1), (1, 10), (100, 0), (0, 100), (-6, 0), (0, -10), (-1, 5)), 2):
+        yield mend_request(*[max(0, need + more) for need, more in zip(needs, short)], image)
+    yield rng.choice((mend_request(len(better), 0, better), read_request(better)))
 
 
 def badly_flagged(rng):
@@ -780,5 +819,5 @@ def damaged_flats(rng):
 
 
 SMALL = (charts, wild_checks, wild_completions, circles, crowded_books, sound_books, sound_runs, indexes, lists, read_backs,
-         damaged_charts, badly_flagged, damaged_books, listings)
+         damaged_charts, badly_flagged, mendings, damaged_books, listings)
 WIDE = (steps, derivings, side_by_side, damaged_flats, records)  # their requests carry a flat chart of 2,628 bytes

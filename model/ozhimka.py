@@ -90,14 +90,27 @@ def chain_above(nodes, n):
     return chain
 
 
-def chart_records(image):
-    """The header, nodes and relations: refusals 1 to 8."""
+def chart_header(image):
+    """Where the relations begin: refusals 1 to 3."""
     refuse_if(1, len(image) < 8)
     node_count, relation_count, nodes_at, relations_at = [number16(image, at) for at in (0, 2, 4, 6)]
     refuse_if(2, not (1 <= node_count <= 128) or not (0 <= relation_count <= 4096))
     refuse_if(3, nodes_at != 8 or relations_at != 8 + 4 * node_count)
     refuse_if(3, len(image) != 8 + 4 * node_count + 6 * relation_count)
+    return node_count, relations_at
 
+
+def chart_relations(image, relations_at):
+    return [Relation(number16(image, at), number16(image, at + 2), number16(image, at + 4)) for at in range(relations_at, len(image), 6)]
+
+
+def is_bad_relation(relation, node_count):
+    return relation.origin >= node_count or relation.to >= node_count or relation.kind > 4
+
+
+def chart_records(image):
+    """The header, nodes and relations: refusals 1 to 8."""
+    node_count, relations_at = chart_header(image)
     nodes = [Node(number16(image, at), image[at + 2], roles_in(image[at + 3])) for at in range(8, relations_at, 4)]
     refuse_lowest(4, [n for n, node in enumerate(nodes)
                       if (node.parent >= node_count and node.parent != NONE) or node.flags > 7])
@@ -108,10 +121,8 @@ def chart_records(image):
     if len(events) > 64:
         raise Refused(7, len(events))
 
-    relations = [Relation(number16(image, at), number16(image, at + 2), number16(image, at + 4))
-                 for at in range(relations_at, len(image), 6)]
-    refuse_lowest(8, [r for r, relation in enumerate(relations)
-                      if relation.origin >= node_count or relation.to >= node_count or relation.kind > 4])
+    relations = chart_relations(image, relations_at)
+    refuse_lowest(8, [r for r, relation in enumerate(relations) if is_bad_relation(relation, node_count)])
     return nodes, events, relations
 
 
@@ -761,6 +772,60 @@ def read_back(image):
     return GRANTED, chart
 
 
+# ---- Mending a damaged chart
+
+MEND_PARENT, MEND_FLAGS, MEND_LOOP, MEND_GROUP, MEND_RELATION = 1, 2, 3, 4, 5
+NodeRecord = namedtuple('NodeRecord', 'parent flags')  # a node's two numbers as they stand
+
+
+def mended(image):
+    """Of a chart whose header passes: its nodes and relations after the five steps, and the changes. A change is the step, the record's number,
+    and the record as it stood before that step: a node's two numbers and 0, a relation's three."""
+    count, relations_at = chart_header(image)
+    nodes = [NodeRecord(number16(image, at), number16(image, at + 2)) for at in range(8, relations_at, 4)]
+    changes = []
+
+    def change(step, n, **numbers):
+        changes.append((step, n, *nodes[n], 0))
+        nodes[n] = nodes[n]._replace(**numbers)
+
+    for n in range(count):  # a parent that doesn't exist becomes none
+        if nodes[n].parent >= count and nodes[n].parent != NONE:
+            change(MEND_PARENT, n, parent=NONE)
+    for n in range(count):  # flag bits 8 to 128 are cleared
+        if nodes[n].flags & (8 + 16 + 32 + 64 + 128):
+            change(MEND_FLAGS, n, flags=nodes[n].flags & ~(8 + 16 + 32 + 64 + 128))
+    while True:  # while parents loop, the lowest node on a loop loses its parent
+        on_loop = [n for n in range(count) if n in chain_above(nodes, n)]
+        if not on_loop:
+            break
+        change(MEND_LOOP, min(on_loop), parent=NONE)
+    groups = {node.parent for node in nodes if node.parent != NONE}
+    for n in sorted(groups):  # a group's lowest three flags are cleared
+        if nodes[n].flags & 7:
+            change(MEND_GROUP, n, flags=nodes[n].flags & ~7)
+    relations = chart_relations(image, relations_at)
+    for r, relation in enumerate(relations):  # relation records with a bad number are dropped
+        if is_bad_relation(relation, count):
+            changes.append((MEND_RELATION, r, *relation))
+    return nodes, [relation for relation in relations if not is_bad_relation(relation, count)], changes
+
+
+def mend(image, chart_room, list_room):
+    """The answer, the number of entries, and both rooms after the call."""
+    try:
+        nodes, relations, changes = mended(image)
+        events = set(range(len(nodes))) - {node.parent for node in nodes}
+        if len(events) > 64:
+            raise Refused(7, len(events))
+        chart, entries = chart_image(nodes, relations), b''.join(bytes16(number) for change in changes for number in change)
+        if len(chart_room) < len(chart) or len(list_room) < len(entries):
+            raise Refused(37, len(chart), len(entries))
+    except Refused as refused:
+        return refused.answer, 0, chart_room, list_room
+    return GRANTED, len(changes), chart + chart_room[len(chart):], entries + list_room[len(entries):]
+
+
 # ---- The program "book listing"
 
 def listing(image):
@@ -1043,6 +1108,30 @@ def both_examples():
     assert (back.includes[2], back.excludes[2]) == ({1}, {0}) and derived_book(back) == book
 
 
+def mend_examples():
+    """Six nodes with every kind of damage; then the paper's chart, which comes out as it went in, and a self-loop, which leaves an event."""
+    roles = 256 * 9
+    nodes = [(6, 7), (NONE, roles + 7), (3, 6), (2, roles + 15), (4, 128 + 5), (1, 255)]
+    relations = [(0, 1, 0), (6, 0, 0), (0, 5, 4), (0, 65535, 1), (5, 5, 5)]
+    image = chart_image(nodes, relations)
+    better = chart_image([(NONE, 7), (NONE, roles), (NONE, 0), (2, roles + 7), (NONE, 5), (1, 7)], [(0, 1, 0), (0, 5, 4)])
+    # 2 and 3 are each other's parent: 2 loses its own and stays a group; 4 was its own parent and is an event from then on
+    changes = ((1, 0, 6, 7, 0), (2, 3, 2, roles + 15, 0), (2, 4, 4, 133, 0), (2, 5, 1, 255, 0), (3, 2, 3, 6, 0), (3, 4, 4, 5, 0),
+               (4, 1, NONE, roles + 7, 0), (4, 2, NONE, 6, 0), (5, 1, 6, 0, 0), (5, 3, 0, 65535, 1), (5, 4, 5, 5, 5))
+    entries = b''.join(bytes16(number) for change in changes for number in change)
+    assert mend(image, bytes(50), bytes(120)) == (GRANTED, 11, better + bytes(50 - len(better)), entries + bytes(10))
+    assert read_chart(image)[0] == (4, 0, 0) and read_chart(better)[0] == GRANTED and mend(better, bytes(44), b'') == (GRANTED, 0, better, b'')
+    for rooms in ((44, 109), (43, 110), (0, 0), (43, 200), (200, 0)):
+        assert mend(image, *map(bytes, rooms)) == ((37, 44, 110), 0, *map(bytes, rooms))
+    assert mend(PAPER_CHART, bytes(34), b'') == (GRANTED, 0, PAPER_CHART, b'') and mend(PAPER_CHART, bytes(33), b'') == ((37, 34, 0), 0, bytes(33), b'')
+    for count, answer in ((64, GRANTED), (65, (7, 65, 0))):  # nodes that are their own parents are events once they have none
+        for damaged in ([(n, 4) for n in range(count)], [(count, 4)] * count):
+            assert mend(chart_image(damaged, [(200, 0, 0)]), bytes(1000), bytes(1000))[0] == answer
+    assert mend(chart_image([(n, 4) for n in range(65)], []), b'', b'')[0] == (7, 65, 0)
+    for wrong, code in ((PAPER_CHART[:7], 1), (bytes(8), 2), (PAPER_CHART + b'\0', 3)):
+        assert mend(wrong, b'', b'') == ((code, 0, 0), 0, b'', b'')
+
+
 def orders_agree():
     """Small random books without a loop, also over all rules, get one running order from both functions that make it."""
     rng = random.Random(1)
@@ -1079,5 +1168,6 @@ if __name__ == '__main__':
         blocking_examples()
         back_examples()
         both_examples()
+        mend_examples()
         orders_agree()
         print('the settled examples hold')

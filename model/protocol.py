@@ -101,6 +101,10 @@ def back_request(image):
     return b'\x0f' + image
 
 
+def mend_request(chart_room, list_room, image):
+    return b'\x11' + bytes32(chart_room) + bytes32(list_room) + image
+
+
 def listing_request(image):
     return bytes([LISTING]) + image
 
@@ -171,6 +175,8 @@ def line_for(body):
         return BAD if record is None else record_line(operation, body, record)
     if operation == 15:
         return back_line(body)
+    if operation == 17:
+        return mend_line(body) if len(body) >= 9 else BAD
     if operation == LISTING:
         return listing_line(body)
     return BAD
@@ -280,6 +286,14 @@ def record_line(operation, body, record):
 def back_line(body):
     answer, chart = model.read_back(body[1:])
     return line('back', answer, [chart.count] + [worth(table[e]) for e in range(chart.count) for table in model.tables(chart)])
+
+
+def mend_line(body):
+    lengths = [model.number32(body, at) for at in (1, 5)]
+    if max(lengths) > MAX_ROOM_BYTES:
+        return BAD
+    answer, entries, *rooms = model.mend(body[9:], *[bytes([FILL]) * length for length in lengths])
+    return line('mend', answer, [entries] + [zlib.adler32(room) for room in rooms])
 
 
 def listing_line(body):
