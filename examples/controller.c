@@ -94,8 +94,8 @@ static bool read_file(const char *name)
     return good;
 }
 
-// The events' names, from the text beside the image (`x.txt` beside `x.chart`) if it is there and has as many events. Its lines `event NAME`
-// stand in the order of the events' numbers.
+// The events' names, from the text beside the image (`x.txt` beside `x.chart`) if it is there and has as many events; whether it
+// draws the image is not tested. Its lines `event NAME` stand in the order of the events' numbers.
 static void load_names(const char *path)
 {
     char text[1024], line[1024], word[LONGEST_NAME], name[LONGEST_NAME];
@@ -339,7 +339,7 @@ static void take(uint32_t event, uint32_t role)
 static void test(uint32_t event)
 {
     char call[64];
-    struct ozhimka_open_test open = ozhimka_open_test(&chart, marking, event);
+    struct ozhimka_tested open = ozhimka_open_test(&chart, marking, event);
     snprintf(call, sizeof call, "test %" PRIu32, event);
     if (open.answer.code == OZHIMKA_GRANTED) {
         printf("%s: open\n", call);

@@ -1,5 +1,6 @@
 // Tries on the library what the header says of null pointers, of a book's length, of roles, of a chart's tables, of stages, of the index, of
-// lists, of the rules evaluated, of what blocks an event, of records, of reading a book back, of the words for each code, and of the stack.
+// lists, of the rules evaluated, of what blocks an event, of records, of reading a book back, of mending, of the words for each code, and of
+// the stack.
 // Prints what does not hold; exit status 0 if nothing, else 1. Wants POSIX contexts, to run a call on a stack that was painted before.
 #define _XOPEN_SOURCE 700
 #include "ozhimka.h"
@@ -12,7 +13,7 @@ enum { PAINT = 0xA5, ROOM = 1 << 18, STEPS = 1000 };
 
 static int failures;
 static uint8_t image[OZHIMKA_MAX_CHART], book[OZHIMKA_MAX_BOOK];
-static uint8_t index_image[OZHIMKA_MAX_DERIVED_INDEX];
+static uint8_t index_image[OZHIMKA_MAX_DERIVED_INDEX], mended_image[OZHIMKA_MAX_CHART], changes[OZHIMKA_MAX_CHANGE_LIST];
 static uint16_t order[OZHIMKA_MAX_RULES];
 static size_t image_length, book_length, index_length, ordered; // how many rules of the book count for stage 0
 static struct ozhimka_reading reading;
@@ -65,6 +66,7 @@ static void largest_chart(void)
 
 static void no_call(void) {}
 static void read_chart(void) { reading = ozhimka_read_chart(image, image_length); }
+static void mend(void) { settled.answer = ozhimka_mend(image, image_length, mended_image, sizeof mended_image, changes, sizeof changes).answer; }
 static void execute(void) { reading.marking = ozhimka_execute(&reading.chart, reading.marking, 0, 0).marking; }
 static void open_test(void) { order[0] = (uint16_t)ozhimka_open_test(&reading.chart, reading.marking, 0).conditions; }
 static void count_open(void) { order[0] = (uint16_t)ozhimka_count_open(&reading.chart, reading.marking).count; }
@@ -113,6 +115,7 @@ static void try_stack(void)
     largest_chart();
     expect_stack("ozhimka_read_chart", read_chart, 17);
     expect(reading.answer.code == OZHIMKA_GRANTED, "the largest chart is read");
+    expect_stack("ozhimka_mend", mend, 1);
     expect_stack("ozhimka_execute", execute, 1);
     expect_stack("ozhimka_open_test", open_test, 1);
     expect_stack("ozhimka_count_open", count_open, 1);
@@ -143,6 +146,8 @@ static void try_null(void)
     no_rules[0] = no_rules[4] = 1; // a stage, which is a mark
     no_rules[20] = no_rules[24] = no_rules[28] = OZHIMKA_BOOK_HEADER;
     expect(is(ozhimka_read_chart(NULL, 0).answer, OZHIMKA_CHART_SHORT, 0), "no chart");
+    expect(is(ozhimka_mend(NULL, 0, NULL, 0, NULL, 0).answer, OZHIMKA_CHART_SHORT, 0), "no chart to mend");
+    expect(is(ozhimka_mend(image, image_length, NULL, 0, NULL, 0).answer, OZHIMKA_MEND_ROOM, image_length), "no room for a mended chart");
     expect(is(ozhimka_derive(&reading.chart, NULL, 0), OZHIMKA_BOOK_ROOM, book_length), "no room for a book");
     expect(is(ozhimka_read_back(NULL, 0).answer, OZHIMKA_BOOK_SHORT, 0), "no book to read back");
     expect(is(ozhimka_check(NULL, 0, 0, NULL, 0), OZHIMKA_BOOK_SHORT, 0), "no book to check");
@@ -188,7 +193,7 @@ static uint32_t codes_on(const struct ozhimka_chart *chart)
            | ozhimka_matching(chart, none).answer.code | ozhimka_derive(chart, book, sizeof book).code;
 }
 
-// An event's sets may have in common what they will, and what it both includes and excludes is included.
+// An event's sets may have in common what they will.
 static void try_common_events(struct ozhimka_chart chart)
 {
     chart.conditions[0] = chart.responses[0] = chart.milestones[0] = chart.includes[0];
@@ -408,7 +413,7 @@ static void expect_blocked(const struct ozhimka_chart *chart, struct ozhimka_mar
                            uint64_t conditions, uint64_t milestones)
 {
     struct ozhimka_recorded record[2] = {{event, 0}, {event, 0}};
-    struct ozhimka_open_test open = ozhimka_open_test(chart, marking, event);
+    struct ozhimka_tested open = ozhimka_open_test(chart, marking, event);
     struct ozhimka_step step = ozhimka_execute(chart, marking, event, 0);
     struct ozhimka_replayed told = ozhimka_replay(chart, marking, record, 1);
     struct ozhimka_struck struck = ozhimka_strike(chart, marking, record, 2, 1);
@@ -435,7 +440,7 @@ static void try_blocking(void)
     expect_blocked(&chart, beyond, 6, OZHIMKA_UNFIT, 0, 0, 0);
     expect_blocked(&unfit, none, 0, OZHIMKA_UNFIT, 0, 0, 0);
     struct ozhimka_marking cleared = {14, 16, 15};
-    struct ozhimka_open_test open = ozhimka_open_test(&chart, cleared, 0);
+    struct ozhimka_tested open = ozhimka_open_test(&chart, cleared, 0);
     expect(is(open.answer, OZHIMKA_GRANTED, 0) && open.conditions == 0 && open.milestones == 0, "an event that nothing blocks");
     chart.conditions[0] = 0, cleared.pending = 28;
     expect_blocked(&chart, cleared, 0, OZHIMKA_MILESTONE_WANTING, 2, 0, 12);
@@ -457,7 +462,7 @@ static bool same_relations(const struct ozhimka_chart *one, const struct ozhimka
 static bool is_refused_back(size_t length, uint32_t code)
 {
     static const struct ozhimka_chart empty;
-    struct ozhimka_read_back back = ozhimka_read_back(book, length);
+    struct ozhimka_chart_behind back = ozhimka_read_back(book, length);
     return is(back.answer, code, 0) && memcmp(&back.chart, &empty, sizeof empty) == 0;
 }
 
@@ -471,7 +476,7 @@ static void try_read_back(void)
     chart.roles[0] = 255;
     expect(is(ozhimka_derive(&chart, book, sizeof book), OZHIMKA_GRANTED, 0), "a book to read back");
     size_t length = ozhimka_book_length(book);
-    struct ozhimka_read_back back = ozhimka_read_back(book, length);
+    struct ozhimka_chart_behind back = ozhimka_read_back(book, length);
     expect(is(back.answer, OZHIMKA_GRANTED, 0) && same_relations(&back.chart, &chart), "the chart behind a book");
     expect(memcmp(back.chart.roles, lost.roles, sizeof lost.roles) == 0, "and no roles");
     expect(is(ozhimka_derive(&back.chart, again, sizeof again), OZHIMKA_GRANTED, 0) && memcmp(again, book, length) == 0, "the same book again");
@@ -485,11 +490,91 @@ static void try_read_back(void)
     expect(is_refused_back(length, OZHIMKA_NOT_DERIVED), "and is not derived");
 }
 
+// The image of `nodes` nodes and `relations` relations; its length.
+static size_t draw(uint8_t *at, size_t nodes, const uint16_t (*node)[2], size_t relations, const uint16_t (*relation)[3])
+{
+    size_t next = OZHIMKA_CHART_HEADER;
+    put16(at, nodes);
+    put16(at + 2, relations);
+    put16(at + 4, OZHIMKA_CHART_HEADER);
+    put16(at + 6, OZHIMKA_CHART_HEADER + OZHIMKA_NODE_SIZE * nodes);
+    for (size_t i = 0; i < 2 * nodes; i++, next += 2)
+        put16(at + next, node[i / 2][i % 2]);
+    for (size_t i = 0; i < 3 * relations; i++, next += 2)
+        put16(at + next, relation[i / 3][i % 3]);
+    return next;
+}
+
+// Nothing is written, whatever the code.
+static void expect_unmended(size_t length, size_t chart_room, size_t list_room, uint32_t code, size_t place, size_t other)
+{
+    memset(mended_image, PAINT, sizeof mended_image);
+    memset(changes, PAINT, sizeof changes);
+    struct ozhimka_mended mended = ozhimka_mend(image, length, mended_image, chart_room, changes, list_room);
+    expect(mended.answer.code == code && mended.answer.place == place && mended.answer.other == other && mended.entries == 0,
+           "a chart is not mended");
+    for (size_t i = 0; i < sizeof changes; i++)
+        if (changes[i] != PAINT || (i < sizeof mended_image && mended_image[i] != PAINT)) {
+            expect(false, "a refusal writes nothing");
+            return;
+        }
+}
+
+// Nodes 0 and 1 loop, and node 3 with itself: 1 and 3 are events then, and 0 is a group. Node 2 has a parent that does not exist and all
+// flags. Relations 1 and 2 are bad.
+static void try_mending(void)
+{
+    enum { NONE = OZHIMKA_NO_PARENT, ENTRIES = 7, LISTED = ENTRIES * OZHIMKA_CHANGE_SIZE };
+    const uint16_t nodes[4][2] = {{1, 4}, {0, 260}, {9, 767}, {3, 6}}, relations[4][3] = {{0, 2, 0}, {5, 0, 1}, {1, 2, 5}, {2, 3, 4}};
+    const uint16_t right[4][2] = {{NONE, 0}, {0, 260}, {NONE, 519}, {NONE, 6}}, left[2][3] = {{0, 2, 0}, {2, 3, 4}};
+    const uint16_t entry[ENTRIES][5] = {{1, 2, 9, 767, 0}, {2, 2, NONE, 767, 0}, {3, 0, 1, 4, 0}, {3, 3, 3, 6, 0},
+                                        {4, 0, NONE, 4, 0}, {5, 1, 5, 0, 1}, {5, 2, 1, 2, 5}};
+    static uint8_t wanted[OZHIMKA_MAX_CHART], list[LISTED];
+    static const uint16_t many[OZHIMKA_MAX_EVENTS + 1][2];
+    size_t length = draw(image, 4, nodes, 4, relations), need = draw(wanted, 4, right, 2, left);
+    for (size_t i = 0; i < 5 * ENTRIES; i++)
+        put16(list + 2 * i, entry[i / 5][i % 5]);
+    expect_unmended(length, need - 1, LISTED, OZHIMKA_MEND_ROOM, need, LISTED);
+    expect_unmended(length, need, LISTED - 1, OZHIMKA_MEND_ROOM, need, LISTED);
+    expect_unmended(length - 1, need, LISTED, OZHIMKA_CHART_LENGTH, 0, 0);
+    struct ozhimka_mended mended = ozhimka_mend(image, length, mended_image, need, changes, LISTED);
+    expect(is(mended.answer, OZHIMKA_GRANTED, 0) && mended.entries == ENTRIES, "a chart is mended");
+    expect(memcmp(mended_image, wanted, need) == 0 && mended_image[need] == PAINT, "the mended chart, and the room behind it");
+    expect(memcmp(changes, list, LISTED) == 0 && changes[LISTED] == PAINT, "the list of changes, and the room behind it");
+    expect(is(ozhimka_read_chart(mended_image, need).answer, OZHIMKA_GRANTED, 0), "what is mended is accepted");
+    mended = ozhimka_mend(wanted, need, mended_image, need, NULL, 0);
+    expect(is(mended.answer, OZHIMKA_GRANTED, 0) && mended.entries == 0 && memcmp(mended_image, wanted, need) == 0,
+           "and mended again it is the same");
+    length = draw(image, OZHIMKA_MAX_EVENTS + 1, many, 0, relations);
+    put16(image + OZHIMKA_CHART_HEADER, NONE);
+    expect(is(ozhimka_mend(image, length, mended_image, length, changes, LISTED).answer, OZHIMKA_GRANTED, 0), "64 events in a group");
+    put16(image + OZHIMKA_CHART_HEADER + OZHIMKA_NODE_SIZE, OZHIMKA_MAX_EVENTS + 1);
+    for (size_t i = 2; i <= OZHIMKA_MAX_EVENTS; i++)
+        put16(image + OZHIMKA_CHART_HEADER + OZHIMKA_NODE_SIZE * i, OZHIMKA_MAX_EVENTS + 1);
+    expect_unmended(length, 0, 0, OZHIMKA_MANY_EVENTS, OZHIMKA_MAX_EVENTS + 1, 0);
+}
+
+// The most changes there can be: each node has bad flags, node n is the parent of node n + 1 and the last one's parent does not exist; all
+// relations are bad.
+static void try_most_changes(void)
+{
+    static uint16_t nodes[OZHIMKA_MAX_NODES][2], relations[OZHIMKA_MAX_RELATIONS][3];
+    for (size_t i = 0; i < OZHIMKA_MAX_NODES; i++)
+        nodes[i][0] = (uint16_t)(i + 1), nodes[i][1] = 255;
+    for (size_t i = 0; i < OZHIMKA_MAX_RELATIONS; i++)
+        relations[i][2] = OZHIMKA_KINDS;
+    size_t length = draw(image, OZHIMKA_MAX_NODES, (const uint16_t(*)[2])nodes, OZHIMKA_MAX_RELATIONS, (const uint16_t(*)[3])relations);
+    struct ozhimka_mended mended = ozhimka_mend(image, length, mended_image, length, changes, sizeof changes);
+    expect(is(mended.answer, OZHIMKA_GRANTED, 0) && mended.entries == OZHIMKA_MAX_CHANGES, "the most changes");
+    size_t need = OZHIMKA_CHART_HEADER + OZHIMKA_NODE_SIZE * OZHIMKA_MAX_NODES;
+    expect_unmended(length, need, sizeof changes - 1, OZHIMKA_MEND_ROOM, need, sizeof changes);
+}
+
 static void try_reasons(void)
 {
     const char *unknown = ozhimka_reason(UINT32_MAX);
     for (uint32_t code = 0; code <= OZHIMKA_LONG_LIST + 1; code++) {
-        bool known = code <= OZHIMKA_BOOK_ROOM || (code >= OZHIMKA_BOOK_SHORT && code <= OZHIMKA_NO_SUCH_POSITION) || code == OZHIMKA_LONG_LIST;
+        bool known = code <= OZHIMKA_BOOK_ROOM || (code >= OZHIMKA_BOOK_SHORT && code <= OZHIMKA_LONG_LIST);
         expect((strcmp(ozhimka_reason(code), unknown) != 0) == known, "words for each code and for no other number");
     }
 }
@@ -506,6 +591,8 @@ int main(void)
     try_records();
     try_blocking();
     try_read_back();
+    try_mending();
+    try_most_changes();
     try_reasons();
     return failures == 0 ? 0 : 1;
 }

@@ -1,5 +1,5 @@
-// The controller's interface to Ozhimka: reading a chart, stepping it, asking what blocks an event, replaying a record of steps, deriving its
-// rule book, reading a derived book back, checking a book, indexing it, completing a stage, or a list of them.
+// The controller's interface to Ozhimka: reading a chart, mending a damaged one, stepping it, asking what blocks an event, replaying a record
+// of steps, deriving its rule book, reading a derived book back, checking a book, indexing it, completing a stage, or a list of them.
 //
 // For C99 and later and C++11 and later. Link libozhimka.a (x86-64, the System V calling convention); of the C library it uses memcpy,
 // memmove and memset at most. Every call ends, keeps no memory between calls, allocates nothing, and may be made from several threads at
@@ -34,6 +34,11 @@
 // A node that is nobody's parent is an event; events are numbered from 0 in node order. Any other node is a group, and the lower byte of
 // its flags is 0. Parents form no loop, also none of one node. A relation of a group holds for each event below it; repeats mean nothing
 // more. An event is open to the roles that it names and to those that the groups above it name; where its whole chain names none, to all.
+//
+// List of changes, what ozhimka_mend did to a chart image: entries of five 16-bit numbers, little-endian, one behind the other:
+//   step         1 a parent that does not exist, 2 flags, 3 a loop of parents, 4 a group's flags, 5 a relation
+//   number       of the node, or in step 5 of the relation, from 0, as the damaged chart has it
+//   the record   as it stood before that step: a node's parent and flags and 0, or a relation's from, to and kind
 //
 // Book image, little-endian, and nothing behind the last word:
 //   header, 32 bits each        stages S (0 to 64), marks M (S to 256), rules R (0 to 8,384), conditions Q (0 to 256),
@@ -80,9 +85,10 @@
 #include <stdint.h>
 
 // The header's version. A new major number changes what a program written for the one before relies on; a new minor number adds to it.
-#define OZHIMKA_VERSION_MAJOR 4
-#define OZHIMKA_VERSION_MINOR 2
-#define OZHIMKA_VERSION "4.2"
+// Structs grow with either: an object built with an older header gives them too little room, so compile anew.
+#define OZHIMKA_VERSION_MAJOR 5
+#define OZHIMKA_VERSION_MINOR 1
+#define OZHIMKA_VERSION "5.1"
 
 #ifdef __cplusplus
 extern "C" {
@@ -128,6 +134,21 @@ enum ozhimka_kind {
     OZHIMKA_KIND_INCLUDE = 3,                    // from includes to
     OZHIMKA_KIND_EXCLUDE = 4,                    // from excludes to
     OZHIMKA_KINDS = 5
+};
+
+// The list of changes: the step of an entry, and sizes in bytes.
+enum ozhimka_mend_step {
+    OZHIMKA_MEND_PARENT = 1,                     // a parent that does not exist becomes none
+    OZHIMKA_MEND_FLAGS = 2,                      // the flags 8 to 128 are cleared
+    OZHIMKA_MEND_LOOP = 3,                       // the lowest node on a loop of parents loses its parent
+    OZHIMKA_MEND_GROUP = 4,                      // a group's flags are cleared, not its roles
+    OZHIMKA_MEND_RELATION = 5                    // a bad relation is dropped
+};
+
+enum {
+    OZHIMKA_CHANGE_SIZE = 10,
+    OZHIMKA_MAX_CHANGES = 2 * OZHIMKA_MAX_NODES + OZHIMKA_MAX_RELATIONS, // entries of any list
+    OZHIMKA_MAX_CHANGE_LIST = OZHIMKA_CHANGE_SIZE * OZHIMKA_MAX_CHANGES
 };
 
 // The book image: sizes in bytes, the bytes of a rule, the words that are operators.
@@ -186,7 +207,7 @@ enum ozhimka_code {
     OZHIMKA_BAD_NODE = 4,          // a parent from N to 65,534, or the lower byte of the flags above 7; place: node
     OZHIMKA_PARENTS_LOOP = 5,      // parents loop; place: lowest node on a loop
     OZHIMKA_GROUP_FLAGS = 6,       // group with flags in the lower byte; place: node
-    OZHIMKA_MANY_EVENTS = 7,       // over 64 events; place: how many
+    OZHIMKA_MANY_EVENTS = 7,       // over 64 events, in ozhimka_mend after mending; place: how many
     OZHIMKA_BAD_RELATION = 8,      // from or to not below N, or a kind above 4; place: relation
     OZHIMKA_INCLUDE_EXCLUDE = 9,   // never given any more, and reserved: a pair may have include and exclude, and inclusion wins
     OZHIMKA_NO_SUCH_EVENT = 10,
@@ -215,6 +236,7 @@ enum ozhimka_code {
     OZHIMKA_INDEX_UNFIT = 34,      // the index is not the one of this book
     OZHIMKA_INDEX_ROOM = 35,       // room for the index too short; place: bytes needed
     OZHIMKA_NO_SUCH_POSITION = 36, // the position to strike is outside the record
+    OZHIMKA_MEND_ROOM = 37,        // room for the mended chart or for the list too short; place: bytes for the chart, other: bytes for the list
     OZHIMKA_LONG_LIST = 38         // a list of over 4,096 stages; place: how many, or 4,294,967,295 for more than that
 };
 
@@ -250,17 +272,23 @@ struct ozhimka_reading {
     struct ozhimka_marking marking;
 };
 
+// What mending gives beside chart and list: how many entries the list has, 0 where the chart needed no mending and where the call is refused.
+struct ozhimka_mended {
+    struct ozhimka_answer answer;
+    uint32_t entries;
+};
+
 // The chart behind a derived book, its roles all 0.
-struct ozhimka_read_back {
+struct ozhimka_chart_behind {
     struct ozhimka_answer answer;
     struct ozhimka_chart chart;
 };
 
 // Whether an event is open, and all that blocks it. With 12 and with 13 both sets are whole: `conditions` are the event's conditions that
 // are included and not yet executed, `milestones` its milestones that are included and still pending. With 12 the first is not empty and the
-// second may be either; with 13 the first is empty. With every other code, granted and 11 among them, both are empty. Once every condition in
-// the first set was executed and every milestone in the second is pending no more, with nothing else changed, the event is open.
-struct ozhimka_open_test {
+// second may be empty or not; with 13 the first is empty. With every other code, granted and 11 among them, both are empty. Once every
+// condition in the first set was executed and every milestone in the second is pending no more, with nothing else changed, the event is open.
+struct ozhimka_tested {
     struct ozhimka_answer answer;
     uint64_t conditions, milestones;
 };
@@ -330,11 +358,12 @@ struct ozhimka_struck {
 typedef char ozhimka_sizes[sizeof(size_t) == 8 && sizeof(struct ozhimka_answer) == 12 && sizeof(struct ozhimka_chart) == 2632
                                    && sizeof(struct ozhimka_marking) == 24 && sizeof(struct ozhimka_snapshot) == 256
                                    && sizeof(struct ozhimka_reading) == 2672 && sizeof(struct ozhimka_step) == 56
-                                   && sizeof(struct ozhimka_open_test) == 32 && sizeof(struct ozhimka_open_count) == 20
+                                   && sizeof(struct ozhimka_tested) == 32 && sizeof(struct ozhimka_open_count) == 20
                                    && sizeof(struct ozhimka_finish) == 16 && sizeof(struct ozhimka_settled) == 268
                                    && sizeof(struct ozhimka_indexed_completion) == 272 && sizeof(struct ozhimka_list_completion) == 276
                                    && sizeof(struct ozhimka_recorded) == 8 && sizeof(struct ozhimka_replayed) == 72
-                                   && sizeof(struct ozhimka_struck) == 56 && sizeof(struct ozhimka_read_back) == 2648
+                                   && sizeof(struct ozhimka_struck) == 56 && sizeof(struct ozhimka_chart_behind) == 2648
+                                   && sizeof(struct ozhimka_mended) == 16
                                ? 1
                                : -1];
 
@@ -343,16 +372,38 @@ struct ozhimka_counts {
     uint32_t stages, marks, rules, conditions, words;
 };
 
-// The flat chart and the start marking of a chart image of `length` bytes. Refuses with 1 to 8, and then gives a chart of count 0
-// with every set empty and no roles, and an empty marking.
+// The flat chart and the start marking of a chart image of `length` bytes. Refuses with 1 to 8, and then gives a chart of count 0 with
+// every set empty and no roles, and an empty marking.
 struct ozhimka_reading ozhimka_read_chart(const uint8_t *image, size_t length);
+
+// Mends a damaged chart image of `length` bytes: writes one that ozhimka_read_chart accepts to the start of the room `chart`, and every change
+// to the start of the room `list`. The header has to be right. Then, in this order:
+//   1  a parent that does not exist, from N to 65,534, becomes none
+//   2  the flags 8, 16, 32, 64 and 128 of a node are cleared; its roles stay
+//   3  while parents loop, the lowest node on a loop loses its parent, so one node for each loop
+//   4  the flags 1, 2 and 4 of a group are cleared; its roles stay. Groups are those that are left now: a node that lost its only child is an
+//      event and keeps its flags
+//   5  a relation whose from or to is no node, or whose kind is above 4, is dropped, and the header's K made right; the others close up
+// Each step goes over the whole chart before the next begins. The list has each change once, in this order, within a step the lowest record
+// first; `entries` is how many it has, the header's K is no entry. An accepted chart comes out byte for byte, with no entry, and so does what
+// was mended when it is mended again. From chart and list the damaged chart can be put together again: undo the entries from the last to the
+// first; a dropped relation goes in at its old number less the dropped ones with lower numbers, and the counts follow.
+// The mended chart has 8 + 4 N + 6 K bytes by its own header, and the list OZHIMKA_CHANGE_SIZE times `entries`; what lies behind each stays as
+// it was. `length` bytes are always enough for the chart. A chart of N nodes and K relations has at most 2 N + K changes, since steps 1 and 3
+// leave a node without a parent and there are no more groups than nodes with one: OZHIMKA_MAX_CHANGE_LIST bytes are enough for any list. The
+// three slices do not overlap.
+// Refuses with the first that holds of 1, 2, 3 (a header that cannot be mended), 7 (over 64 events after mending, place: how many; bad
+// relations do not hide it), 37 (either room too short, place: bytes that the chart needs, other: bytes that the list needs, both whichever is
+// short); then nothing is written to either room, and there are 0 entries.
+struct ozhimka_mended ozhimka_mend(const uint8_t *image, size_t length, uint8_t *chart, size_t chart_length, uint8_t *list,
+                                   size_t list_length);
 
 // What the archive has for the calls on a chart: each takes the count and the tables of one, of OZHIMKA_MAX_EVENTS entries each, where they
 // stand. The calls below that take a chart are these.
 struct ozhimka_step ozhimka_execute_in(uint32_t count, const uint64_t *conditions, const uint64_t *responses, const uint64_t *milestones,
                                        const uint64_t *includes, const uint64_t *excludes, const uint8_t *roles,
                                        struct ozhimka_marking marking, uint32_t event, uint32_t role);
-struct ozhimka_open_test ozhimka_open_test_in(uint32_t count, const uint64_t *conditions, const uint64_t *responses,
+struct ozhimka_tested ozhimka_open_test_in(uint32_t count, const uint64_t *conditions, const uint64_t *responses,
                                               const uint64_t *milestones, const uint64_t *includes, const uint64_t *excludes,
                                               const uint8_t *roles, struct ozhimka_marking marking, uint32_t event);
 struct ozhimka_open_count ozhimka_count_open_in(uint32_t count, const uint64_t *conditions, const uint64_t *responses,
@@ -378,9 +429,9 @@ struct ozhimka_struck ozhimka_strike_in(uint32_t count, const uint64_t *conditio
 // The marking after an event is executed by a role. The role has to be permitted: 0 to 7, and one of roles[event] unless that is 0; for a
 // chart that names no roles any of 0 to 7 will do. The event has to be open: included, each included condition of it executed, no included
 // milestone of it pending. It is then executed and, unless it is its own response, pending no more; its responses are pending, what it
-// excludes is excluded, and then what it includes included. Refuses with the first that holds of 14 (unfit chart or marking), 10 (no such event), 32
-// (role not permitted), 11 (not included), 12 (condition wanting), 13 (milestone wanting), and then hands the marking back; 12 and 13 come
-// with all that blocks the event, which ozhimka_open_test tells without a step and without a role.
+// excludes is excluded, and then what it includes included. Refuses with the first that holds of 14 (unfit chart or marking), 10 (no such
+// event), 32 (role not permitted), 11 (not included), 12 (condition wanting), 13 (milestone wanting), and then hands the marking back; 12 and
+// 13 come with all that blocks the event, which ozhimka_open_test tells without a step and without a role.
 // Replay and strike take the roles of a record's steps. No other call takes a role, and a rule book carries none: a controller that runs
 // the book asks here whether the role is permitted.
 static inline struct ozhimka_step ozhimka_execute(const struct ozhimka_chart *chart, struct ozhimka_marking marking, uint32_t event,
@@ -394,7 +445,7 @@ static inline struct ozhimka_step ozhimka_execute(const struct ozhimka_chart *ch
 // blocks it. It asks for no role and changes nothing. Refuses with the first that holds of 14 (unfit chart or marking), 10 (no such event),
 // 11 (not included), 12 (condition wanting), 13 (milestone wanting), with the lowest blocking event as place; 12 and 13 come with both whole
 // sets, every other code with two empty ones.
-static inline struct ozhimka_open_test ozhimka_open_test(const struct ozhimka_chart *chart, struct ozhimka_marking marking, uint32_t event)
+static inline struct ozhimka_tested ozhimka_open_test(const struct ozhimka_chart *chart, struct ozhimka_marking marking, uint32_t event)
 {
     return ozhimka_open_test_in(chart->count, chart->conditions, chart->responses, chart->milestones, chart->includes, chart->excludes,
                                 chart->roles, marking, event);
@@ -435,7 +486,8 @@ static inline struct ozhimka_answer ozhimka_derive(const struct ozhimka_chart *c
 // ozhimka_execute does, from the marking that the steps before it gave; chart and marking are tested once, so that a step costs less than a
 // call of it. The first step that is not allowed ends the replay and refuses nothing: the answer is granted, `steps` is how many were
 // allowed, which is that step's position from 0, `code` is its code, the first that holds of 10, 32, 11, 12, 13, the sets are all that blocks
-// it with 12 and 13, and marking and finished are those reached before it; the place that goes with 12 or 13 is the lowest event of the set.
+// it with 12 and 13, and marking and finished are those reached before it; the place that goes with the code is the lowest event of
+// `conditions` with 12, of `milestones` with 13.
 // Where all are allowed, as in an empty record, `steps` is `count`, `code` is 0, and marking and finished are those at the end.
 // Refuses with 14 (unfit chart or marking) alone, before any step, and then hands the marking back beside 0 steps, code 0, not finished.
 static inline struct ozhimka_replayed ozhimka_replay(const struct ozhimka_chart *chart, struct ozhimka_marking start,
@@ -458,11 +510,12 @@ static inline struct ozhimka_struck ozhimka_strike(const struct ozhimka_chart *c
 }
 
 // The flat chart behind a derived book of `length` bytes, for one whose chart was lost. It accepts exactly the books that ozhimka_derive
-// writes for some fit chart, and gives that chart's count and five relations; no chart with others has this book, and ozhimka_derive writes
-// the same bytes for what is given. A book carries no roles, no groups and no marking: role bytes are 0, which is open to everyone, and which
-// events were executed, are pending or are included at the start is for the caller to say.
+// writes for some fit chart, and gives that chart's count and relations, of exclusions those that no inclusion overrules; the others do
+// nothing. No chart with other such relations has this book, and ozhimka_derive writes the same bytes for what is given. A book carries no
+// roles, no groups and no marking: role bytes are 0, which is open to everyone, and which events were executed, are pending or are included
+// at the start is for the caller to say.
 // Refuses with the first that holds of 20 to 26, 33 (not a derived book), and then gives a chart of count 0 with every set empty.
-struct ozhimka_read_back ozhimka_read_back(const uint8_t *book, size_t length);
+struct ozhimka_chart_behind ozhimka_read_back(const uint8_t *book, size_t length);
 
 // Checks a book of `length` bytes, for all of its stages, and writes the running order of one stage to the start of the room, which has
 // place for `count` numbers; OZHIMKA_MAX_RULES are enough for any book. It writes one number for each rule that counts for the stage, as
@@ -591,6 +644,7 @@ static inline const char *ozhimka_reason(uint32_t code)
     case OZHIMKA_INDEX_UNFIT: return "the index is not this book's";
     case OZHIMKA_INDEX_ROOM: return "the room for the index is too short (place: bytes needed)";
     case OZHIMKA_NO_SUCH_POSITION: return "the record has no such position";
+    case OZHIMKA_MEND_ROOM: return "the room for the mended chart or for the list is too short (place: bytes for the chart, other: for the list)";
     case OZHIMKA_LONG_LIST: return "the list has over 4,096 stages (place: how many)";
     default: return "no code of this library";
     }
