@@ -1,4 +1,4 @@
-// Times each call of the library, of the plain C and of the leaner plain C on the same buffers, and prints five tables.
+// Times each call of the library, of the plain C and of the leaner plain C on the same buffers, and prints six tables.
 #define _POSIX_C_SOURCE 199309L
 #include "inputs.h"
 #include "lean.h"
@@ -36,13 +36,14 @@ static struct ozhimka_recorded own_record[LONGEST_RECORD];
 
 _Static_assert(sizeof own_chart == sizeof chart && sizeof own_marking == sizeof marking && sizeof own_snapshot == sizeof snapshot
                    && sizeof(struct ozhimka_reading) == sizeof(struct reading) && sizeof(struct ozhimka_step) == sizeof(struct step)
-                   && sizeof(struct ozhimka_open_test) == sizeof(struct open_test)
-                   && sizeof(struct ozhimka_read_back) == sizeof(struct read_back)
+                   && sizeof(struct ozhimka_tested) == sizeof(struct open_test)
+                   && sizeof(struct ozhimka_chart_behind) == sizeof(struct read_back)
                    && sizeof(struct ozhimka_open_count) == sizeof(struct open_count)
                    && sizeof(struct ozhimka_finish) == sizeof(struct finish)
                    && sizeof(struct ozhimka_settled) == sizeof(struct settled)
                    && sizeof(struct ozhimka_indexed_completion) == sizeof(struct indexed)
                    && sizeof(struct ozhimka_list_completion) == sizeof(struct listed) && sizeof own_record == sizeof record
+                   && sizeof(struct ozhimka_mended) == sizeof(struct mended)
                    && sizeof(struct ozhimka_replayed) == sizeof(struct replayed) && sizeof(struct ozhimka_struck) == sizeof(struct step),
                "both sides pass as many bytes");
 
@@ -73,14 +74,15 @@ static union {
     struct indexed indexed;
     struct listed listed;
     struct replayed replayed;
+    struct mended mended;
 } plain_out;
 
 static union {
     struct ozhimka_answer answer;
     struct ozhimka_reading reading;
     struct ozhimka_step step;
-    struct ozhimka_open_test open_test;
-    struct ozhimka_read_back read_back;
+    struct ozhimka_tested open_test;
+    struct ozhimka_chart_behind read_back;
     struct ozhimka_open_count open_count;
     struct ozhimka_finish finish;
     struct ozhimka_settled settled;
@@ -88,6 +90,7 @@ static union {
     struct ozhimka_list_completion listed;
     struct ozhimka_replayed replayed;
     struct ozhimka_struck struck;
+    struct ozhimka_mended mended;
 } own_out;
 
 static void plain_1(void) { plain_out.reading = plain_read_chart(image, image_length); }
@@ -154,6 +157,10 @@ static void plain_15(void) { plain_out.open_test = plain_open_test(&chart, marki
 static void own_15(void) { own_out.open_test = ozhimka_open_test(&own_chart, own_marking, event); }
 static void plain_16(void) { plain_out.read_back = plain_read_back(book, book_length); }
 static void own_16(void) { own_out.read_back = ozhimka_read_back(book, book_length); }
+
+// The list goes into the room behind the chart's.
+static void plain_17(void) { plain_out.mended = plain_mend(image, image_length, room, CHART_BYTES, room + CHART_BYTES, sizeof room - CHART_BYTES); }
+static void own_17(void) { own_out.mended = ozhimka_mend(image, image_length, room, CHART_BYTES, room + CHART_BYTES, sizeof room - CHART_BYTES); }
 
 // The record by a call of execute for each step.
 static void plain_each(void)
@@ -253,6 +260,8 @@ static bool same_strike(void)
     return same_marking(&plain->marking, &own->marking) && plain->conditions == own->conditions && plain->milestones == own->milestones;
 }
 
+static bool same_mended(void) { return plain_out.mended.entries == own_out.mended.entries; }
+
 struct call {
     const char *name;
     void (*plain)(void), (*lean)(void), (*own)(void); // lean is null where plain C has no shortcut to take
@@ -278,6 +287,8 @@ enum { CALLS = sizeof calls / sizeof calls[0], CHECK = 8, LAST = CALLS - 1 };
 
 static const struct call list_call = {"complete_list", plain_11, lean_11, own_11, same_list},
                          list_in_turn = {"complete_indexed, 256 calls", plain_12, lean_12, own_12, same_list};
+
+static const struct call mend_call = {"mend", plain_17, NULL, own_17, same_mended};
 
 static const struct call record_calls[] = {
     {"replay", plain_13, NULL, own_13, same_replay},
@@ -532,6 +543,14 @@ static void print_records(const char *input, size_t (*write)(uint8_t *, uint32_t
     }
 }
 
+static void print_mended(const char *input, size_t (*write)(uint8_t *))
+{
+    const struct times none = {0, 0, 0};
+    image_length = write(image);
+    plain_17();
+    print_row(&mend_call, input, plain_out.mended.entries, none);
+}
+
 int main(void)
 {
     struct times full[CALLS], sparse[CALLS];
@@ -555,5 +574,10 @@ int main(void)
     printf("\n");
     print_header("steps");
     print_records("sparse, 64 events", sparse_chart);
+    printf("\n");
+    print_header("changes");
+    print_mended("128 nodes on one loop", one_loop);
+    print_mended("64 loops of two nodes", loops_of_two);
+    print_mended("4,096 bad relations", bad_relations);
     return 0;
 }

@@ -99,6 +99,27 @@ size_t sparse_chart(uint8_t *image, uint32_t n)
     return length;
 }
 
+// ---- damaged charts
+
+static size_t damaged(uint8_t *image, uint32_t relations, uint32_t (*parent)(uint32_t))
+{
+    enum { NODES = 128, ALL = 255 };
+    uint8_t *at = put_chart_header(image, NODES, relations);
+    for (uint32_t node = 0; node < NODES; node++)
+        at = put_node(at, node, parent(node), ALL);
+    for (uint32_t r = 0; r < relations; r++)
+        at = put_relation(at, r % NODES, NODES, r % (EXCLUDE + 1));
+    return (size_t)(at - image);
+}
+
+static uint32_t next_of_all(uint32_t node) { return (node + 1) % 128; }
+static uint32_t other_of_two(uint32_t node) { return node ^ 1; }
+static uint32_t own_group(uint32_t node) { return node % 2 == 0 ? NO_PARENT : node - 1; }
+
+size_t one_loop(uint8_t *image) { return damaged(image, 0, next_of_all); }
+size_t loops_of_two(uint8_t *image) { return damaged(image, 0, other_of_two); }
+size_t bad_relations(uint8_t *image) { return damaged(image, 4096, own_group); }
+
 // ---- books
 
 static uint8_t *put_book_header(uint8_t *at, uint32_t rules)

@@ -17,6 +17,16 @@ size_t list_chart(uint8_t *image, uint32_t n);
 // A chart of n events, four to a group, with two or three relations to an event. Every node names a role, event 1 role 1. Gives its length.
 size_t sparse_chart(uint8_t *image, uint32_t n);
 
+// Damaged charts of 128 nodes, each with all flags below 256; each gives its length. The nodes lie on one loop of parents, and there are no
+// relations;
+size_t one_loop(uint8_t *image);
+
+// on 64 loops of two;
+size_t loops_of_two(uint8_t *image);
+
+// or 64 events lie in a group each, and 4,096 relations name no node.
+size_t bad_relations(uint8_t *image);
+
 // Books of some rules, up to 8,384, that have the largest size in all else: 64 stages, 256 marks, 256 conditions and 41,024 words. Each gives
 // its length.
 

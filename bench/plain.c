@@ -33,8 +33,8 @@ static uint32_t lowest_on_loop(const struct nodes *nodes)
     return best;
 }
 
-// Refusals 1 to 4.
-static struct answer read_nodes(const uint8_t *image, size_t length, struct nodes *nodes)
+// Refusals 1 to 3.
+static struct answer read_header(const uint8_t *image, size_t length)
 {
     if (length < 8)
         return refused(1, 0, 0);
@@ -43,7 +43,16 @@ static struct answer read_nodes(const uint8_t *image, size_t length, struct node
         return refused(2, 0, 0);
     if (get16(image + 4) != 8 || get16(image + 6) != 8 + 4 * count || length != 8 + 4 * count + 6 * relations)
         return refused(3, 0, 0);
-    nodes->count = count;
+    return granted;
+}
+
+// Refusals 1 to 4.
+static struct answer read_nodes(const uint8_t *image, size_t length, struct nodes *nodes)
+{
+    struct answer answer = read_header(image, length);
+    if (answer.code != 0)
+        return answer;
+    uint32_t count = nodes->count = get16(image);
     for (uint32_t n = 0; n < count; n++) {
         uint32_t parent = get16(image + 8 + 4 * n), flags = get16(image + 10 + 4 * n);
         if ((parent >= count && parent != NO_PARENT) || flags % FLAGS_BYTE > 7)
@@ -75,7 +84,7 @@ static struct answer number_events(const struct nodes *nodes, uint8_t *event, ui
     return count > MAX_EVENTS ? refused(7, count, 0) : granted;
 }
 
-// Refusals 8 and 9. Relations are gathered at their nodes; an event then takes what stands at it and at the groups above it, roles too.
+// Refusal 8. Relations are gathered at their nodes; an event then takes what stands at it and at the groups above it, roles too.
 static struct answer flatten(const struct nodes *nodes, const uint8_t *event, const uint8_t *at, uint32_t relations,
                              struct flat_chart *chart)
 {
@@ -131,6 +140,137 @@ struct reading plain_read_chart(const uint8_t *image, size_t length)
         reading.start.included |= (uint64_t)(flags >> 2 & 1) << e;
     }
     return reading;
+}
+
+// ---- mending a chart
+
+struct mending {
+    struct nodes nodes;
+    uint32_t changes, dropped;
+    uint16_t change[2 * MAX_NODES][4]; // of the nodes: step, node, and its two numbers before the step
+};
+
+static void note(struct mending *mending, uint32_t step, uint32_t n)
+{
+    uint16_t *change = mending->change[mending->changes++];
+    change[0] = (uint16_t)step;
+    change[1] = (uint16_t)n;
+    change[2] = (uint16_t)mending->nodes.parent[n];
+    change[3] = (uint16_t)mending->nodes.flags[n];
+}
+
+// Steps 1 and 2.
+static void mend_records(struct mending *mending, const uint8_t *image)
+{
+    struct nodes *nodes = &mending->nodes;
+    nodes->count = get16(image);
+    for (uint32_t n = 0; n < nodes->count; n++) {
+        nodes->parent[n] = get16(image + 8 + 4 * n);
+        nodes->flags[n] = get16(image + 10 + 4 * n);
+        if (nodes->parent[n] >= nodes->count && nodes->parent[n] != NO_PARENT) {
+            note(mending, 1, n);
+            nodes->parent[n] = NO_PARENT;
+        }
+    }
+    for (uint32_t n = 0; n < nodes->count; n++)
+        if (nodes->flags[n] & 0xF8) {
+            note(mending, 2, n);
+            nodes->flags[n] &= 0xFF07;
+        }
+}
+
+// Step 3. Each loop is met once, by the first walk upwards that comes to it.
+static void cut_loops(struct mending *mending)
+{
+    struct nodes *nodes = &mending->nodes;
+    uint8_t stamp[MAX_NODES] = {0};
+    bool cut[MAX_NODES] = {false};
+    for (uint32_t from = 0; from < nodes->count; from++) {
+        uint32_t n = from;
+        while (n != NO_PARENT && stamp[n] == 0) {
+            stamp[n] = (uint8_t)(from + 1);
+            n = nodes->parent[n];
+        }
+        if (n == NO_PARENT || stamp[n] != from + 1)
+            continue;
+        uint32_t end = n, least = n;
+        do {
+            least = n < least ? n : least;
+            n = nodes->parent[n];
+        } while (n != end);
+        cut[least] = true;
+    }
+    for (uint32_t n = 0; n < nodes->count; n++)
+        if (cut[n]) {
+            note(mending, 3, n);
+            nodes->parent[n] = NO_PARENT;
+        }
+}
+
+// Step 4; the number of events.
+static uint32_t clear_groups(struct mending *mending)
+{
+    struct nodes *nodes = &mending->nodes;
+    bool group[MAX_NODES] = {false};
+    uint32_t events = nodes->count;
+    for (uint32_t n = 0; n < nodes->count; n++)
+        if (nodes->parent[n] != NO_PARENT)
+            group[nodes->parent[n]] = true;
+    for (uint32_t n = 0; n < nodes->count; n++) {
+        events -= group[n];
+        if (group[n] && (nodes->flags[n] & 7)) {
+            note(mending, 4, n);
+            nodes->flags[n] &= 0xFFF8;
+        }
+    }
+    return events;
+}
+
+static bool bad_relation(const uint8_t *at, uint32_t nodes)
+{
+    return get16(at) >= nodes || get16(at + 2) >= nodes || get16(at + 4) > 4;
+}
+
+static void write_mended(const struct mending *mending, const uint8_t *image, uint8_t *chart, uint8_t *list)
+{
+    uint32_t nodes = mending->nodes.count, relations = get16(image + 2);
+    const uint8_t *at = image + 8 + 4 * nodes;
+    chart = put16(put16(put16(put16(chart, nodes), relations - mending->dropped), 8), 8 + 4 * nodes);
+    for (uint32_t n = 0; n < nodes; n++)
+        chart = put16(put16(chart, mending->nodes.parent[n]), mending->nodes.flags[n]);
+    for (uint32_t i = 0; i < mending->changes; i++) {
+        const uint16_t *change = mending->change[i];
+        list = put16(put16(put16(put16(put16(list, change[0]), change[1]), change[2]), change[3]), 0);
+    }
+    for (uint32_t r = 0; r < relations; r++, at += 6)
+        if (bad_relation(at, nodes)) {
+            memcpy(put16(put16(list, 5), r), at, 6);
+            list += 10;
+        } else {
+            memcpy(chart, at, 6);
+            chart += 6;
+        }
+}
+
+struct mended plain_mend(const uint8_t *image, size_t length, uint8_t *chart, size_t chart_length, uint8_t *list, size_t list_length)
+{
+    struct answer answer = read_header(image, length);
+    if (answer.code != 0)
+        return (struct mended){answer, 0};
+    struct mending mending;
+    mending.changes = mending.dropped = 0;
+    mend_records(&mending, image);
+    cut_loops(&mending);
+    uint32_t events = clear_groups(&mending), nodes = mending.nodes.count, relations = get16(image + 2);
+    if (events > MAX_EVENTS)
+        return (struct mended){refused(7, events, 0), 0};
+    for (uint32_t r = 0; r < relations; r++)
+        mending.dropped += bad_relation(image + 8 + 4 * nodes + 6 * r, nodes);
+    uint32_t entries = mending.changes + mending.dropped, needed = 8 + 4 * nodes + 6 * (relations - mending.dropped);
+    if (chart_length < needed || list_length < 10 * entries)
+        return (struct mended){refused(37, needed, 10 * entries), 0};
+    write_mended(&mending, image, chart, list);
+    return (struct mended){granted, entries};
 }
 
 // ---- steps

@@ -38,6 +38,11 @@ struct read_back {
     struct flat_chart chart;
 };
 
+struct mended {
+    struct answer answer;
+    uint32_t entries;
+};
+
 // What blocks an event, with 12 and 13; else two empty sets.
 struct open_test {
     struct answer answer;
@@ -92,6 +97,7 @@ struct replayed {
 };
 
 struct reading plain_read_chart(const uint8_t *image, size_t length);
+struct mended plain_mend(const uint8_t *image, size_t length, uint8_t *chart, size_t chart_length, uint8_t *list, size_t list_length);
 struct step plain_execute(const struct flat_chart *chart, struct marking marking, uint32_t event, uint32_t role);
 struct open_test plain_open_test(const struct flat_chart *chart, struct marking marking, uint32_t event);
 struct open_count plain_count_open(const struct flat_chart *chart, struct marking marking);

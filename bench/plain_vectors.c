@@ -283,6 +283,20 @@ static bool on_record(int operation, const uint8_t *at, size_t length)
     return true;
 }
 
+static bool mend(const uint8_t *at, size_t length)
+{
+    if (length < 8 || number(at, 4) > MAX_BYTES || number(at + 4, 4) > MAX_BYTES)
+        return false;
+    size_t chart_length = number(at, 4), list_length = number(at + 4, 4);
+    uint8_t *chart = filled(chart_length), *list = filled(list_length);
+    struct mended mended = plain_mend(at + 8, length - 8, chart, chart_length, list, list_length);
+    say("mend", mended.answer);
+    printf(" %" PRIu32 " %" PRIu32 " %" PRIu32, mended.entries, adler(chart, chart_length, 1), adler(list, list_length, 1));
+    free(chart);
+    free(list);
+    return true;
+}
+
 // ---- the listing: what the program book_listing prints, as its length and its sum
 
 static uint32_t listed, listed_sum;
@@ -370,6 +384,8 @@ static bool serve(const uint8_t *at, size_t length)
     case 15:
         read_back(at + 1, length - 1);
         return true;
+    case 17:
+        return mend(at + 1, length - 1);
     case LISTING:
         listing(at + 1, length - 1);
         return true;
