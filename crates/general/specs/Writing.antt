@@ -112,3 +112,36 @@ module _ (g : ℕ → List ℕ) (n : ℕ) (room₀ : List ℕ) (at : ℕ) where
 
     pub runs-done : n ≤ k → Wrote room₀ at (flat n g) next room
     runs-done h = let l : k ≤ n = inv .few in let q : k ≡ n = omega arith in rw (← q) (inv .wrote)
+
+-- ---- a run that counts or writes: the place behind it is always right, and where the room holds it, it is written
+
+pub record Ran (room : List ℕ) (at : ℕ) (bytes : List ℕ) (next : ℕ) (after : List ℕ) : Type 0 where
+  pub place : next ≡ at + length bytes
+  pub long : length after ≡ length room
+  pub holds : Fits room at bytes → after ≡ sets room at bytes
+
+pub ran-none : (room : List ℕ) (at : ℕ) → Ran room at [] at room
+ran-none room at = record { place = rw add-zero; long = refl; holds = λ h. refl }
+
+-- where the room holds it, what was written; where not, the room as it was
+pub ran-wrote : {room bytes after : List ℕ} {at next : ℕ} → Wrote room at bytes next after → Ran room at bytes next after
+ran-wrote w = record { place = w .place; long = wrote-length w; holds = λ h. w .holds }
+
+pub ran-short : {room bytes : List ℕ} {at next : ℕ} → next ≡ at + length bytes → length room < next → Ran room at bytes next room
+ran-short p h = record { place = p; long = refl; holds = λ f. absurd (omega arith) }
+
+-- one run, and then another
+pub ran-then : {room a b after end : List ℕ} {at next last : ℕ} → Ran room at a next after → Ran after next b last end → Ran room at (a ++ b) last end
+ran-then {room} {a} {b} {after} {end} {at} {next} {last} w v =
+    let n : length (a ++ b) ≡ length a + length b = length-append a b in
+    let p : next ≡ at + length a = w .place in
+    let q : last ≡ next + length b = v .place in
+    let l : length after ≡ length room = w .long in
+    record {
+      place = omega arith;
+      long = v .long ∙ l;
+      holds = λ h. v .holds (omega arith) ∙ rw (w .holds (omega arith), p) (sym (sets-append a b room at));
+    }
+
+pub ran-holds : {room bytes after : List ℕ} {at next : ℕ} → Ran room at bytes next after → Fits room at bytes → Wrote room at bytes next after
+ran-holds r h = record { place = r .place; holds = r .holds h }

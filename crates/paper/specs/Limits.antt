@@ -81,6 +81,10 @@ orWord = 65534
 abbrev pub notWord : ℕ
 notWord = 65535
 
+-- "65,535 for a dropped or absent mark"
+abbrev pub noMark : ℕ
+noMark = 65535
+
 -- ---- the index image: sizes in bytes of S and R, of what it says of a stage, and of a rule in an order
 
 abbrev pub indexHeader : ℕ

@@ -54,6 +54,9 @@ pub const OR: u16 = 65534;
 
 pub const NOT: u16 = 65535;
 
+// What the table of a smaller book says of a mark that is dropped or absent.
+pub const NO_MARK: u16 = 65535;
+
 // ---- the index image: sizes in bytes of S and R, of what it says of a stage, and of a rule in an order
 pub const INDEX_HEADER: usize = 8;
 
