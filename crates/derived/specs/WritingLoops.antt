@@ -52,7 +52,7 @@ module _ {A : Type 0} (f : A → List ℕ) (g : ℕ → List A) (n among : ℕ) 
           })
 
 -- what stands before part k, and part k, lie in the whole
-packed-part : {A : Type 0} (f : A → List ℕ) (g : ℕ → List A) (n k : ℕ) → k < n → length (packed f (flat k g)) + length (packed f (g k)) ≤ length (packed f (flat n g))
+pub packed-part : {A : Type 0} (f : A → List ℕ) (g : ℕ → List A) (n k : ℕ) → k < n → length (packed f (flat k g)) + length (packed f (g k)) ≤ length (packed f (flat n g))
 unfolding flat
 packed-part f g zero k h = absurd (omega arith)
 packed-part f g (suc n) k h =

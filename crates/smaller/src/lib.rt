@@ -1,0 +1,1 @@
+// What a smaller book is (request xi): no code of its own.
