@@ -38,7 +38,7 @@ fn flag(b: bool) -> u8
 }
 
 // One record. Every writer here hands back the place behind what it wrote.
-fn put_rule(
+pub fn put_rule(
     room: &mut [u8],
     at: usize,
     kind: u8,
@@ -62,7 +62,7 @@ fn put_rule(
 }
 
 // On completion of e, set the mark or clear it.
-fn put_on(room: &mut [u8], at: usize, e: usize, effect: bool, mark: usize) -> usize
+pub fn put_on(room: &mut [u8], at: usize, e: usize, effect: bool, mark: usize) -> usize
     requires { ⌜ (e < 65536) × (mark < 65536) × (at + ruleSize ≤ length (now room)) ⌝ }
     ensures { λ r. ⌜ Wrote (now (room .entry)) at (packed ruleBytes (on e effect mark ∷ [])) r (now (room .exit)) ⌝ }
 {
