@@ -1,0 +1,37 @@
+-- `smaller_texts::put_texts` meets its contract. Assumes nothing.
+use Prim.Native.Nat.{_-_}
+use Rattle.wire.specs.Wire.{bytes16}
+use Rattle.smaller.specs.Runs.{textsBy}
+use Rattle.smaller.specs.Loops.{Upto, upto-start, upto-under, upto-more, upto-done}
+use borrow.Author.Needs.{needs}
+use Rattle.smaller_texts.proofs.put_texts.Statement.{statement}
+use Rattle.smaller_texts.proofs.put_texts.Tie as tie
+
+abbrev Inv-loop : tie.InvT-loop
+Inv-loop room₀ at n included answered conditions milestones table next₀ e₀ room next e = Upto bytes16
+    (textsBy table n included answered conditions milestones) n room₀ at e next room
+
+abbrev μ-loop : tie.MeasureT-loop
+μ-loop room₀ at n included answered conditions milestones table next₀ e₀ room next e = n - e
+
+pub put-texts-spec : {M : Type 1} → statement M
+put-texts-spec =
+    tie.close
+    (tie.spec
+    Inv-loop
+    μ-loop
+    (λ c. search upto-start)
+    (λ c. search needs) (λ c. search needs) (λ c. search needs) (λ c. search needs)
+    (λ c κs. unfold textsBy in (
+      c .before .before .before .before .before .before .pre .0,
+      c .before .before .before .loop-test .taken,
+      c .before .before .before .before .before .before .pre .1 .conditions _ (c .before .before .before .loop-test .taken),
+      c .before .before .before .before .before .before .pre .1 .milestones _ (c .before .before .before .loop-test .taken),
+      upto-under _ _ _ _ _ _ _ _ (c .before .before .before .before .loop .inv) (c .before .before .before .loop-test .taken)
+          (c .before .before .before .before .before .before .pre .2),
+    ))
+    (λ c. search needs) (λ c. search needs)
+    (λ c. unfold textsBy in upto-more _ _ _ _ _ _ _ _ (c .before .before .before .before .before .before .before .loop .inv) _ _
+    (c .before .before .before .before .before .before .loop-test .taken) (c .before .before .put-text .ensures))
+    (λ c. search needs)
+    (λ c. search upto-done))
