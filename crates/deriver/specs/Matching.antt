@@ -95,26 +95,26 @@ marks-more start marks at set e b p q =
 pub marks-all : (start marks : List Bool) (at set e n : ℕ) → e ≤ n → n ≤ e → marks ≡ sets start at (each e (has set)) → marks ≡ sets start at (each n (has set))
 marks-all start marks at set e n h l p = let z : e ≡ n = omega arith in p ∙ ap (λ (k : ℕ). sets start at (each k (has set))) z
 
-drop-none : (k w : ℕ) → drop k (replicate w false) ≡ replicate (w - k) false
-drop-none zero w = let e : w ≡ w - zero = omega arith in ap (λ (x : ℕ). replicate x false) e
-drop-none (suc k) zero = let e : zero ≡ zero - suc k = omega arith in ap (λ (x : ℕ). replicate x false) e
-drop-none (suc k) (suc w) = let e : w - k ≡ suc w - suc k = omega arith in drop-none k w ∙ ap (λ (x : ℕ). replicate x false) e
+drop-same : {A : Type 0} (x : A) (k w : ℕ) → drop k (replicate w x) ≡ replicate (w - k) x
+drop-same x zero w = let e : w ≡ w - zero = omega arith in ap (λ (i : ℕ). replicate i x) e
+drop-same x (suc k) zero = let e : zero ≡ zero - suc k = omega arith in ap (λ (i : ℕ). replicate i x) e
+drop-same x (suc k) (suc w) = let e : w - k ≡ suc w - suc k = omega arith in drop-same x k w ∙ ap (λ (i : ℕ). replicate i x) e
 
--- four runs of n marks, one behind the other, over marks that are no
-four-runs : (n w : ℕ) (a b c d : List Bool) → length a ≡ n → length b ≡ n → length c ≡ n → length d ≡ n → 4 * n ≤ w
-    → sets (sets (sets (sets (replicate w false) 0 a) n b) (2 * n) c) (3 * n) d ≡ a ++ (b ++ (c ++ (d ++ replicate (w - 4 * n) false)))
-four-runs n w a b c d p q r s h =
-    let room : List Bool = replicate w false in
+-- four runs of n entries, one behind the other, over a table that says x throughout
+pub four-runs : {A : Type 0} (x : A) (n w : ℕ) (a b c d : List A) → length a ≡ n → length b ≡ n → length c ≡ n → length d ≡ n → 4 * n ≤ w
+    → sets (sets (sets (sets (replicate w x) 0 a) n b) (2 * n) c) (3 * n) d ≡ a ++ (b ++ (c ++ (d ++ replicate (w - 4 * n) x)))
+four-runs {A} x n w a b c d p q r s h =
+    let room : List A = replicate w x in
     let z : 0 + length a ≡ n = omega arith in
     let y : n + length b ≡ 2 * n = omega arith in
-    let x : 2 * n + length c ≡ 3 * n = omega arith in
+    let v : 2 * n + length c ≡ 3 * n = omega arith in
     let l : length (a ++ (b ++ (c ++ d))) ≡ 4 * n = simp length-append (omega arith) in
-    let t : length room ≡ w = length-replicate w false in
+    let t : length room ≡ w = length-replicate w x in
     let u : sets room 0 (a ++ (b ++ (c ++ d))) ≡ sets (sets (sets (sets room 0 a) n b) (2 * n) c) (3 * n) d =
-    sets-append a (b ++ (c ++ d)) room 0 ∙ rw z (sets-append b (c ++ d) (sets room 0 a) n ∙ rw y (sets-append c d (sets (sets room 0 a) n b) (2 * n) ∙ rw x)) in
+    sets-append a (b ++ (c ++ d)) room 0 ∙ rw z (sets-append b (c ++ d) (sets room 0 a) n ∙ rw y (sets-append c d (sets (sets room 0 a) n b) (2 * n) ∙ rw v)) in
     sym u
     ∙ sets-eq (a ++ (b ++ (c ++ d))) room 0 (omega arith)
-    ∙ rw (l, zero-add (4 * n), drop-none (4 * n) w) (simp append-assoc)
+    ∙ rw (l, zero-add (4 * n), drop-same x (4 * n) w) (simp append-assoc)
 
 module _ (c : FlatChart) (m : Marking) (b : Bool) (p : b ≡ fit c m) where
   pub matching-unfit : not b ≡ true → (a : Answer) → a ≡ refusal unfit → record { answer = a; snapshot = record { marks = replicate maxMarks false } } ≡ matchingOf c m
@@ -150,6 +150,6 @@ module _ (c : FlatChart) (m : Marking) (b : Bool) (p : b ≡ fit c m) where
         runs =
             let l : c .count ≤ maxEvents = matching-few in
             p₄ ∙ rw (p₃, p₂, p₁, open-same, answered-same)
-            (four-runs (c .count) maxMarks (each (c .count) (isOpen c m)) (each (c .count) (has (m .executed))) (each (c .count) (has (m .included)))
+            (four-runs false (c .count) maxMarks (each (c .count) (isOpen c m)) (each (c .count) (has (m .executed))) (each (c .count) (has (m .included)))
             (each (c .count) (λ e. not (has (m .pending) e))) (length-each (c .count) (isOpen c m)) (length-each (c .count) (has (m .executed)))
             (length-each (c .count) (has (m .included))) (length-each (c .count) (λ e. not (has (m .pending) e))) (omega arith))

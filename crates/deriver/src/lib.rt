@@ -2,7 +2,7 @@
 ghost use mathlib.Core.Path.{_≡_};
 ghost use Prim.Native.Nat.{_*_, _≤_};
 ghost use lib.ListN.{length};
-ghost use Rattle.paper.specs.Limits.{maxEvents, maxRules, bookHeader};
+ghost use Rattle.paper.specs.Limits.{maxEvents, maxRules, maxConditions, bookHeader};
 ghost use Rattle.graph.specs.Chart.{chartOf};
 ghost use Rattle.book.specs.ImageOf.{headerBytes};
 ghost use Rattle.general.specs.Writing.{Wrote};
@@ -37,22 +37,37 @@ pub struct Matched {
     pub snapshot: Snapshot,
 }
 
-// The counts of a book of n events, and where its parts lie.
+// "Header, eight 32-bit numbers": the counts, and where the parts lie.
+pub fn put_counts(
+    room: &mut [u8],
+    stages: u32,
+    marks: u32,
+    rules: u32,
+    conditions: u32,
+    words: u32,
+) -> usize
+    requires { ⌜ (rules ≤ maxRules) × (conditions ≤ maxConditions) × (bookHeader ≤ length (now room)) ⌝ }
+    ensures { λ r. ⌜ Wrote (now (room .entry)) 0 (headerBytes stages marks rules conditions words) r (now (room .exit)) ⌝ }
+{
+    let records = BOOK_HEADER + RULE_SIZE * rules as usize;
+    let texts = records + CONDITION_SIZE * conditions as usize;
+    wire::put32(room, STAGE_COUNT_AT, stages);
+    wire::put32(room, MARK_COUNT_AT, marks);
+    wire::put32(room, RULE_COUNT_AT, rules);
+    wire::put32(room, CONDITION_COUNT_AT, conditions);
+    wire::put32(room, WORD_COUNT_AT, words);
+    wire::put32(room, RULES_OFFSET_AT, BOOK_HEADER as u32);
+    wire::put32(room, CONDITIONS_OFFSET_AT, records as u32);
+    wire::put32(room, WORDS_OFFSET_AT, texts as u32);
+    BOOK_HEADER
+}
+
+// The header of the derived book of n events.
 pub fn put_header(room: &mut [u8], n: u32, rules: u32, words: u32) -> usize
     requires { ⌜ (n ≤ maxEvents) × (rules ≤ maxRules) × (bookHeader ≤ length (now room)) ⌝ }
     ensures { λ r. ⌜ Wrote (now (room .entry)) 0 (headerBytes n (4 * n) rules n words) r (now (room .exit)) ⌝ }
 {
-    let conditions = BOOK_HEADER + RULE_SIZE * rules as usize;
-    let texts = conditions + CONDITION_SIZE * n as usize;
-    wire::put32(room, STAGE_COUNT_AT, n);
-    wire::put32(room, MARK_COUNT_AT, 4 * n);
-    wire::put32(room, RULE_COUNT_AT, rules);
-    wire::put32(room, CONDITION_COUNT_AT, n);
-    wire::put32(room, WORD_COUNT_AT, words);
-    wire::put32(room, RULES_OFFSET_AT, BOOK_HEADER as u32);
-    wire::put32(room, CONDITIONS_OFFSET_AT, conditions as u32);
-    wire::put32(room, WORDS_OFFSET_AT, texts as u32);
-    BOOK_HEADER
+    put_counts(room, n, 4 * n, rules, n, words)
 }
 
 // The whole book, run behind run.

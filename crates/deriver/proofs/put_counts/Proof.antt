@@ -1,14 +1,14 @@
--- `deriver::put_header` meets its contract. Assumes nothing.
+-- `deriver::put_counts` meets its contract. Assumes nothing.
 use Rattle.deriver.specs.Deriving.{header-wrote}
 use borrow.Author.Needs.{needs}
-use Rattle.deriver.proofs.put_header.Statement.{statement}
-use Rattle.deriver.proofs.put_header.Tie as tie
+use Rattle.deriver.proofs.put_counts.Statement.{statement}
+use Rattle.deriver.proofs.put_counts.Tie as tie
 
-pub put-header-spec : {M : Type 1} → statement M
-put-header-spec =
+pub put-counts-spec : {M : Type 1} → statement M
+put-counts-spec =
     tie.close
     (tie.spec
-    (λ c. search needs) (λ c. search needs) (λ c. search needs) (λ c. search needs) (λ c κs. search needs) (λ c. search needs) (λ c κs. search needs)
+    (λ c. search needs) (λ c. search needs) (λ c. search needs) (λ c. search needs) (λ c κs. search needs) (λ c κs. search needs)
     (λ c κs. search needs) (λ c κs. search needs) (λ c κs. search needs) (λ c. search needs) (λ c κs. search needs) (λ c. search needs)
     (λ c κs. search needs) (λ c. search needs) (λ c κs. search needs) (λ c. search needs)
     (λ c. header-wrote _ _ _ _ _
