@@ -40,7 +40,7 @@ turned : (x y : Bool) → x ≡ y → not x ≡ not y
 turned x y = ap not
 
 module _ (c : FlatChart) (fit : Fit c) (m : Marking) (e : ℕ) (he : e < c .count) where
-  abbrev next : Marking
+  abbrev pub next : Marking
   next = after c m e
 
   -- ---- the next marking, event by event
@@ -59,10 +59,10 @@ module _ (c : FlatChart) (fit : Fit c) (m : Marking) (e : ℕ) (he : e < c .coun
 
   -- ---- what fires in the next marking's snapshot has written it
 
-  abbrev Fired : Rule → Bool
+  abbrev pub Fired : Rule → Bool
   Fired x = triggered (markOf c m) e (x .trigger) (markOf c next) && allowed (textOf (derivedBook c)) (x .sense) (markOf c next)
 
-  abbrev Writes : Rule → Type 0
+  abbrev pub Writes : Rule → Type 0
   Writes x = Fired x ≡ true → markOf c next (x .target) ≡ x .effect
 
   -- a rule on a completion has written if it is on e's
@@ -70,7 +70,7 @@ module _ (c : FlatChart) (fit : Fit c) (m : Marking) (e : ℕ) (he : e < c .coun
   unfolding triggered allowed
   on-wrote d b k w f = w (eqb-true d e (both (eqb d e) true f .0))
 
-  all-wrote : Parts c Writes
+  pub all-wrote : Parts c Writes
   unfolding triggered allowed inclusion responding answering
   all-wrote =
       record {
@@ -95,7 +95,7 @@ module _ (c : FlatChart) (fit : Fit c) (m : Marking) (e : ℕ) (he : e < c .coun
 
   -- ---- and what no firing rule targets is as it was
 
-  abbrev Idle : ℕ → Rule → Type 0
+  abbrev pub Idle : ℕ → Rule → Type 0
   Idle k x = x .target ≡ k → Fired x ≡ false
 
   -- a rule on e's completion fires
@@ -128,7 +128,7 @@ module _ (c : FlatChart) (fit : Fit c) (m : Marking) (e : ℕ) (he : e < c .coun
   unfolding triggered allowed
   idle-stage f h p = contra (not-false (holds (markOf c next) (textOf (derivedBook c) f)) (p .closed f h refl)) (p .opened f h refl)
 
-  stayed : (k : ℕ) → Parts c (Idle k) → markOf c next k ≡ markOf c m k
+  pub stayed : (k : ℕ) → Parts c (Idle k) → markOf c next k ≡ markOf c m k
   stayed k p =
       let n : ℕ = c .count in
       cases (ltb k n) (λ x. idle-stage k (ltb-true k n x) p)
@@ -147,7 +147,7 @@ module _ (c : FlatChart) (fit : Fit c) (m : Marking) (e : ℕ) (he : e < c .coun
           rw q at (g (k - base) (omega arith) (rw q p))
 
   -- a rule that does not count for e waits for another completion, so it does not fire
-  uncounted-idle : (x : Rule) → counted e (x .trigger) ≡ false → Fired x ≡ false
+  pub uncounted-idle : (x : Rule) → counted e (x .trigger) ≡ false → Fired x ≡ false
   unfolding counted triggered
   uncounted-idle x h = go (x .trigger) h
     where

@@ -23,24 +23,24 @@ use Rattle.agreement.specs.Matching.{match-executed, match-included, mat
 
 -- ---- what the words do
 
-eval-append : (s : Snap) (k l : List ℕ) (st : List Bool) → eval s (k ++ l) st ≡ eval s l (eval s k st)
+pub eval-append : (s : Snap) (k l : List ℕ) (st : List Bool) → eval s (k ++ l) st ≡ eval s l (eval s k st)
 unfolding eval
 eval-append s [] l st = refl
 eval-append s (w ∷ k) l st = eval-append s k l (push (s w) w st)
 
-push-mark : (v : Bool) (w : ℕ) (st : List Bool) → w < andWord → push v w st ≡ v ∷ st
+pub push-mark : (v : Bool) (w : ℕ) (st : List Bool) → w < andWord → push v w st ≡ v ∷ st
 unfolding push
 push-mark v w st h = rw (ne-eqb w andWord (λ e. omega arith), ne-eqb w orWord (λ e. omega arith), ne-eqb w notWord (λ e. omega arith))
 
-push-not : (v a : Bool) (st : List Bool) → push v notWord (a ∷ st) ≡ not a ∷ st
+pub push-not : (v a : Bool) (st : List Bool) → push v notWord (a ∷ st) ≡ not a ∷ st
 unfolding push top1
 push-not v a st = refl
 
-push-or : (v a b : Bool) (st : List Bool) → push v orWord (a ∷ (b ∷ st)) ≡ (b || a) ∷ st
+pub push-or : (v a b : Bool) (st : List Bool) → push v orWord (a ∷ (b ∷ st)) ≡ (b || a) ∷ st
 unfolding push top2
 push-or v a b st = refl
 
-push-and : (v a b : Bool) (st : List Bool) → push v andWord (a ∷ (b ∷ st)) ≡ (b && a) ∷ st
+pub push-and : (v a b : Bool) (st : List Bool) → push v andWord (a ∷ (b ∷ st)) ≡ (b && a) ∷ st
 unfolding push top2
 push-and v a b st = refl
 

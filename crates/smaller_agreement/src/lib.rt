@@ -1,0 +1,1 @@
+// Full against smaller derived book: theorems alone.
