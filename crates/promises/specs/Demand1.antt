@@ -12,7 +12,7 @@ use Rattle.paper.specs.Answers.{granted, refusal}
 use Rattle.paper.specs.declared.Answer.{Answer}
 use Rattle.general.specs.Cases.{cases, coincide}
 use Rattle.graph.specs.Chart.{Fit, FitMarking, emptyChart}
-use Rattle.graph.specs.Tests.{fitChart}
+use Rattle.graph.specs.Tests.{fitChart, fit}
 use Rattle.graph.specs.Steps.{opening, executing, counting, finishing}
 use Rattle.graph.specs.Execution.{Executes, executes, executes-only, refused-kept, counts, count-refused, finish-refused}
 use Rattle.graph.specs.Opening.{Opens, opens, opens-only, Blocks, others-empty}
@@ -34,6 +34,8 @@ use Rattle.judge.specs.Checking.{Checked, checked, checked-is, checking, checke
 use Rattle.deriver.specs.Deriving.{derivedImage, derivingAnswer, derivedRoom}
 use Rattle.deriver.specs.Matching.{matchingOf}
 use Rattle.deriver.specs.declared.Matched.{Matched}
+use Rattle.smaller_deriver.specs.Calling.{smallerImage, noTable, derivingSmaller, smallerRoom}
+use Rattle.smaller_deriver.specs.declared.Smaller.{Smaller}
 use Rattle.runner.specs.Table.{Answered, answered, answered-is}
 use Rattle.runner.specs.Completing.{completing}
 use Rattle.runner.specs.Completion.{refusal-hands-back}
@@ -52,7 +54,7 @@ use Rattle.read_back.specs.declared.ReadBack.{ReadBack}
 use Rattle.mend.specs.Calling.{mending}
 use Rattle.mend.specs.Table.{Mends, mends, mends-only, Written, mend-written, Kept, mend-kept}
 use Rattle.promises.specs.Tables as table
-use Rattle.promises.specs.Tables.{Unfit, CountsOpen, counts-open, counts-only, Finishes, finishes, finishes-only, Derives, derives, derives-only}
+use Rattle.promises.specs.Tables.{Unfit, CountsOpen, counts-open, counts-only, Finishes, finishes, finishes-only, Derives, derives, derives-only, DerivesSmaller, derives-smaller, derives-smaller-only}
 use Rattle.promises.specs.Matching as matching
 use Rattle.promises.specs.Matching.{Matches, matches, matches-only, matched, matching-refused}
 
@@ -97,6 +99,23 @@ derive-granted c room e =
     (λ t. cases (leb (length (derivedImage c)) (length room)) (λ l. rw (t, l)) (λ l. let z = rw (t, l) at e in absurd (omega arith)))
     (λ t. let z = rw t at e in absurd (omega arith))
 
+-- the same of a smaller book, and a refusal's table
+pub smaller-refused : (c : FlatChart) (m : Marking) (room : List ℕ) → (derivingSmaller c m (length room) .answer .code ≡ 0 → ⊥)
+    → (derivingSmaller c m (length room) .table ≡ noTable) × (smallerRoom c m room ≡ room)
+unfolding derivingSmaller smallerRoom
+smaller-refused c m room n =
+    cases (fit c m)
+    (λ t. cases (leb (length (smallerImage c m)) (length room)) (λ l. absurd (rw (t, l) at n refl)) (λ l. rw (t, l) (refl, refl)))
+    (λ t. rw t (refl, refl))
+
+pub smaller-granted : (c : FlatChart) (m : Marking) (room : List ℕ) → derivingSmaller c m (length room) .answer .code ≡ 0
+    → smallerRoom c m room ≡ smallerImage c m ++ drop (length (smallerImage c m)) room
+unfolding derivingSmaller smallerRoom
+smaller-granted c m room e =
+    cases (fit c m)
+    (λ t. cases (leb (length (smallerImage c m)) (length room)) (λ l. rw (t, l)) (λ l. let z = rw (t, l) at e in absurd (omega arith)))
+    (λ t. let z = rw t at e in absurd (omega arith))
+
 -- ---- the demand, call by call: the answer is a row of the paper's table, no other answer is one, and what a refusal gives
 
 pub record Demand1 : Type 0 where
@@ -134,6 +153,13 @@ pub record Demand1 : Type 0 where
   pub deriveOnly : (c : FlatChart) (room : ℕ) (a : Answer) → Derives c room a → a ≡ derivingAnswer c room
   pub deriveGranted : (c : FlatChart) (room : List ℕ) → derivingAnswer c (length room) .code ≡ 0 → derivedRoom c room ≡ derivedImage c ++ drop (length (derivedImage c)) room
   pub deriveRefused : (c : FlatChart) (room : List ℕ) → (derivingAnswer c (length room) .code ≡ 0 → ⊥) → derivedRoom c room ≡ room
+  -- deriving a smaller book: 14, 15; the book is written, and room past it stays as it was; a refusal leaves the room as it was, and its table has 65,535 throughout
+  pub smaller : (c : FlatChart) (m : Marking) (room : ℕ) → DerivesSmaller c m room (derivingSmaller c m room)
+  pub smallerOnly : (c : FlatChart) (m : Marking) (room : ℕ) (r : Smaller) → DerivesSmaller c m room r → r ≡ derivingSmaller c m room
+  pub smallerGranted : (c : FlatChart) (m : Marking) (room : List ℕ) → derivingSmaller c m (length room) .answer .code ≡ 0
+      → smallerRoom c m room ≡ smallerImage c m ++ drop (length (smallerImage c m)) room
+  pub smallerRefused : (c : FlatChart) (m : Marking) (room : List ℕ) → (derivingSmaller c m (length room) .answer .code ≡ 0 → ⊥)
+      → (derivingSmaller c m (length room) .table ≡ noTable) × (smallerRoom c m room ≡ room)
   -- the check for a stage: 20 to 26, 29, 31; that stage's running order is written, and room past it stays as it was; a refusal leaves the room as it was
   pub check : (book : List ℕ) (stage room : ℕ) → Checked book stage room (checking book stage room)
   pub checkOnly : (book : List ℕ) (stage room : ℕ) (a : Answer) → Checked book stage room a → a ≡ checking book stage room
@@ -215,6 +241,10 @@ demand-1 =
       deriveOnly = λ c room a x. derives-only c room x;
       deriveGranted = derive-granted;
       deriveRefused = derive-refused;
+      smaller = derives-smaller;
+      smallerOnly = λ c m room r x. derives-smaller-only c m room x;
+      smallerGranted = smaller-granted;
+      smallerRefused = smaller-refused;
       check = checked;
       checkOnly = checked-is;
       checkGranted = λ book stage room e. granted-room book stage room e .0;
@@ -260,3 +290,7 @@ matching-determined c m r s = coincide
 pub derive-determined : (c : FlatChart) (room : List ℕ) (a b : Answer) (k l : List ℕ) → a ≡ derivingAnswer c (length room) → k ≡ derivedRoom c room → b ≡ derivingAnswer c (length room)
     → l ≡ derivedRoom c room → (a ≡ b) × (k ≡ l)
 derive-determined c room a b k l p q r s = (coincide p r, coincide q s)
+
+pub smaller-determined : (c : FlatChart) (m : Marking) (room : List ℕ) (r s : Smaller) (k l : List ℕ) → r ≡ derivingSmaller c m (length room) → k ≡ smallerRoom c m room
+    → s ≡ derivingSmaller c m (length room) → l ≡ smallerRoom c m room → (r ≡ s) × (k ≡ l)
+smaller-determined c m room r s k l p q t u = (coincide p t, coincide q u)

@@ -16,4 +16,6 @@ pub mod IncludeWins
 pub mod Stages
 pub mod ReadBack
 pub mod OneChart
+pub mod Smaller
+pub mod SmallerBooks
 pub mod Rows

@@ -7,7 +7,7 @@ use mathlib.Core.Logic.{inl}
 use native.Mathlib.Omega.{arith}
 use lib.ListN.{length, getD, set, replicate}
 use lib.Count.{trailingZeros}
-use Rattle.paper.specs.Limits.{maxEvents, maxMarks, conditionWanting, loopFound, orderUnfit, stageClosed}
+use Rattle.paper.specs.Limits.{maxEvents, maxMarks, noMark, conditionWanting, loopFound, orderUnfit, stageClosed}
 use Rattle.paper.specs.Limits as limit
 use Rattle.paper.specs.Answers.{answer, granted, refusal}
 use Rattle.paper.specs.declared.Answer.{Answer}
@@ -16,7 +16,7 @@ use Rattle.sets.specs.Set.{has}
 use Rattle.general.specs.Tables.{tabulate, zeros-at}
 use Rattle.graph.specs.Chart.{rolesOf, Fit, FitMarking}
 use Rattle.graph.specs.Tests.{rowSpill, spillAt, spillOf, rolesFrom, fitTables, fitChart, fitMarking, fit}
-use Rattle.graph.specs.Fitness.{tested-fit}
+use Rattle.graph.specs.Fitness.{tested-fit, fit-both}
 use Rattle.graph.specs.Overruled.{standingAt}
 use Rattle.graph.specs.Roles.{Permits, permits}
 use Rattle.graph.specs.Steps.{openWith, unmetOf, awaitedOf, afterWith, testing, stepping, steppingBy, executing, granting, finishing}
@@ -32,7 +32,7 @@ use Rattle.chart.specs.Examples.{wholeChart, groupChart, bothChart, bothReading
 use Rattle.chart.specs.Examples as examples
 use Rattle.book.specs.Text.{snapOf}
 use Rattle.general.specs.Lists.{flat}
-use Rattle.book.specs.Image.{stagesIn, rulesIn}
+use Rattle.book.specs.Image.{stagesIn, rulesIn, bookOf}
 use Rattle.book.specs.ImageOf.{image-length, book-of-image}
 use Rattle.book.specs.declared.Snapshot.{Snapshot}
 use Rattle.order_theory.specs.Order as Order
@@ -40,10 +40,14 @@ use Rattle.order_theory.specs.Order.{countedRules}
 use Rattle.rule_order.specs.Rules.{counted, netOf}
 use Rattle.rule_order.specs.Nets.{rulesOf}
 use Rattle.derived.specs.Derived.{derivedBook}
+use Rattle.smaller.specs.Smaller.{smallerBook}
+use Rattle.smaller.specs.Examples as smaller
+use Rattle.smaller.specs.Examples.{paperSmaller}
 use Rattle.deriver.specs.Deriving.{derivedImage, derivingAnswer}
 use Rattle.deriver.specs.Matching.{matchingMarks, matchingOf}
 use Rattle.deriver.specs.Examples.{paperChart, paperStart, paperBook, worth}
 use Rattle.deriver.specs.Examples as deriver
+use Rattle.smaller_deriver.specs.Calling.{smallerImage, derivingSmaller}
 use Rattle.listing.specs.Text.{listingText}
 use Rattle.listing.specs.Examples.{paperText, paper-listing}
 use Rattle.judge.specs.Checking.{checking}
@@ -62,6 +66,7 @@ use Rattle.promises.specs.Matching.{matched, marks-whole}
 use Rattle.promises.specs.Demand2.{derived-passes, stages-are, Alike, written, ordered, Demand2, demand-2}
 use Rattle.promises.specs.Demand1.{demand-1}
 use Rattle.promises.specs.ReadBack.{reads-back-as-promised}
+use Rattle.promises.specs.SmallerBooks.{writtenSmaller, granted-smaller}
 use Rattle.promises.specs.Looked.{fullChart, fullCompletion, full-granted, full-reaches}
 
 -- ---- P1 to P3, of what reading the paper's chart gives
@@ -108,6 +113,12 @@ module _ (r : Reading) where
     pub passes : (checking (written (r .chart) bytes) 0 (length room) ≡ granted) × (checking (written (r .chart) bytes) 1 (length room) ≡ granted)
     pub runs : OnBook (written (r .chart) bytes) (ordered (written (r .chart) bytes) room)
 
+  -- the smaller book that derive_smaller writes into `bytes` from the start marking, and its table: "cond 1 becomes `3 not 2 or`, the mark table 0 1 2 none 3 none none 4"
+  pub record BySmaller (bytes : List ℕ) : Type 0 where
+    pub derives : derivingSmaller (r .chart) (r .marking) (length bytes) .answer ≡ granted
+    pub book : bookOf (writtenSmaller (r .chart) (r .marking) bytes) ≡ paperSmaller
+    pub table : derivingSmaller (r .chart) (r .marking) (length bytes) .table ≡ 0 ∷ (1 ∷ (2 ∷ (noMark ∷ (3 ∷ (noMark ∷ (noMark ∷ (4 ∷ replicate 248 noMark)))))))
+
 pub record Rows : Type 0 where
   -- the chart of the paper, byte for byte, is the one that it describes, and its derived book is the paper's listing
   pub whole : reading wholeChart ≡ record { answer = granted; chart = paperChart; marking = paperStart }
@@ -124,10 +135,12 @@ pub record Rows : Type 0 where
   pub p6 : executing (pair none none (set none 1 1)) (marking 0 1 2) 1 0 ≡ granting (marking 2 1 2)
   -- "P7: group 0 with members 1, 2 is condition of 3: events 0 and 1 are conditions of 2."
   pub p7 : (reading groupChart .answer ≡ granted) × (reading groupChart .chart .conditions ≡ 0 ∷ (0 ∷ (3 ∷ replicate 61 0)))
-  -- "P8: node 3 includes that group, excludes node 1", by request (xii) an accepted chart: event 2 includes 0 and 1, excludes 0, and after it both are included
   -- request (ix): the paper's chart read back from its book; and of P8's chart the exclusions, of which no inclusion overrules one: there are none
   pub back : readingBack (derivedImage paperChart) ≡ readBack granted paperChart
   pub backBoth : readingBack (derivedImage (bothReading .chart)) .chart .excludes ≡ replicate maxEvents 0
+  -- request (xi): the paper's chart, given room for the 138 bytes of its smaller book
+  pub smaller : (bytes : List ℕ) → 138 ≤ length bytes → BySmaller (reading wholeChart) bytes
+  -- "P8: node 3 includes that group, excludes node 1", by request (xii) an accepted chart: event 2 includes 0 and 1, excludes 0, and after it both are included
   pub p8 : (reading bothChart ≡ bothReading) × (executing (bothReading .chart) (bothReading .marking) 2 0 ≡ granting (marking 4 0 7))
   -- "P9: one stage, one mark, "if not mark 0, set mark 0" alone: 25, place 0."
   pub p9 : checking p9 0 1 ≡ answer loopFound 0 0
@@ -167,6 +180,16 @@ paper-back = reads-back-as-promised .back paperChart paper-fit
 both-back : readingBack (derivedImage (bothReading .chart)) .chart .excludes ≡ replicate maxEvents 0
 unfolding bare standingAt tabulate
 both-back = ap (λ (r : ReadBack). r .chart .excludes) (reads-back-as-promised .back (bothReading .chart) both-fit)
+
+paper-marked : FitMarking (paperChart .count) paperStart
+unfolding fit fitChart fitMarking fitTables rolesFrom spillOf spillAt rowSpill
+paper-marked = fit-both paperChart paperStart refl .1
+
+paper-smaller : (bytes : List ℕ) → 138 ≤ length bytes → BySmaller (record { answer = granted; chart = paperChart; marking = paperStart }) bytes
+paper-smaller bytes h =
+    let b : length (smallerImage paperChart paperStart) ≡ 138 = image-length (smallerBook paperChart paperStart) ∙ rw (smaller.examples .book) in
+    let (g, w) = granted-smaller paperChart paperStart paper-fit paper-marked bytes (rw b h) in
+    record { derives = rw g; book = rw w (book-of-image (smallerBook paperChart paperStart) ∙ smaller.examples .book); table = rw g (smaller.examples .table) }
 
 -- ---- P1 to P3, computed on the chart that the bytes give
 
@@ -294,6 +317,7 @@ rows =
       p7 = (examples.examples .p7-granted, examples.examples .p7-conditions);
       back = paper-back;
       backBoth = both-back;
+      smaller = λ bytes h. subst (λ (r : Reading). BySmaller r bytes) (sym whole-is) (paper-smaller bytes h);
       p8 = (examples.examples .p8, p8-step);
       p9 = p9-loop;
       p10 = (p10-pass .0, p10-pass .1, p10-clash .0);

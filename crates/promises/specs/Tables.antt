@@ -1,7 +1,7 @@
--- The rows of the paper's table for counting, the finished test and deriving, and that each call answers exactly as they say. Assumes nothing.
+-- The rows of the paper's table for counting, the finished test, deriving and deriving a smaller book, and that each call answers exactly as they say. Assumes nothing.
 use Prim.Native.Nat.{ℕ, _^_, _≤_, _<_}
 use mathlib.Core.Path.{_≡_, sym, ap, ap₂, subst, _∙_}
-use mathlib.Core.Bool.{true, false, _&&_}
+use mathlib.Core.Bool.{true, false}
 use native.Mathlib.Omega.{arith}
 use lib.Dec.{eqb, leb, ltb}
 use lib.ListN.{length}
@@ -23,6 +23,9 @@ use Rattle.graph.specs.declared.Marking.{Marking}
 use Rattle.graph.specs.declared.steps.OpenCount.{OpenCount}
 use Rattle.graph.specs.declared.steps.Finished.{Finished}
 use Rattle.deriver.specs.Deriving.{derivedImage, derivingAnswer}
+use Rattle.smaller.specs.Staying.{markTable}
+use Rattle.smaller_deriver.specs.Calling.{smallerImage, refusingSmaller, derivingSmaller}
+use Rattle.smaller_deriver.specs.declared.Smaller.{Smaller}
 use Rattle.promises.specs.Numbers.{Number, number-one, number-tally}
 
 module _ (c : FlatChart) (m : Marking) where
@@ -143,3 +146,28 @@ unfolding derivingAnswer
 derives-only c room (isUnfit n) = rw (not-so (λ t. n (fit-chart c .0 t)))
 derives-only c room (isNarrow f l) = rw (fit-tested c f, lt-leb (length (derivedImage c)) room (omega arith))
 derives-only c room (isDerived f l) = rw (fit-tested c f, le-leb (length (derivedImage c)) room (omega arith))
+
+-- ---- deriving a smaller book
+
+module _ (c : FlatChart) (m : Marking) where
+  -- 14, then 15 with the bytes needed, each with 65,535 throughout in place of the table
+  pub data DerivesSmaller (room : ℕ) : Smaller → Type 0 where
+    isUnfit : Unfit c m → DerivesSmaller room (refusingSmaller (refusal unfit))
+    isNarrow : Fit c → FitMarking (c .count) m → room < length (smallerImage c m) → DerivesSmaller room (refusingSmaller (answer bookRoom (length (smallerImage c m)) 0))
+    isDerived : Fit c → FitMarking (c .count) m → length (smallerImage c m) ≤ room → DerivesSmaller room (record { answer = granted; table = markTable c m })
+
+  pub derives-smaller : (room : ℕ) → DerivesSmaller room (derivingSmaller c m room)
+  unfolding derivingSmaller
+  derives-smaller room =
+      cases (fit c m)
+      (λ ok. let (f, t) = fit-both c m ok in
+      cases (leb (length (smallerImage c m)) room)
+      (λ l. let h = leb-true (length (smallerImage c m)) room l in rw (ok, l) (isDerived f t (omega arith)))
+      (λ l. let h = leb-false (length (smallerImage c m)) room l in rw (ok, l) (isNarrow f t (omega arith))))
+      (λ z. rw z (isUnfit (untested c m z)))
+
+  pub derives-smaller-only : (room : ℕ) {r : Smaller} → DerivesSmaller room r → r ≡ derivingSmaller c m room
+  unfolding derivingSmaller
+  derives-smaller-only room (isUnfit n) = rw (not-so (λ ok. let (f, t) = fit-both c m ok in n f t))
+  derives-smaller-only room (isNarrow f t l) = rw (both-fit c m f t, lt-leb (length (smallerImage c m)) room (omega arith))
+  derives-smaller-only room (isDerived f t l) = rw (both-fit c m f t, le-leb (length (smallerImage c m)) room (omega arith))
