@@ -10,7 +10,8 @@ from ozhimka import (AND, BECOME_NO, BECOME_YES, CLEAR, COMPLETED, CONDITION, EX
                      OR, SET, Book, FlatChart, Marking, Rule, book_image, chart_image, on_completion, without_trigger)
 from protocol import (BAD, MAX_BODY, MAX_ROOM_BYTES, MAX_ROOM_NUMBERS, MAX_STEPS, back_request, bytes16, bytes32, check_request,
                       complete_request, count_request, derive_request, execute_request, finished_request, index_request, indexed_request,
-                      list_request, listing_request, matching_request, mend_request, open_request, read_request, replay_request, strike_request)
+                      list_request, listing_request, matching_request, mend_request, open_request, read_request, replay_request, smaller_request,
+                      strike_request)
 
 FREE = (NONE, 4)
 HUGE = 0xFFFFFFFF
@@ -253,7 +254,8 @@ def unfit_causes(rng):
     """Code 14 by each cause in each call that gives it; it comes before 10 to 13, 15 and 32."""
     start = Marking({0}, {1}, {0, 1, 2, 3})
     makers = (lambda c, m: execute_request(c, m, rng.choice((0, 3, 4, 64, HUGE)), rng.choice((0, 7, 8, HUGE))),
-              lambda c, m: open_request(c, m, rng.choice((0, 3, 4, 64, HUGE)))) + MARKING_CALLS
+              lambda c, m: open_request(c, m, rng.choice((0, 3, 4, 64, HUGE))),
+              lambda c, m: smaller_request(rng.choice((0, 31, 200000)), c, m)) + MARKING_CALLS
     for chart in unfit_flats(rng):
         fit = Marking({0}, {0}, {0}) if chart.count else model.empty_marking()  # so that the chart alone is unfit
         for maker in makers:
@@ -1185,11 +1187,11 @@ def bad_requests(rng):
     for length in (1, 5, 8):
         yield BAD, mend_request(0, 0, b'')[:length]
     yield plain(1), mend_request(0, 0, b'')
-    for operation in (b'\x00', b'\x10', b'\x13', b'\x20', b'\xff'):
+    for operation in (b'\x00', b'\x13', b'\x20', b'\xff'):
         yield BAD, operation
         yield BAD, operation + rng.randbytes(20)
     whole = (execute_request(chart, start, 0, 0), count_request(chart, start), finished_request(chart, start),
-             matching_request(chart, start), derive_request(100, chart), open_request(chart, start, 0))
+             matching_request(chart, start), derive_request(100, chart), open_request(chart, start, 0), smaller_request(100, chart, start))
     for body in whole:
         yield BAD, body[:-1]
         yield BAD, body[:1]
@@ -1222,9 +1224,11 @@ def request_limits(rng):
     """The longest rooms, order and body, what is just past the first two, and bytes behind the fields, which are not read."""
     chart, start, image = model.empty_chart(1), Marking(set(), set(), {0}), book_image(sound_small())
     yield GRANTED, derive_request(MAX_ROOM_BYTES, chart)
+    yield GRANTED, smaller_request(MAX_ROOM_BYTES, chart, start)
     yield GRANTED, check_request(MAX_ROOM_NUMBERS, 0, image)
     for past in (1, 65536, HUGE - MAX_ROOM_BYTES):
         yield BAD, derive_request(MAX_ROOM_BYTES + past, chart)
+        yield BAD, smaller_request(MAX_ROOM_BYTES + past, chart, start)
         yield BAD, check_request(MAX_ROOM_NUMBERS + past, 0, image)
         yield BAD, index_request(MAX_ROOM_BYTES + past, image)
         yield BAD, mend_request(MAX_ROOM_BYTES + past, 0, model.PAPER_CHART)
@@ -1250,7 +1254,7 @@ def request_limits(rng):
     yield BAD, complete_request(0, [True] + [False] * 255, order + [0], image)
     yield BAD, with_number32(complete_request(0, [True] + [False] * 255, [0, 2, 3], image), 37, HUGE)
     bodies = [make(chart, start) for make in (count_request, finished_request, matching_request)] \
-        + [execute_request(chart, start, 0, 0), open_request(chart, start, 0), derive_request(200, chart)]
+        + [execute_request(chart, start, 0, 0), open_request(chart, start, 0), derive_request(200, chart), smaller_request(200, chart, start)]
     for body in bodies:
         for behind in (1, 100):
             yield GRANTED, body + rng.randbytes(behind)
@@ -1674,6 +1678,157 @@ def largest_mends(rng):
     yield GRANTED, mend_request(25096, 0, chart_image(nodes, relations))
 
 
+# ---- smaller books
+
+def bytes_of_smaller(chart, start):
+    return len(book_image(model.smaller_book(chart, start)[0]))
+
+
+def of_smaller(chart, start, kept=None, more=0):
+    """A smaller book that is granted, in room just enough and so much more, with the marks meant to stay."""
+    table = model.smaller_book(chart, start)[1]
+    assert kept is None or [mark for mark, number in enumerate(table) if number != model.NO_MARK] == sorted(kept), (table, kept)
+    return GRANTED, smaller_request(bytes_of_smaller(chart, start) + more, chart, start)
+
+
+def around_room(chart, start):
+    """Room of every kind around what is needed; a byte less is refused and writes nothing."""
+    needed = bytes_of_smaller(chart, start)
+    for room in (0, 31, needed - 1):
+        yield plain(15, needed), smaller_request(room, chart, start)
+    for room in (needed, needed + 1000):
+        yield GRANTED, smaller_request(room, chart, start)
+
+
+def related(count, *pairs):
+    """A chart of these relations: (table, e, f) puts f into entry e."""
+    chart = model.empty_chart(count)
+    for table, e, f in pairs:
+        chart[table][e].add(f)
+    return chart
+
+
+CONDITIONS, RESPONSES, MILESTONES, INCLUDES, EXCLUDES = range(1, 6)  # places of a chart's tables
+
+
+def smaller_room_causes(rng):
+    """Code 15 and the room around what is needed: where nothing goes, some marks go, or everything does. Roles change nothing."""
+    chart, start = model.read_chart(model.PAPER_CHART)[1:]
+    named = with_roles(chart, {0: {0}, 1: range(8)})
+    assert model.smaller_book(named, start) == model.smaller_book(chart, start)
+    everyone = Marking(set(), set(), {0, 1, 2, 3})
+    ring = related(3, *[(table, e, (e + 1) % 3) for table in (CONDITIONS, RESPONSES, EXCLUDES) for e in range(3)])
+    for chart, start in ((chart, start), (named, start), (small_flat(), everyone), (small_flat(), Marking({0}, {3}, {0, 1})), (model.empty_chart(1), Marking(set(), set(), {0})),
+                         (model.empty_chart(5), Marking(set(), {2}, {0, 1, 2, 4})), (ring, Marking(set(), set(), {0, 1, 2}))):
+        yield from around_room(chart, start)
+    assert book_image(model.smaller_book(ring, Marking(set(), set(), {0, 1, 2}))[0]) == book_image(model.derived_book(ring))
+    for chart in (small_flat(), model.empty_chart(4)):  # unfit before short
+        for part in range(3):
+            beyond = Marking({0}, {1}, {0, 1})
+            beyond[part].add(4)
+            for room in (0, 100, 1000):
+                yield plain(14), smaller_request(room, chart, beyond)
+
+
+def mark_causes(rng):
+    """What keeps each mark: being a condition, an include, an exclude or a response, of oneself or another; not starting included, starting
+    pending; and nothing else: executed goes whatever the start marking says, and being a milestone, or having conditions, keeps nothing."""
+    for n, e, f in ((1, 0, 0), (2, 0, 1), (5, 4, 2), (64, 63, 0), (64, 62, 63)):
+        everyone, stages = set(range(n)), set(range(n))
+        for executed in (set(), {f}, everyone):
+            start = Marking(executed, set(), everyone)
+            yield of_smaller(model.empty_chart(n), start, stages)
+            yield of_smaller(related(n, (CONDITIONS, e, f)), start, stages | {n + f})
+            yield of_smaller(related(n, (MILESTONES, e, f)), start, stages)
+        start = Marking(set(), set(), everyone)
+        for table, first in ((RESPONSES, 3), (INCLUDES, 2), (EXCLUDES, 2)):
+            yield of_smaller(related(n, (table, e, f)), start, stages | {first * n + f})
+        yield of_smaller(related(n, (INCLUDES, e, f), (EXCLUDES, e, f)), start, stages | {2 * n + f})  # overruled, and it counts by its include
+        yield of_smaller(model.empty_chart(n), Marking(set(), {f}, everyone), stages | {3 * n + f})
+        yield of_smaller(model.empty_chart(n), Marking(set(), set(), everyone - {f}), stages | {2 * n + f})
+        yield of_smaller(model.empty_chart(n), Marking(everyone, everyone, set()), stages | {k * n + e for k in (2, 3) for e in everyone})
+        yield of_smaller(related(n, (RESPONSES, e, f), (EXCLUDES, e, f), (CONDITIONS, e, f)), Marking({f}, {f}, everyone - {f}),
+                         stages | {k * n + f for k in (1, 2, 3)})
+
+
+def clause_causes(rng):
+    """Texts by what is left of them: the first clause or not, whole clauses, second halves, clauses that became yes, and nothing, at the first
+    stage, at the last, between others, and at all of them."""
+    def kept_words(chart, start, event):
+        """The text of an event's condition, in the old marks; None if nothing is left."""
+        book, table = model.smaller_book(chart, start)
+        old = {number: mark for mark, number in enumerate(table) if number != model.NO_MARK}
+        setting = next(rule for rule in book.rules if rule.trigger == 0 and rule.target == event)
+        return [old.get(word, word) for word in model.text(book, setting.condition)] if setting.sense else None
+
+    n, everyone = 3, {0, 1, 2}
+    for own in (False, True):  # included 2 stays or goes
+        for inside in (False, True):  # included 0 stays or goes
+            for due in (False, True):  # answered 0 stays or goes
+                start = Marking(set(), {0} if due else set(), everyone - ({2} if own else set()) - ({0} if inside else set()))
+                condition = [2 * n, NOT, n, OR] if inside else [n]
+                milestone = ([2 * n, NOT, 3 * n, OR] if inside else [3 * n]) if due else []
+                for pairs, clauses in (([(CONDITIONS, 2, 0)], [condition]), ([(MILESTONES, 2, 0)], [milestone]),
+                                       ([(CONDITIONS, 2, 0), (MILESTONES, 2, 0)], [condition, milestone]), ([], [])):
+                    clauses = [clause for clause in [[2 * n + 2] if own else []] + clauses if clause]
+                    words = [word for place, clause in enumerate(clauses) for word in clause + [AND] * (place > 0)]
+                    assert kept_words(related(n, *pairs), start, 2) == (words or None)
+                    yield of_smaller(related(n, *pairs), start, more=rng.choice((0, 7)))
+    for without in ({0}, {2}, {4}, {1, 3}, {0, 4}, {1, 2, 3}, {0, 1, 2, 3, 4}, set()):  # stages of whose text nothing is left
+        chart, start = model.empty_chart(5), Marking(set(), set(), set(range(5)))
+        for e in set(range(5)) - without:
+            chart.conditions[e].add((e + 1) % 5)
+        book = model.smaller_book(chart, start)[0]
+        assert len(book.conditions) == 5 - len(without) and len([rule for rule in book.rules if rule.trigger == 0]) == 10 - len(without)
+        yield of_smaller(chart, start)
+    for e in (0, 3):  # several of each kind at one event, of which some lose a mark
+        chart = related(8, *[(table, e, f) for table in (CONDITIONS, MILESTONES) for f in range(8)], (EXCLUDES, 0, 1), (INCLUDES, 3, 5), (RESPONSES, 2, 4))
+        for start in (Marking(set(), set(), set(range(8))), Marking({1}, {3, 5, 7}, {0, 1, 2, 4, 5, 6}), Marking(set(), set(range(8)), set())):
+            yield from around_room(chart, start)
+
+
+def smaller_as_book_causes(rng):
+    """The smaller book in the calls that take a book: it passes the check, is no derived book unless nothing went, and completes a stage as the
+    full one does, with a stage that no rule clears, with a text without its first clause, and from a marking reached later."""
+    chart, start = model.read_chart(model.PAPER_CHART)[1:]
+    budget = related(4, (CONDITIONS, 1, 0), (RESPONSES, 0, 1), (MILESTONES, 2, 1), (EXCLUDES, 3, 2), (INCLUDES, 0, 3))
+    for chart, start, stages in ((chart, start, [0, 1, 0]), (budget, Marking(set(), set(), {0, 1, 2, 3}), [2, 0, 1, 3, 2, 0]),
+                                 (model.empty_chart(2), Marking(set(), set(), {0, 1}), [1, 0, 0])):
+        book, table = model.smaller_book(chart, start)
+        image, full = book_image(book), model.matching(chart, start)[1]
+        yield GRANTED, smaller_request(len(image), chart, start)
+        yield plain(33), back_request(image)
+        for stage in range(chart.count):
+            yield passing(book, stage)
+        index, snapshot = model.index_of(image), model.through_table(table, full)
+        yield GRANTED, index_request(len(index), image)
+        yield None, list_request(snapshot, stages, index, image)
+        for stage in stages:
+            yield None, complete_request(stage, snapshot, model.running_order(book, stage), image)
+            yield None, indexed_request(stage, snapshot, index, image)
+            snapshot = model.complete_indexed(image, index, snapshot, stage)[1]
+
+
+def largest_smaller(rng):
+    """64 events: with every relation, so that nothing goes and the book has 166,432 bytes; with every relation of each kind alone; with each kind but
+    one; and without any."""
+    everyone = set(range(64))
+    starts = (Marking(set(), set(), everyone), Marking(everyone, everyone, set()))
+    for chart in [random_flat(rng, 64, 1.0)] + [with_tables(kinds) for kinds in ((1,), (2,), (3,), (4,), (5,), (2, 3, 4, 5), (1, 3, 4, 5), (1, 2, 4, 5), (1, 2, 3), ())]:
+        for start in starts:
+            needed = bytes_of_smaller(chart, start)
+            yield plain(15, needed), smaller_request(needed - 1, chart, start)
+            yield GRANTED, smaller_request(needed, chart, start)
+    chart = with_tables((1, 2, 3, 5))
+    assert bytes_of_smaller(chart, starts[0]) == 166432
+    yield plain(15, 166432), smaller_request(49152, chart, starts[0])
+
+
+def with_tables(kinds):
+    """64 events with every relation of these tables."""
+    return related(64, *[(table, e, f) for table in kinds for e in range(64) for f in range(64)])
+
+
 # ---- the largest sizes
 
 def largest_chart(rng):
@@ -1862,6 +2017,7 @@ CAUSES = (header_causes, node_causes, group_causes, both_causes, accepted_charts
           loop_causes, stage_loop_causes, looping_stage_causes, whole_book_causes, clash_causes, order_causes, order_room_causes,
           pair_causes, index_room_causes, unfit_index_causes, indexed_causes, list_causes, list_order_causes, evaluated_causes,
           running_order_causes, firing_causes, bad_requests, request_limits, listing_causes, replay_causes, strike_causes,
-          unfit_record_causes, back_causes, mended_causes, mend_step_causes, mend_loop_causes, mend_room_causes)
+          unfit_record_causes, back_causes, mended_causes, mend_step_causes, mend_loop_causes, mend_room_causes,
+          smaller_room_causes, mark_causes, clause_causes, smaller_as_book_causes)
 LARGEST = (largest_charts, largest_derivings, largest_derived_book, largest_indexes, largest_lists, largest_hand_made,
-           completions_with_conditions, wide_conditions, record_limits, largest_mends)
+           completions_with_conditions, wide_conditions, record_limits, largest_mends, largest_smaller)

@@ -4,7 +4,7 @@ import ozhimka as model
 from ozhimka import AND, NONE, NOT, OR, Book, Marking, Rule
 from protocol import (FLAT_BYTES, back_request, check_request, complete_request, count_request, derive_request, execute_request,
                       finished_request, index_request, indexed_request, list_request, listing_request, matching_request, mend_request,
-                      open_request, read_request, replay_request, strike_request)
+                      open_request, read_request, replay_request, smaller_request, strike_request)
 
 
 def some(rng, population, chance):
@@ -779,6 +779,55 @@ def mendings(rng):
     yield rng.choice((mend_request(len(better), 0, better), read_request(better)))
 
 
+def smallers(rng):
+    """A chart and a start marking to the smaller book, in room around what is needed. Then both books through one sequence of completions, with
+    closed stages among them: the model's two sides must agree at each."""
+    count = rng.choice((1, 2, 3, 4, 5, 6, 8, 8, 13, 32, 64))
+    chart = random_flat(rng, count, rng.choice((0, 0.3 / count, 1 / count, 1 / count, 2 / count, 0.3)))
+    for table in model.tables(chart):
+        for e in range(count) if rng.random() < 0.2 else ():
+            table[e].clear()  # a kind that the chart has not
+    start = random_marking(rng, count)
+    if rng.random() < 0.6:
+        start = start._replace(included=set(range(count)), pending=some(rng, range(count), rng.choice((0, 0.2))))
+    book, table = model.smaller_book(chart, start)
+    image, full = model.book_image(book), model.derived_book(chart)
+    assert_smaller(full, book, table)
+    yield smaller_request(max(0, len(image) + rng.choice((0, 0, 0, -1, 1, 100, -len(image)))), chart, start)
+    yield from run_of_smaller(rng, chart, start, rng.choice((3, 6, 12) if count < 20 else (2, 4)))
+
+
+def assert_smaller(full, book, table):
+    """Never more marks, rules, conditions or words, every stage, and the same bytes where nothing goes."""
+    assert book.stages == full.stages and table[:full.stages] == list(range(full.stages)) and book.marks <= full.marks
+    assert all(len(some) <= len(every) for some, every in zip(book[2:], full[2:]))
+    assert [number for number in table if number != model.NO_MARK] == list(range(book.marks))
+    assert book.marks < full.marks or model.book_image(book) == model.book_image(full)
+
+
+def run_of_smaller(rng, chart, start, completions):
+    """Both books from the start marking; the requests are the smaller one's, and at times it is read back."""
+    (book, table), full = model.smaller_book(chart, start), model.derived_book(chart)
+    image, marking, n = model.book_image(book), start, chart.count
+    of_full = model.matching(chart, start)[1]
+    snapshot = model.through_table(table, of_full)
+    for _ in range(completions):
+        opened = model.open_events(chart, marking)
+        stage = rng.choice(opened) if opened and rng.random() < 0.8 else rng.randrange(n)
+        order = random_order(rng, book, stage) if len(book.rules) < 100 and rng.random() < 0.3 else model.running_order(book, stage)
+        answer, of_full = model.complete(model.book_image(full), model.running_order(full, stage), of_full, stage)
+        completed, after = model.complete(image, order, snapshot, stage)
+        if rng.random() < 0.5:
+            yield complete_request(stage, snapshot, order, image)
+        marking, snapshot = model.execute(chart._replace(roles=[set() for e in range(64)]), marking, stage, 0)[1], after
+        assert completed == answer and answer[0] in (0, 30) and of_full == model.matching(chart, marking)[1]
+        assert snapshot == model.through_table(table, of_full)  # stages and kept marks
+        assert all(of_full[mark] for mark in range(2 * n, 4 * n) if table[mark] == model.NO_MARK)  # included and answered read as yes
+        assert model.finished_by_marks(n, table, snapshot) == model.finished(chart, marking)[1]
+    if rng.random() < 0.1:
+        yield back_request(image)
+
+
 def badly_flagged(rng):
     """A chart of which some nodes have roles, and in the lower byte what a node or a group may not have."""
     nodes = random_nodes(rng, rng.randrange(1, 12), rng.choice((0, 0.6)))
@@ -814,10 +863,12 @@ def damaged_flats(rng):
     for _ in range(rng.choice((1, 1, 2))):
         places = rng.choice(((5, roles_at), (5, len(body) - 8), (roles_at, roles_at + 64), (roles_at + chart.count - 1, roles_at + 64)))
         body[rng.randrange(*places)] ^= 1 << rng.randrange(8)
-    body[0] = rng.choice((2, 3, 4, 5, 14))
+    body[0] = rng.choice((2, 3, 4, 5, 14, 16))
+    if body[0] == 16:
+        body[1:1] = (200000).to_bytes(4, 'little')
     yield bytes(body) if body[0] in (2, 14) else bytes(body[:-8])
 
 
 SMALL = (charts, wild_checks, wild_completions, circles, crowded_books, sound_books, sound_runs, indexes, lists, read_backs,
          damaged_charts, badly_flagged, mendings, damaged_books, listings)
-WIDE = (steps, derivings, side_by_side, damaged_flats, records)  # their requests carry a flat chart of 2,628 bytes
+WIDE = (steps, derivings, side_by_side, damaged_flats, records, smallers)  # their requests carry a flat chart of 2,628 bytes

@@ -2,7 +2,8 @@
 # The paper's calls in plain Python, written from the paper alone and slow on purpose: hold it beside the paper.
 #
 # Every call hands back its answer (code, place, other) first and its value after it. Sets are Python sets of numbers.
-# `model/ozhimka.py` alone runs the paper's settled examples; `model/ozhimka.py CHART` lists a chart's book.
+# `model/ozhimka.py` alone runs the paper's settled examples; `model/ozhimka.py CHART` lists a chart's book, and with `--small` before it the
+# smaller one.
 
 import functools
 import heapq
@@ -772,6 +773,89 @@ def read_back(image):
     return GRANTED, chart
 
 
+# ---- Smaller books
+
+NO_MARK = 65535  # in the table: a mark that is dropped, or that the full book has not
+
+
+def dropped_marks(chart, start):
+    """The marks of the full book that never matter."""
+    n, events = chart.count, range(chart.count)
+    executed = {n + e for e in events if not any(e in chart.conditions[f] for f in events)}
+    included = {2 * n + e for e in events if e in start.included and not any(e in chart.includes[f] or e in chart.excludes[f] for f in events)}
+    answered = {3 * n + e for e in events if e not in start.pending and not any(e in chart.responses[f] for f in events)}
+    return executed | included | answered
+
+
+def clauses_left(words, dropped):
+    """Of a text: the clauses that are left, each without its "and". The first is an included mark alone; any other has four words, that an
+    event is not included, or its second half."""
+    left = [] if words[0] in dropped else [words[:1]]
+    for at in range(1, len(words), 5):
+        included, _, second, _ = clause = words[at:at + 4]
+        if second in dropped:
+            continue  # it became yes
+        left.append([second] if included in dropped else clause)
+    return left
+
+
+def smaller_book(chart, start):
+    """The smaller book, and for each mark of the full one its new number, or none if it is dropped."""
+    full, dropped = derived_book(chart), dropped_marks(chart, start)
+    kept = [mark for mark in range(full.marks) if mark not in dropped]
+    renamed = {**{mark: number for number, mark in enumerate(kept)}, AND: AND, OR: OR, NOT: NOT}
+    conditions, words, numbers = [], [], {}
+    for c in range(len(full.conditions)):
+        left = clauses_left(text(full, c), dropped)
+        joined = [word for place, clause in enumerate(left) for word in clause + [AND] * (place > 0)]
+        if joined:
+            numbers[c] = len(conditions)
+            conditions.append((len(words), len(joined)))
+            words += [renamed[word] for word in joined]
+    rules = []
+    for rule in full.rules:
+        if rule.target in dropped:
+            continue
+        if rule.sense != NO_CONDITION and rule.condition not in numbers:
+            if rule.effect == CLEAR:
+                continue
+            rule = rule._replace(sense=NO_CONDITION, condition=0)
+        elif rule.sense != NO_CONDITION:
+            rule = rule._replace(condition=numbers[rule.condition])
+        rules.append(rule._replace(target=renamed[rule.target]))
+    return Book(full.stages, len(kept), rules, conditions, words), [renamed.get(mark, NO_MARK) for mark in range(full.marks)]
+
+
+def derive_smaller(chart, start, room):
+    """The answer, the room after the call, and the table of 256 new mark numbers."""
+    try:
+        refuse_unfit(chart, start)
+        book, table = smaller_book(chart, start)
+        image = book_image(book)
+        if len(room) < len(image):
+            raise Refused(15, len(image))
+    except Refused as refused:
+        return refused.answer, room, [NO_MARK] * 256
+    return GRANTED, image + room[len(image):], table + [NO_MARK] * (256 - len(table))
+
+
+def through_table(table, snapshot):
+    """A snapshot of the full book as the smaller one has it: the kept marks under their new numbers."""
+    smaller = [False] * 256
+    for mark, number in enumerate(table):
+        if number != NO_MARK:
+            smaller[number] = snapshot[mark]
+    return smaller
+
+
+def finished_by_marks(n, table, snapshot):
+    """The finished test on a snapshot of the smaller book of n events: none is included and not answered, with dropped marks read as yes."""
+    def reads(mark):
+        return table[mark] == NO_MARK or snapshot[table[mark]]
+
+    return not any(reads(2 * n + e) and not reads(3 * n + e) for e in range(n))
+
+
 # ---- Mending a damaged chart
 
 MEND_PARENT, MEND_FLAGS, MEND_LOOP, MEND_GROUP, MEND_RELATION = 1, 2, 3, 4, 5
@@ -828,6 +912,20 @@ def mend(image, chart_room, list_room):
 
 # ---- The program "book listing"
 
+def book_lines(book):
+    """The lines of a book without become triggers."""
+    lines = ['stages %d marks %d rules %d conditions %d words %d'
+             % (book.stages, book.marks, len(book.rules), len(book.conditions), len(book.words))]
+    for p, rule in enumerate(book.rules):
+        when = 'on %d ' % rule.number if rule.trigger == COMPLETED else '' if rule.sense == NO_CONDITION else \
+            '%s %d ' % ('if' if rule.sense == AS_WRITTEN else 'unless', rule.condition)
+        lines.append('%d %s%s %d' % (p, when, 'set' if rule.effect == SET else 'clear', rule.target))
+    names = {AND: 'and', OR: 'or', NOT: 'not'}
+    for c in range(len(book.conditions)):
+        lines.append('cond %d: %s' % (c, ' '.join(names.get(word, str(word)) for word in text(book, c))))
+    return '\n'.join(lines) + '\n'
+
+
 def listing(image):
     """What the program prints for the chart on its standard input."""
     answer, chart, start = read_chart(image[:25097])
@@ -836,17 +934,13 @@ def listing(image):
         answer, room = derive(chart, room)
     if answer != GRANTED:
         return 'refused %d %d %d\n' % answer
-    book = derived_book(chart)
-    lines = ['stages %d marks %d rules %d conditions %d words %d'
-             % (book.stages, book.marks, len(book.rules), len(book.conditions), len(book.words))]
-    for p, rule in enumerate(book.rules):
-        when = 'on %d' % rule.number if rule.trigger == COMPLETED else \
-            '%s %d' % ('if' if rule.sense == AS_WRITTEN else 'unless', rule.condition)
-        lines.append('%d %s %s %d' % (p, when, 'set' if rule.effect == SET else 'clear', rule.target))
-    names = {AND: 'and', OR: 'or', NOT: 'not'}
-    for c in range(len(book.conditions)):
-        lines.append('cond %d: %s' % (c, ' '.join(names.get(word, str(word)) for word in text(book, c))))
-    return '\n'.join(lines) + '\n'
+    return book_lines(derived_book(chart))
+
+
+def smaller_listing(image):
+    """The smaller book of a chart and its start marking, in the same lines."""
+    answer, chart, start = read_chart(image)
+    return 'refused %d %d %d\n' % answer if answer != GRANTED else book_lines(smaller_book(chart, start)[0])
 
 
 # ---- Settled examples
@@ -1132,6 +1226,53 @@ def mend_examples():
         assert mend(wrong, b'', b'') == ((code, 0, 0), 0, b'', b'')
 
 
+PAPER_SMALLER = '''stages 2 marks 5 rules 8 conditions 2 words 5
+0 on 0 clear 4
+1 on 0 set 2
+2 on 1 clear 3
+3 on 1 set 4
+4 if 0 set 0
+5 unless 0 clear 0
+6 if 1 set 1
+7 unless 1 clear 1
+cond 0: 3
+cond 1: 3 not 2 or
+'''
+
+
+def smaller_examples():
+    """The paper's chart: executed 1, included 1 and answered 0 go. Then a chart of which nothing is left but its stages, one of which nothing
+    goes, and each mark of a single event by what keeps it."""
+    answer, chart, start = read_chart(PAPER_CHART)
+    book, table = smaller_book(chart, start)
+    assert book_lines(book) == PAPER_SMALLER and table == [0, 1, 2, NO_MARK, 3, NO_MARK, NO_MARK, 4]
+    image = book_image(book)
+    assert len(image) == 138 and check_book(image, 1, [0] * 6) == (GRANTED, [2, 3, 4, 5, 6, 7])
+    assert derive_smaller(chart, start, bytes(140)) == (GRANTED, image + bytes(2), table + [NO_MARK] * 248)
+    assert derive_smaller(chart, start, bytes(137)) == ((15, 138, 0), bytes(137), [NO_MARK] * 256)
+    for unfit in ((chart, start._replace(executed={2})), (chart._replace(count=1), start), (chart._replace(count=0), start)):
+        assert derive_smaller(*unfit, bytes(200)) == ((14, 0, 0), bytes(200), [NO_MARK] * 256)
+    assert not finished_by_marks(2, table, through_table(table, matching(chart, start)[1]))
+
+    everyone = set(range(3))
+    book, table = smaller_book(empty_chart(3), Marking(set(), set(), everyone))
+    assert book == Book(3, 3, [without_trigger(NO_CONDITION, 0, SET, e) for e in range(3)], [], []) and table == [0, 1, 2] + [NO_MARK] * 9
+    for kinds in ((1, 2, 4), (1, 2, 5), (1, 2, 3, 4, 5)):  # condition, response and include or exclude: of every event by the next one
+        chart = empty_chart(3)
+        for e in range(3):
+            for kind in kinds:
+                chart[kind][e].add((e + 1) % 3)
+        for start in (Marking(set(), set(), everyone), Marking(everyone, everyone, set())):
+            assert smaller_book(chart, start) == (derived_book(chart), list(range(12)))
+    for start in (Marking({0}, set(), {0}), Marking(set(), set(), {0}), Marking(set(), {0}, {0}), Marking(set(), set(), set())):
+        for kind, mark in ((None, 0), (1, 1), (2, 3), (3, 0), (4, 2), (5, 2)):  # the mark that being one's own keeps
+            chart = empty_chart(1)
+            if kind:
+                chart[kind][0].add(0)
+            kept = {0, mark} | ({3} if start.pending else set()) | (set() if start.included else {2})
+            assert {old for old, number in enumerate(smaller_book(chart, start)[1]) if number != NO_MARK} == kept
+
+
 def orders_agree():
     """Small random books without a loop, also over all rules, get one running order from both functions that make it."""
     rng = random.Random(1)
@@ -1155,8 +1296,8 @@ def orders_agree():
 
 if __name__ == '__main__':
     if len(sys.argv) > 1:
-        with open(sys.argv[1], 'rb') as chart_file:
-            sys.stdout.write(listing(chart_file.read()))
+        with open(sys.argv[-1], 'rb') as chart_file:
+            sys.stdout.write((smaller_listing if sys.argv[1] == '--small' else listing)(chart_file.read()))
     else:
         settled_examples()
         role_examples()
@@ -1169,5 +1310,6 @@ if __name__ == '__main__':
         back_examples()
         both_examples()
         mend_examples()
+        smaller_examples()
         orders_agree()
         print('the settled examples hold')

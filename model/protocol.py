@@ -101,6 +101,10 @@ def back_request(image):
     return b'\x0f' + image
 
 
+def smaller_request(room, chart, marking):
+    return b'\x10' + bytes32(room) + flat_bytes(chart) + marking_bytes(marking)
+
+
 def mend_request(chart_room, list_room, image):
     return b'\x11' + bytes32(chart_room) + bytes32(list_room) + image
 
@@ -175,6 +179,8 @@ def line_for(body):
         return BAD if record is None else record_line(operation, body, record)
     if operation == 15:
         return back_line(body)
+    if operation == 16:
+        return smaller_line(body) if len(body) >= 5 + FLAT_BYTES + MARKING_BYTES else BAD
     if operation == 17:
         return mend_line(body) if len(body) >= 9 else BAD
     if operation == LISTING:
@@ -286,6 +292,14 @@ def record_line(operation, body, record):
 def back_line(body):
     answer, chart = model.read_back(body[1:])
     return line('back', answer, [chart.count] + [worth(table[e]) for e in range(chart.count) for table in model.tables(chart)])
+
+
+def smaller_line(body):
+    length = model.number32(body, 1)
+    if length > MAX_ROOM_BYTES:
+        return BAD
+    answer, room, table = model.derive_smaller(flat_at(body, 5), marking_at(body, 5 + FLAT_BYTES), bytes([FILL]) * length)
+    return line('smaller', answer, [zlib.adler32(room), zlib.adler32(b''.join(bytes16(number) for number in table))])
 
 
 def mend_line(body):

@@ -1,7 +1,9 @@
-// The Adler-32 sum of a room's first bytes, or of its first 16-bit numbers as two bytes each.
+// The Adler-32 sum of a room's first bytes, or of its first 16-bit numbers as two bytes each, or of a table of marks.
 ghost use Prim.Native.Nat.{_≤_, _<_};
+ghost use lib.ListN.{length};
 use crate::rooms::MAX_BYTES;
 use crate::rooms::MAX_NUMBERS;
+use paper::MAX_MARKS;
 
 const BASE: u32 = 65521;
 
@@ -53,8 +55,8 @@ pub fn of_bytes(bytes: &[u8; MAX_BYTES], n: usize) -> u64
     value(s)
 }
 
-pub fn of_numbers(numbers: &[u16; MAX_NUMBERS], n: usize) -> u64
-    requires { ⌜ n ≤ 10000 ⌝ }
+fn of_first(numbers: &[u16], n: usize) -> u64
+    requires { ⌜ n ≤ length (now numbers) ⌝ }
 {
     let mut s = Sums { low: 1, high: 0 };
     let mut i = 0;
@@ -63,4 +65,14 @@ pub fn of_numbers(numbers: &[u16; MAX_NUMBERS], n: usize) -> u64
         i += 1;
     }
     value(s)
+}
+
+pub fn of_numbers(numbers: &[u16; MAX_NUMBERS], n: usize) -> u64
+    requires { ⌜ n ≤ 10000 ⌝ }
+{
+    of_first(numbers, n)
+}
+
+pub fn of_table(table: &[u16; MAX_MARKS]) -> u64 {
+    of_first(table, MAX_MARKS)
 }

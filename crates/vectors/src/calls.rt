@@ -110,6 +110,24 @@ pub fn derive(body: &[u8], line: &mut [u8; LINE]) -> usize {
     show::number(line, at, adler::of_bytes(&room, n))
 }
 
+// The room's sum, then that of the table.
+pub fn derive_smaller(body: &[u8], line: &mut [u8; LINE]) -> usize {
+    if body.len() < FIELDS + 4 + FLAT + MARKING {
+        return show::bad_request(line);
+    }
+    let n = wire::u32_at(body, FIELDS) as usize;
+    if MAX_BYTES < n {
+        return show::bad_request(line);
+    }
+    let chart = fields::chart_at(body, FIELDS + 4);
+    let start = fields::marking_at(body, FIELDS + 4 + FLAT);
+    let mut room = [FILL; MAX_BYTES];
+    let smaller = rooms::derive_smaller(chart, start, &mut room, n);
+    let at = show::answer(line, b"smaller", smaller.answer);
+    let at = show::number(line, at, adler::of_bytes(&room, n));
+    show::number(line, at, adler::of_table(&smaller.table))
+}
+
 // The book is all that follows the room's size and the stage.
 pub fn check(body: &[u8], line: &mut [u8; LINE]) -> usize {
     if body.len() < FIELDS + 8 {

@@ -36,6 +36,7 @@ fn serve(body: &[u8], line: &mut [u8; LINE]) -> usize {
         13 => replays::strike(body, line),
         14 => calls::open_test(body, line),
         15 => calls::back(body, line),
+        16 => calls::derive_smaller(body, line),
         17 => mends::mend(body, line),
         18 => calls::list(body, line),
         _ => show::bad_request(line),

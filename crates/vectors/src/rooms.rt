@@ -3,9 +3,11 @@ ghost use Prim.Native.Nat.{_≤_};
 ghost use lib.ListN.{length};
 use book::Snapshot;
 use graph::FlatChart;
+use graph::Marking;
 use indexed::ListCompletion;
 use paper::Answer;
 use runner::Completion;
+use smaller_deriver::Smaller;
 
 // The longest room for a book or an index, in bytes, and for an order or a list, in numbers.
 pub const MAX_BYTES: usize = 200000;
@@ -28,6 +30,24 @@ pub fn derive(chart: FlatChart, room: &mut [u8; MAX_BYTES], n: usize) -> Answer
     requires { ⌜ n ≤ 200000 ⌝ }
 {
     derive_part(chart, room, n)
+}
+
+fn smaller_part(chart: FlatChart, start: Marking, room: &mut [u8], n: usize) -> Smaller
+    requires { ⌜ n ≤ length (now room) ⌝ }
+{
+    smaller_deriver::derive_smaller(chart, start, &mut room[..n])
+}
+
+// Derives the smaller book into the first n bytes.
+pub fn derive_smaller(
+    chart: FlatChart,
+    start: Marking,
+    room: &mut [u8; MAX_BYTES],
+    n: usize,
+) -> Smaller
+    requires { ⌜ n ≤ 200000 ⌝ }
+{
+    smaller_part(chart, start, room, n)
 }
 
 fn check_part(book: &[u8], stage: u32, room: &mut [u16], n: usize) -> Answer
