@@ -43,7 +43,7 @@ _Static_assert(sizeof own_chart == sizeof chart && sizeof own_marking == sizeof 
                    && sizeof(struct ozhimka_settled) == sizeof(struct settled)
                    && sizeof(struct ozhimka_indexed_completion) == sizeof(struct indexed)
                    && sizeof(struct ozhimka_list_completion) == sizeof(struct listed) && sizeof own_record == sizeof record
-                   && sizeof(struct ozhimka_mended) == sizeof(struct mended)
+                   && sizeof(struct ozhimka_mended) == sizeof(struct mended) && sizeof(struct ozhimka_smaller) == sizeof(struct smaller)
                    && sizeof(struct ozhimka_replayed) == sizeof(struct replayed) && sizeof(struct ozhimka_struck) == sizeof(struct step),
                "both sides pass as many bytes");
 
@@ -75,6 +75,7 @@ static union {
     struct listed listed;
     struct replayed replayed;
     struct mended mended;
+    struct smaller smaller;
 } plain_out;
 
 static union {
@@ -91,6 +92,7 @@ static union {
     struct ozhimka_replayed replayed;
     struct ozhimka_struck struck;
     struct ozhimka_mended mended;
+    struct ozhimka_smaller smaller;
 } own_out;
 
 static void plain_1(void) { plain_out.reading = plain_read_chart(image, image_length); }
@@ -157,6 +159,9 @@ static void plain_15(void) { plain_out.open_test = plain_open_test(&chart, marki
 static void own_15(void) { own_out.open_test = ozhimka_open_test(&own_chart, own_marking, event); }
 static void plain_16(void) { plain_out.read_back = plain_read_back(book, book_length); }
 static void own_16(void) { own_out.read_back = ozhimka_read_back(book, book_length); }
+
+static void plain_18(void) { plain_out.smaller = plain_derive_smaller(&chart, marking, room, BOOK_BYTES); }
+static void own_18(void) { own_out.smaller = ozhimka_derive_smaller(&own_chart, own_marking, room, BOOK_BYTES); }
 
 // The list goes into the room behind the chart's.
 static void plain_17(void) { plain_out.mended = plain_mend(image, image_length, room, CHART_BYTES, room + CHART_BYTES, sizeof room - CHART_BYTES); }
@@ -260,6 +265,7 @@ static bool same_strike(void)
     return same_marking(&plain->marking, &own->marking) && plain->conditions == own->conditions && plain->milestones == own->milestones;
 }
 
+static bool same_smaller(void) { return memcmp(plain_out.smaller.table, own_out.smaller.table, sizeof own_out.smaller.table) == 0; }
 static bool same_mended(void) { return plain_out.mended.entries == own_out.mended.entries; }
 
 struct call {
@@ -276,6 +282,7 @@ static const struct call calls[] = {
     {"finished", plain_4, NULL, own_4, same_finish},
     {"matching", plain_5, NULL, own_5, same_snapshot},
     {"derive", plain_6, NULL, own_6, same_answer},
+    {"derive_smaller", plain_18, NULL, own_18, same_smaller},
     {"read_back", plain_16, NULL, own_16, same_read_back},
     {"check", plain_7, lean_7, own_7, same_answer},
     {"complete", plain_8, lean_8, own_8, same_snapshot},
@@ -283,7 +290,7 @@ static const struct call calls[] = {
     {"complete_indexed", plain_10, lean_10, own_10, same_indexed},
 };
 
-enum { CALLS = sizeof calls / sizeof calls[0], CHECK = 8, LAST = CALLS - 1 };
+enum { CALLS = sizeof calls / sizeof calls[0], CHECK = 9, LAST = CALLS - 1 };
 
 static const struct call list_call = {"complete_list", plain_11, lean_11, own_11, same_list},
                          list_in_turn = {"complete_indexed, 256 calls", plain_12, lean_12, own_12, same_list};

@@ -3,7 +3,8 @@
 
 #include <string.h>
 
-enum { NO_PARENT = 65535, MAX_BOOK = 167968, MAX_NODES = 128, MAX_RELATIONS = 4096, MAX_EVENTS = 64, MAX_ROLES = 8, FLAGS_BYTE = 256 };
+enum { NO_PARENT = 65535, NO_MARK = 65535 };
+enum { MAX_BOOK = 167968, MAX_NODES = 128, MAX_RELATIONS = 4096, MAX_EVENTS = 64, MAX_ROLES = 8, FLAGS_BYTE = 256 };
 
 // ---- reading a chart
 
@@ -502,6 +503,146 @@ struct answer plain_derive(const struct flat_chart *chart, uint8_t *room, size_t
         at = put_clauses(at, chart->milestones[e], 2 * n, 3 * n);
     }
     return granted;
+}
+
+// ---- deriving the smaller book
+
+// The events whose executed, included and answered marks stay.
+struct staying {
+    uint64_t executed, included, answered;
+};
+
+static struct staying staying_of(const struct flat_chart *chart, struct marking start)
+{
+    uint64_t all = chart->count == 64 ? ~(uint64_t)0 : only(chart->count) - 1;
+    struct staying staying = {0, all & ~start.included, start.pending};
+    for (uint32_t e = 0; e < chart->count; e++) {
+        staying.executed |= chart->conditions[e];
+        staying.included |= chart->includes[e] | chart->excludes[e];
+        staying.answered |= chart->responses[e];
+    }
+    return staying;
+}
+
+// Gives the marks that stay their new numbers, in a table of no numbers, and says how many there are.
+static uint32_t number_marks(uint16_t *table, uint32_t n, struct staying staying)
+{
+    const uint64_t sorts[3] = {staying.executed, staying.included, staying.answered};
+    uint32_t next = 0;
+    while (next < n) {
+        table[next] = (uint16_t)next;
+        next++;
+    }
+    for (uint32_t sort = 0; sort < 3; sort++)
+        for (uint64_t left = sorts[sort]; left != 0; left &= left - 1)
+            table[n * (sort + 1) + lowest(left)] = (uint16_t)next++;
+    return next;
+}
+
+// How many words are left of the text of event e. A condition's executed mark always stays, so only a milestone's clause can become yes.
+static uint32_t words_left(const struct flat_chart *chart, const struct staying *staying, uint32_t e)
+{
+    uint64_t conditions = chart->conditions[e], milestones = chart->milestones[e] & staying->answered;
+    uint32_t own = staying->included >> e & 1, clauses = size(conditions) + size(milestones);
+    uint32_t whole = size(conditions & staying->included) + size(milestones & staying->included);
+    return own + clauses == 0 ? 0 : 2 * (own + clauses) - 1 + 3 * whole;
+}
+
+// The rules on completion of e. What it includes, excludes or has as a response keeps its mark, so only the two rules on its own marks can go.
+static uint8_t *put_completion_left(uint8_t *at, const struct flat_chart *chart, const uint16_t *table, uint32_t e)
+{
+    uint32_t n = chart->count;
+    const uint16_t *executed = table + n, *included = table + 2 * n, *answered = table + 3 * n;
+    for (uint64_t left = chart->includes[e] | chart->excludes[e]; left != 0; left &= left - 1) {
+        uint32_t f = lowest(left);
+        at = put_rule(at, COMPLETED, NO_CONDITION, chart->includes[e] >> f & 1, e, 0, included[f]);
+    }
+    for (uint64_t left = chart->responses[e]; left != 0; left &= left - 1)
+        at = put_rule(at, COMPLETED, NO_CONDITION, CLEAR, e, 0, answered[lowest(left)]);
+    if ((chart->responses[e] & only(e)) == 0 && answered[e] != NO_MARK)
+        at = put_rule(at, COMPLETED, NO_CONDITION, SET, e, 0, answered[e]);
+    return executed[e] == NO_MARK ? at : put_rule(at, COMPLETED, NO_CONDITION, SET, e, 0, executed[e]);
+}
+
+// What is left of the clauses on these events; the first of the text has no "and" behind it.
+static uint8_t *put_clauses_left(uint8_t *at, const uint8_t *text, uint64_t set, const uint16_t *included, const uint16_t *second)
+{
+    for (; set != 0; set &= set - 1) {
+        uint32_t f = lowest(set);
+        bool first = at == text;
+        at = included[f] == NO_MARK ? put16(at, second[f]) : put16(put16(put16(put16(at, included[f]), NOT), second[f]), OR);
+        if (!first)
+            at = put16(at, AND);
+    }
+    return at;
+}
+
+static uint8_t *put_text_left(uint8_t *at, const struct flat_chart *chart, const struct staying *staying, const uint16_t *table, uint32_t e)
+{
+    const uint16_t *executed = table + chart->count, *included = executed + chart->count, *answered = included + chart->count;
+    uint8_t *text = at;
+    if (included[e] != NO_MARK)
+        at = put16(at, included[e]);
+    at = put_clauses_left(at, text, chart->conditions[e], included, executed);
+    return put_clauses_left(at, text, chart->milestones[e] & staying->answered, included, answered);
+}
+
+// Rules, conditions and words.
+static void count_left(const struct flat_chart *chart, const struct staying *staying, uint32_t *counts)
+{
+    for (uint32_t e = 0; e < chart->count; e++) {
+        uint32_t words = words_left(chart, staying, e);
+        counts[0] += size(chart->includes[e] | chart->excludes[e]) + size(chart->responses[e] | (staying->answered & only(e)))
+                     + (staying->executed >> e & 1) + 1 + (words != 0);
+        counts[1] += words != 0;
+        counts[2] += words;
+    }
+}
+
+static void write_smaller(const struct flat_chart *chart, const struct staying *staying, const uint16_t *table, const uint32_t *header, uint8_t *at)
+{
+    uint32_t n = chart->count;
+    for (uint32_t i = 0; i < 8; i++)
+        at = put32(at, header[i]);
+    for (uint32_t e = 0; e < n; e++)
+        at = put_completion_left(at, chart, table, e);
+    for (uint32_t e = 0, condition = 0; e < n; e++)
+        if (words_left(chart, staying, e) == 0) {
+            at = put_rule(at, NO_TRIGGER, NO_CONDITION, SET, 0, 0, e);
+        } else {
+            at = put_rule(at, NO_TRIGGER, AS_WRITTEN, SET, 0, condition, e);
+            at = put_rule(at, NO_TRIGGER, NEGATED, CLEAR, 0, condition++, e);
+        }
+    for (uint32_t e = 0, start = 0; e < n; e++) {
+        uint32_t words = words_left(chart, staying, e);
+        if (words != 0)
+            at = put32(put32(at, start), words);
+        start += words;
+    }
+    for (uint32_t e = 0; e < n; e++)
+        at = put_text_left(at, chart, staying, table, e);
+}
+
+struct smaller plain_derive_smaller(const struct flat_chart *chart, struct marking start, uint8_t *room, size_t length)
+{
+    struct smaller smaller = {.answer = granted};
+    memset(smaller.table, 0xFF, sizeof smaller.table);
+    if (!fit(chart, start)) {
+        smaller.answer = refused(14, 0, 0);
+        return smaller;
+    }
+    struct staying staying = staying_of(chart, start);
+    uint32_t counts[3] = {0, 0, 0};
+    count_left(chart, &staying, counts);
+    uint32_t conditions_at = 32 + 10 * counts[0], words_at = conditions_at + 8 * counts[1], needed = words_at + 2 * counts[2];
+    if (length < needed) {
+        smaller.answer = refused(15, needed, 0);
+        return smaller;
+    }
+    uint32_t n = chart->count, marks = number_marks(smaller.table, n, staying);
+    const uint32_t header[8] = {n, marks, counts[0], counts[1], counts[2], 32, conditions_at, words_at};
+    write_smaller(chart, &staying, smaller.table, header, room);
+    return smaller;
 }
 
 // ---- reading a book

@@ -43,6 +43,12 @@ struct mended {
     uint32_t entries;
 };
 
+// By the numbers of the full book's marks: the numbers in the smaller book, or none.
+struct smaller {
+    struct answer answer;
+    uint16_t table[256];
+};
+
 // What blocks an event, with 12 and 13; else two empty sets.
 struct open_test {
     struct answer answer;
@@ -104,6 +110,7 @@ struct open_count plain_count_open(const struct flat_chart *chart, struct markin
 struct finish plain_finished(const struct flat_chart *chart, struct marking marking);
 struct settled plain_matching(const struct flat_chart *chart, struct marking marking);
 struct answer plain_derive(const struct flat_chart *chart, uint8_t *room, size_t length);
+struct smaller plain_derive_smaller(const struct flat_chart *chart, struct marking start, uint8_t *room, size_t length);
 struct read_back plain_read_back(const uint8_t *image, size_t length);
 struct answer plain_check(const uint8_t *image, size_t length, uint32_t stage, uint16_t *room, size_t count);
 struct settled plain_complete(const uint8_t *image, size_t length, const uint16_t *order, size_t count, struct snapshot snapshot,

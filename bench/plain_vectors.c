@@ -283,6 +283,24 @@ static bool on_record(int operation, const uint8_t *at, size_t length)
     return true;
 }
 
+static bool smaller(const uint8_t *at, size_t length)
+{
+    if (length < 4 + FLAT + MARKING || number(at, 4) > MAX_BYTES)
+        return false;
+    size_t bytes = number(at, 4);
+    struct flat_chart chart = flat_at(at + 4);
+    uint8_t *room = filled(bytes), table[512];
+    struct smaller smaller = plain_derive_smaller(&chart, marking_at(at + 4 + FLAT), room, bytes);
+    for (size_t m = 0; m < 256; m++) {
+        table[2 * m] = (uint8_t)smaller.table[m];
+        table[2 * m + 1] = (uint8_t)(smaller.table[m] >> 8);
+    }
+    say("smaller", smaller.answer);
+    printf(" %" PRIu32 " %" PRIu32, adler(room, bytes, 1), adler(table, sizeof table, 1));
+    free(room);
+    return true;
+}
+
 static bool mend(const uint8_t *at, size_t length)
 {
     if (length < 8 || number(at, 4) > MAX_BYTES || number(at + 4, 4) > MAX_BYTES)
@@ -384,6 +402,8 @@ static bool serve(const uint8_t *at, size_t length)
     case 15:
         read_back(at + 1, length - 1);
         return true;
+    case 16:
+        return smaller(at + 1, length - 1);
     case 17:
         return mend(at + 1, length - 1);
     case LISTING:

@@ -1,6 +1,6 @@
 // Tries on the library what the header says of null pointers, of a book's length, of roles, of a chart's tables, of stages, of the index, of
-// lists, of the rules evaluated, of what blocks an event, of records, of reading a book back, of mending, of the words for each code, and of
-// the stack.
+// lists, of the rules evaluated, of what blocks an event, of records, of reading a book back, of smaller books, of mending, of the words for
+// each code, and of the stack.
 // Prints what does not hold; exit status 0 if nothing, else 1. Wants POSIX contexts, to run a call on a stack that was painted before.
 #define _XOPEN_SOURCE 700
 #include "ozhimka.h"
@@ -73,6 +73,7 @@ static void count_open(void) { order[0] = (uint16_t)ozhimka_count_open(&reading.
 static void finished(void) { settled.snapshot.marks[0] = ozhimka_finished(&reading.chart, reading.marking).yes; }
 static void matching(void) { settled = ozhimka_matching(&reading.chart, reading.marking); }
 static void derive(void) { settled.answer = ozhimka_derive(&reading.chart, book, sizeof book); }
+static void derive_smaller(void) { settled.answer = ozhimka_derive_smaller(&reading.chart, reading.marking, book, sizeof book).answer; }
 static void read_back(void) { settled.answer = ozhimka_read_back(book, book_length).answer; }
 static void replay(void) { reading.marking = ozhimka_replay(&reading.chart, done, steps, STEPS).marking; }
 static void strike(void) { reading.marking = ozhimka_strike(&reading.chart, done, steps, STEPS, 1).marking; }
@@ -122,6 +123,7 @@ static void try_stack(void)
     expect_stack("ozhimka_finished", finished, 1);
     expect_stack("ozhimka_replay", replay, 1);
     expect_stack("ozhimka_strike", strike, 1);
+    expect_stack("ozhimka_derive_smaller", derive_smaller, 3);
     expect_stack("ozhimka_derive", derive, 1);
     book_length = ozhimka_book_length(book);
     ordered = ozhimka_order_length(book, 0);
@@ -149,6 +151,8 @@ static void try_null(void)
     expect(is(ozhimka_mend(NULL, 0, NULL, 0, NULL, 0).answer, OZHIMKA_CHART_SHORT, 0), "no chart to mend");
     expect(is(ozhimka_mend(image, image_length, NULL, 0, NULL, 0).answer, OZHIMKA_MEND_ROOM, image_length), "no room for a mended chart");
     expect(is(ozhimka_derive(&reading.chart, NULL, 0), OZHIMKA_BOOK_ROOM, book_length), "no room for a book");
+    struct ozhimka_smaller smaller = ozhimka_derive_smaller(&reading.chart, reading.marking, NULL, 0);
+    expect(smaller.answer.code == OZHIMKA_BOOK_ROOM && smaller.answer.place <= book_length, "no room for a smaller book");
     expect(is(ozhimka_read_back(NULL, 0).answer, OZHIMKA_BOOK_SHORT, 0), "no book to read back");
     expect(is(ozhimka_check(NULL, 0, 0, NULL, 0), OZHIMKA_BOOK_SHORT, 0), "no book to check");
     expect(is(ozhimka_check(book, book_length, 0, NULL, 0), OZHIMKA_ORDER_ROOM, ordered), "no room for an order");
@@ -490,6 +494,111 @@ static void try_read_back(void)
     expect(is_refused_back(length, OZHIMKA_NOT_DERIVED), "and is not derived");
 }
 
+// Nothing is written, and no mark has a number.
+static void expect_no_smaller(const struct ozhimka_chart *chart, struct ozhimka_marking start, size_t length, uint32_t code, size_t place)
+{
+    uint8_t lent[200];
+    memset(lent, PAINT, sizeof lent);
+    struct ozhimka_smaller smaller = ozhimka_derive_smaller(chart, start, lent, length);
+    expect(is(smaller.answer, code, place), "a smaller book is refused");
+    for (size_t i = 0; i < sizeof lent; i++)
+        expect(lent[i] == PAINT, "a refused smaller book writes nothing");
+    for (size_t m = 0; m < OZHIMKA_MAX_MARKS; m++)
+        expect(smaller.table[m] == OZHIMKA_NO_MARK, "a refused smaller book has no table");
+}
+
+// A snapshot of the full book through the table.
+static struct ozhimka_snapshot through(const struct ozhimka_smaller *smaller, struct ozhimka_snapshot full)
+{
+    struct ozhimka_snapshot kept = {{false}};
+    for (size_t m = 0; m < OZHIMKA_MAX_MARKS; m++)
+        if (smaller->table[m] != OZHIMKA_NO_MARK)
+            kept.marks[smaller->table[m]] = full.marks[m];
+    return kept;
+}
+
+// Completes both stages and then the first one again, which is closed by then, through the full book and the smaller one.
+static void try_both_books(const struct ozhimka_chart *chart, struct ozhimka_marking start, const struct ozhimka_smaller *smaller,
+                           const uint8_t *small, size_t length)
+{
+    static uint16_t small_order[OZHIMKA_MAX_RULES];
+    struct ozhimka_snapshot full = ozhimka_matching(chart, start).snapshot, kept = through(smaller, full);
+    const uint32_t turns[3] = {0, 1, 0};
+    expect(is(ozhimka_derive(chart, book, sizeof book), OZHIMKA_GRANTED, 0), "the full book");
+    for (size_t i = 0; i < 3; i++) {
+        uint32_t stage = turns[i];
+        expect(is(ozhimka_check(small, length, stage, small_order, OZHIMKA_MAX_RULES), OZHIMKA_GRANTED, 0), "a smaller book passes");
+        expect(is(ozhimka_check(book, ozhimka_book_length(book), stage, order, OZHIMKA_MAX_RULES), OZHIMKA_GRANTED, 0), "and the full one");
+        struct ozhimka_settled one = ozhimka_complete(book, ozhimka_book_length(book), order, ozhimka_order_length(book, stage), full, stage);
+        struct ozhimka_settled two = ozhimka_complete(small, length, small_order, ozhimka_order_length(small, stage), kept, stage);
+        expect(is(one.answer, i < 2 ? OZHIMKA_GRANTED : OZHIMKA_STAGE_CLOSED, 0) && is(two.answer, one.answer.code, 0), "both grant, or refuse");
+        full = one.snapshot, kept = through(smaller, full);
+        expect(memcmp(&kept, &two.snapshot, sizeof kept) == 0, "stages and kept marks are those of the full book");
+    }
+}
+
+// The smaller book of the paper's chart, whole: executed 1, included 1 and answered 0 go.
+static void put_smaller(uint8_t *at)
+{
+    const uint8_t counts[8] = {2, 5, 8, 2, 5, 32, 112, 128}, records[4] = {0, 1, 1, 4};
+    const uint8_t rules[80] = {1, 0, 0, 0, 0, 0, 0, 0, 4, 0, 1, 0, 1, 0, 0, 0, 0, 0, 2, 0, 1, 0, 0, 0, 1, 0, 0, 0, 3, 0, 1, 0, 1, 0, 1, 0, 0, 0, 4, 0,
+                               0, 1, 1, 0, 0, 0, 0, 0, 0, 0, 0, 2, 0, 0, 0, 0, 0, 0, 0, 0, 0, 1, 1, 0, 0, 0, 1, 0, 1, 0, 0, 2, 0, 0, 0, 0, 1, 0, 1, 0};
+    const uint16_t text[5] = {3, 3, OZHIMKA_WORD_NOT, 2, OZHIMKA_WORD_OR};
+    memset(at, 0, 128);
+    for (size_t i = 0; i < 8; i++)
+        at[4 * i] = counts[i];
+    memcpy(at + OZHIMKA_BOOK_HEADER, rules, sizeof rules);
+    for (size_t i = 0; i < 4; i++)
+        at[112 + 4 * i] = records[i];
+    for (size_t i = 0; i < 5; i++)
+        put16(at + 128 + 2 * i, text[i]);
+}
+
+// What the header says of smaller books, on the paper's chart: each refusal, the bytes, the table, and completions beside the full book. Then the
+// same chart with relations that keep the three marks.
+static void try_smaller(void)
+{
+    enum { NONE = OZHIMKA_NO_MARK, LENGTH = 138 };
+    const uint16_t table[8] = {0, 1, 2, NONE, 3, NONE, NONE, 4};
+    struct ozhimka_chart chart = {.count = 2}, unfit = {.count = 0};
+    struct ozhimka_marking start = {0, 2, 3}, beyond = {0, 2, 7};
+    uint8_t lent[200], wanted[LENGTH];
+    chart.conditions[1] = 1, chart.responses[0] = 2, chart.excludes[1] = 1;
+    expect_no_smaller(&chart, beyond, 0, OZHIMKA_UNFIT, 0);
+    expect_no_smaller(&unfit, start, sizeof lent, OZHIMKA_UNFIT, 0);
+    expect_no_smaller(&chart, start, LENGTH - 1, OZHIMKA_BOOK_ROOM, LENGTH);
+    put_smaller(wanted);
+    memset(lent, PAINT, sizeof lent);
+    struct ozhimka_smaller smaller = ozhimka_derive_smaller(&chart, start, lent, sizeof lent);
+    expect(is(smaller.answer, OZHIMKA_GRANTED, 0) && ozhimka_book_length(lent) == LENGTH, "a smaller book");
+    expect(memcmp(lent, wanted, LENGTH) == 0 && lent[LENGTH] == PAINT, "its bytes, and the room behind it");
+    for (size_t m = 0; m < OZHIMKA_MAX_MARKS; m++)
+        expect(smaller.table[m] == (m < 8 ? table[m] : NONE), "the numbers of its marks");
+    try_both_books(&chart, start, &smaller, lent, LENGTH);
+    expect(is(ozhimka_read_back(lent, LENGTH).answer, OZHIMKA_NOT_DERIVED, 0), "it is no derived book");
+    chart.conditions[0] = 2, chart.includes[0] = 2, chart.responses[1] = 1;
+    expect(ozhimka_derive_smaller(&chart, start, lent, sizeof lent).table[7] == 7, "a condition, an include and a response keep their marks");
+    expect(is(ozhimka_read_back(lent, ozhimka_book_length(lent)).answer, OZHIMKA_GRANTED, 0), "where no mark goes, it is the full book");
+}
+
+// What keeps a mark of a single event: its start, and what it is to itself. Two events that nothing relates leave nothing but their stages.
+static void try_kept_marks(void)
+{
+    const struct ozhimka_marking in = {3, 0, 3}, alone = {1, 0, 1}, out = {0, 1, 0};
+    struct ozhimka_chart bare = {.count = 2}, own = {.count = 1};
+    uint8_t lent[200];
+    struct ozhimka_smaller smaller = ozhimka_derive_smaller(&bare, in, lent, OZHIMKA_BOOK_HEADER + 2 * OZHIMKA_RULE_SIZE);
+    expect(is(smaller.answer, OZHIMKA_GRANTED, 0) && smaller.table[1] == 1 && smaller.table[2] == OZHIMKA_NO_MARK, "nothing but stages");
+    struct ozhimka_counts counts = ozhimka_book_counts(lent);
+    expect(counts.marks == 2 && counts.rules == 2 && counts.conditions == 0 && counts.words == 0, "and a rule for each");
+    expect(lent[32] == OZHIMKA_TRIGGER_NONE && lent[33] == OZHIMKA_SENSE_NONE && lent[34] == OZHIMKA_EFFECT_SET, "without trigger and condition");
+    smaller = ozhimka_derive_smaller(&own, out, lent, sizeof lent);
+    expect(smaller.table[1] == OZHIMKA_NO_MARK && smaller.table[2] == 1 && smaller.table[3] == 2, "excluded and pending at the start");
+    own.conditions[0] = own.excludes[0] = own.responses[0] = 1;
+    smaller = ozhimka_derive_smaller(&own, alone, lent, sizeof lent);
+    expect(smaller.table[1] == 1 && smaller.table[2] == 2 && smaller.table[3] == 3, "what an event is to itself counts");
+}
+
 // The image of `nodes` nodes and `relations` relations; its length.
 static size_t draw(uint8_t *at, size_t nodes, const uint16_t (*node)[2], size_t relations, const uint16_t (*relation)[3])
 {
@@ -591,6 +700,8 @@ int main(void)
     try_records();
     try_blocking();
     try_read_back();
+    try_smaller();
+    try_kept_marks();
     try_mending();
     try_most_changes();
     try_reasons();

@@ -1,5 +1,6 @@
 // The controller's interface to Ozhimka: reading a chart, mending a damaged one, stepping it, asking what blocks an event, replaying a record
-// of steps, deriving its rule book, reading a derived book back, checking a book, indexing it, completing a stage, or a list of them.
+// of steps, deriving its rule book or a smaller one, reading a derived book back, checking a book, indexing it, completing a stage, or a list
+// of them.
 //
 // For C99 and later and C++11 and later. Link libozhimka.a (x86-64, the System V calling convention); of the C library it uses memcpy,
 // memmove and memset at most. Every call ends, keeps no memory between calls, allocates nothing, and may be made from several threads at
@@ -12,8 +13,8 @@
 //
 // Stack, at most, with the copies that the caller's code makes there of structs that go in or come back by value (ozhimka_reading takes
 // 2,672 bytes), and without what the C library and the dynamic linker take: ozhimka_read_back 25 KiB, ozhimka_check and ozhimka_build_index
-// 20 KiB, ozhimka_complete, ozhimka_complete_indexed and ozhimka_complete_list 21 KiB, ozhimka_read_chart 17 KiB, ozhimka_matching 2 KiB,
-// every other call 1 KiB.
+// 20 KiB, ozhimka_complete, ozhimka_complete_indexed and ozhimka_complete_list 21 KiB, ozhimka_read_chart 17 KiB, ozhimka_derive_smaller
+// 3 KiB, ozhimka_matching 2 KiB, every other call 1 KiB.
 //
 // Every answer is a code, a place and an other. Code 0 is granted; any other refuses, and then
 //   - a marking or a snapshot that was handed in is handed back as it was; but where ozhimka_complete_list refuses within the list, it hands
@@ -87,8 +88,8 @@
 // The header's version. A new major number changes what a program written for the one before relies on; a new minor number adds to it.
 // Structs grow with either: an object built with an older header gives them too little room, so compile anew.
 #define OZHIMKA_VERSION_MAJOR 5
-#define OZHIMKA_VERSION_MINOR 1
-#define OZHIMKA_VERSION "5.1"
+#define OZHIMKA_VERSION_MINOR 2
+#define OZHIMKA_VERSION "5.2"
 
 #ifdef __cplusplus
 extern "C" {
@@ -160,7 +161,8 @@ enum {
     OZHIMKA_MAX_BOOK = OZHIMKA_BOOK_HEADER + OZHIMKA_RULE_SIZE * OZHIMKA_MAX_RULES + OZHIMKA_CONDITION_SIZE * OZHIMKA_MAX_CONDITIONS
                        + OZHIMKA_WORD_SIZE * OZHIMKA_MAX_WORDS,
     OZHIMKA_MAX_DERIVED = OZHIMKA_BOOK_HEADER + OZHIMKA_RULE_SIZE * OZHIMKA_MAX_RULES + OZHIMKA_CONDITION_SIZE * OZHIMKA_MAX_EVENTS
-                          + OZHIMKA_WORD_SIZE * OZHIMKA_MAX_WORDS // of a derived book, which has one condition an event
+                          + OZHIMKA_WORD_SIZE * OZHIMKA_MAX_WORDS, // of a derived book, which has one condition an event, and of a smaller one
+    OZHIMKA_NO_MARK = 65535                      // in the table beside a smaller book: a mark that it has not
 };
 
 // The index image: sizes in bytes.
@@ -284,6 +286,14 @@ struct ozhimka_chart_behind {
     struct ozhimka_chart chart;
 };
 
+// What deriving a smaller book gives beside it. By the number m that a mark has in the full book, table[m] is its number in the smaller one,
+// or OZHIMKA_NO_MARK where it was dropped. Of n events the full book has 4 n marks; behind them, and throughout where the call is refused, stands
+// OZHIMKA_NO_MARK.
+struct ozhimka_smaller {
+    struct ozhimka_answer answer;
+    uint16_t table[OZHIMKA_MAX_MARKS];
+};
+
 // Whether an event is open, and all that blocks it. With 12 and with 13 both sets are whole: `conditions` are the event's conditions that
 // are included and not yet executed, `milestones` its milestones that are included and still pending. With 12 the first is not empty and the
 // second may be empty or not; with 13 the first is empty. With every other code, granted and 11 among them, both are empty. Once every
@@ -363,7 +373,7 @@ typedef char ozhimka_sizes[sizeof(size_t) == 8 && sizeof(struct ozhimka_answer) 
                                    && sizeof(struct ozhimka_indexed_completion) == 272 && sizeof(struct ozhimka_list_completion) == 276
                                    && sizeof(struct ozhimka_recorded) == 8 && sizeof(struct ozhimka_replayed) == 72
                                    && sizeof(struct ozhimka_struck) == 56 && sizeof(struct ozhimka_chart_behind) == 2648
-                                   && sizeof(struct ozhimka_mended) == 16
+                                   && sizeof(struct ozhimka_mended) == 16 && sizeof(struct ozhimka_smaller) == 524
                                ? 1
                                : -1];
 
@@ -418,6 +428,9 @@ struct ozhimka_settled ozhimka_matching_in(uint32_t count, const uint64_t *condi
 struct ozhimka_answer ozhimka_derive_in(uint32_t count, const uint64_t *conditions, const uint64_t *responses, const uint64_t *milestones,
                                         const uint64_t *includes, const uint64_t *excludes, const uint8_t *roles, uint8_t *room,
                                         size_t length);
+struct ozhimka_smaller ozhimka_derive_smaller_in(uint32_t count, const uint64_t *conditions, const uint64_t *responses,
+                                                 const uint64_t *milestones, const uint64_t *includes, const uint64_t *excludes,
+                                                 const uint8_t *roles, struct ozhimka_marking start, uint8_t *room, size_t length);
 // Of a record these take the numbers, event and role in turn, and how many numbers there are; an odd last number is no step.
 struct ozhimka_replayed ozhimka_replay_in(uint32_t count, const uint64_t *conditions, const uint64_t *responses, const uint64_t *milestones,
                                           const uint64_t *includes, const uint64_t *excludes, const uint8_t *roles,
@@ -480,6 +493,31 @@ static inline struct ozhimka_answer ozhimka_derive(const struct ozhimka_chart *c
 {
     return ozhimka_derive_in(chart->count, chart->conditions, chart->responses, chart->milestones, chart->includes, chart->excludes,
                              chart->roles, room, length);
+}
+
+// Writes a smaller rule book to the start of the room, which has `length` bytes: that of a chart which begins in the marking `start`, without the
+// marks that never matter from there on. Of the full book, the one that ozhimka_derive writes,
+//   executed e goes if e is a condition of nothing, whether it was executed or not
+//   included e goes if nothing includes or excludes e, and e is included at the start
+//   answered e goes if e is nobody's response, and is not pending at the start
+// where an event is something to itself as to any other. Rules that set or clear a dropped mark go. In a text a dropped included or answered
+// mark reads as yes: a clause on a milestone that cannot become pending goes, and a clause on an event that is always included keeps its second
+// half alone, the executed or the answered mark. An event of whose text nothing is left is always open: its condition goes, its stage is set by
+// a rule without trigger and condition, and no rule clears it. What is left closes up in its old order, marks too, as `table` says; stages stay,
+// with their numbers.
+// The smaller book has no more marks, rules, conditions and words than the full one, and the same bytes where no mark goes; nor is its index
+// longer. OZHIMKA_MAX_DERIVED bytes are enough for any chart, and ozhimka_book_length tells its length; what lies behind it stays as it was.
+// Its start snapshot has mark table[m] as the matching snapshot of `start` has mark m, for each m with a number there, and every other mark no.
+// From there any completions, one after another, are granted and refused as those of the full book from its matching snapshot, and leave stages
+// and kept marks as that has them. The purchase is finished where no event of n has mark 2n + e yes and 3n + e no, looked up in the table, dropped
+// ones read as yes. A marking that no steps lead to from `start` needs a book of its own. ozhimka_read_back refuses a smaller book with 33 unless no
+// mark went.
+// Refuses with the first that holds of 14 (unfit chart or marking), 15, and then the table has OZHIMKA_NO_MARK throughout.
+static inline struct ozhimka_smaller ozhimka_derive_smaller(const struct ozhimka_chart *chart, struct ozhimka_marking start, uint8_t *room,
+                                                            size_t length)
+{
+    return ozhimka_derive_smaller_in(chart->count, chart->conditions, chart->responses, chart->milestones, chart->includes, chart->excludes,
+                                     chart->roles, start, room, length);
 }
 
 // How far a record of `count` steps is allowed from a start marking: the chart's own or any other fit one. Each step is what

@@ -8,6 +8,7 @@ ghost use Rattle.chart.specs.Reading.{reading};
 ghost use Rattle.replay.specs.Replaying.{replaying, striking};
 ghost use Rattle.deriver.specs.Deriving.{derivingAnswer, derivedRoom};
 ghost use Rattle.deriver.specs.Matching.{matchingOf};
+ghost use Rattle.smaller_deriver.specs.Calling.{derivingSmaller, smallerRoom};
 ghost use Rattle.judge.specs.Checking.{checking, checkedRoom};
 ghost use Rattle.runner.specs.Completing.{completing};
 ghost use Rattle.indexed.specs.Building.{building, builtRoom};
@@ -32,6 +33,7 @@ use read_back::ReadBack;
 use replay::Replayed;
 use replay::Struck;
 use runner::Completion;
+use smaller_deriver::Smaller;
 
 #[no_mangle]
 pub extern "C" fn ozhimka_read_chart(image: &[u8]) -> Reading
@@ -181,6 +183,33 @@ pub extern "C" fn ozhimka_derive_in<'a>(
     ensures { λ r. ⌜ (r ≡ derivingAnswer (chartOf count (now (conditions .entry)) (now (responses .entry)) (now (milestones .entry)) (now (includes .entry)) (now (excludes .entry)) (now (roles .entry))) (length (now (room .entry)))) × (now (room .exit) ≡ derivedRoom (chartOf count (now (conditions .entry)) (now (responses .entry)) (now (milestones .entry)) (now (includes .entry)) (now (excludes .entry)) (now (roles .entry))) (now (room .entry))) ⌝ }
 {
     deriver::derive_in(
+        count,
+        conditions,
+        responses,
+        milestones,
+        includes,
+        excludes,
+        roles,
+        room,
+    )
+}
+
+#[no_mangle]
+pub extern "C" fn ozhimka_derive_smaller_in<'a>(
+    count: u32,
+    conditions: &'a [u64; MAX_EVENTS],
+    responses: &'a [u64; MAX_EVENTS],
+    milestones: &'a [u64; MAX_EVENTS],
+    includes: &'a [u64; MAX_EVENTS],
+    excludes: &'a [u64; MAX_EVENTS],
+    roles: &'a [u8; MAX_EVENTS],
+    start: Marking,
+    room: &mut [u8],
+) -> Smaller
+    ensures { λ r. ⌜ (r ≡ derivingSmaller (chartOf count (now (conditions .entry)) (now (responses .entry)) (now (milestones .entry)) (now (includes .entry)) (now (excludes .entry)) (now (roles .entry))) start (length (now (room .entry)))) × (now (room .exit) ≡ smallerRoom (chartOf count (now (conditions .entry)) (now (responses .entry)) (now (milestones .entry)) (now (includes .entry)) (now (excludes .entry)) (now (roles .entry))) start (now (room .entry))) ⌝ }
+{
+    smaller_deriver::derive_smaller_in(
+        start,
         count,
         conditions,
         responses,
