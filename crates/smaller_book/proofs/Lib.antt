@@ -1,0 +1,2 @@
+-- The root of the crate's own proofs.
+pub mod Front
