@@ -220,9 +220,9 @@ module _ (c : FlatChart) (m : Marking) (e : ℕ) where
       (λ k. record { stands = k .0; permitted = permits-so (rolesOf c e) r .0 (k .1) }, λ k. (k .stands, permits-so (rolesOf c e) r .1 (k .permitted)))
       (unless (has (m .included) e) (refusing notIncluded 0 m) (λ k h. isExcluded k (λ x. contra x h)) (λ k. k, λ k. k)
       (unless (eqb (unmetOf m (setOf c condition e)) 0) (holding conditionWanting (lowest maxEvents (unmetOf m (setOf c condition e))) _ _ m)
-      (λ k h. isWanting (k .0) (k .1) (lowest-wanting (search) h) (whole c m e)) (λ k. k, λ k. k)
+      (λ k h. isWanting (k .0) (k .1) (lowest-wanting (k .0 .stands) h) (whole c m e)) (λ k. k, λ k. k)
       (unless (eqb (awaitedOf m (setOf c milestone e)) 0) (holding milestoneWanting (lowest maxEvents (awaitedOf m (setOf c milestone e))) _ _ m)
-      (λ k h. isAwaiting (k .0 .0) (k .0 .1) (λ f x. some-in _ f (unmet-wanting c m e f .1 x) (k .1)) (lowest-awaiting (search) h) (whole c m e)) frees
+      (λ k h. isAwaiting (k .0 .0) (k .0 .1) (λ f x. some-in _ f (unmet-wanting c m e f .1 x) (k .1)) (lowest-awaiting (k .0 .0 .stands) h) (whole c m e)) frees
       (otherwise (granting (after c m e)) (λ k. isDone (k .0) (k .1) (after-executed c m e))))))))
 
   -- an answer from a place and two whole sets is one
@@ -243,22 +243,20 @@ module _ (c : FlatChart) (m : Marking) (e : ℕ) where
 
   pub executes-only : {r : ℕ} {s : Step} → Executes c m e r s → s ≡ executing c m e r
   unfolding executionRows Told
-  executes-only {r} (isUnfit n) = let h = not-held (λ ok. let t = fit-both c m ok in n (t .0) (t .1)) in told-executing r (search (inl, inr, tt) depth 12)
-  executes-only {r} (isGone f t g) = let h = le-leb (c .count) e g in told-executing r (search (inl, inr) depth 12)
-  executes-only {r} (isForbidden s x) = let h = not-held (λ o. x (permits-so (rolesOf c e) r .0 o)) in told-executing r (search (inl, inr) depth 12)
-  executes-only {r} (isExcluded s x) = let h = not-held x in told-executing r (search (inl, inr) depth 12)
+  executes-only {r} (isUnfit n) = let h = not-held (λ ok. let t = fit-both c m ok in n (t .0) (t .1)) in told-executing r (inl (tt, h, refl))
+  executes-only {r} (isGone f t g) = told-executing r (inr (inl ((f, t), le-leb (c .count) e g, refl)))
+  executes-only {r} (isForbidden s x) = told-executing r (inr (inr (inl (s, not-held (λ o. x (permits-so (rolesOf c e) r .0 o)), refl))))
+  executes-only {r} (isExcluded s x) = told-executing r (inr (inr (inr (inl (s, not-held x, refl)))))
   executes-only {r} (isWanting {f} s i l w) =
       let h = some-in _ f (unmet-wanting c m e f .1 (l .holds)) in
-      let k = not-held h in
-      let q = held-one (λ f x y. holding conditionWanting f x y m) (lowest-one (c .count) (Wanting c m e) f _ l (lowest-wanting (search) (not-so h))) w in
-      told-executing r (search (inl, inr) depth 12)
+      let q = held-one (λ f x y. holding conditionWanting f x y m) (lowest-one (c .count) (Wanting c m e) f _ l (lowest-wanting (s .stands) (not-so h))) w in
+      told-executing r (inr (inr (inr (inr (inl ((s, i), not-held h, q))))))
   executes-only {r} (isAwaiting {f} s i n l w) =
       let z = eq-eqb _ 0 (none-zero (unmetOf m (setOf c condition e)) (λ g. not-so (λ h. n g (unmet-wanting c m e g .0 h)))) in
       let h = some-in _ f (awaited-awaiting c m e f .1 (l .holds)) in
-      let k = not-held h in
-      let q = held-one (λ f x y. holding milestoneWanting f x y m) (lowest-one (c .count) (Awaiting c m e) f _ l (lowest-awaiting (search) (not-so h))) w in
-      told-executing r (search (inl, inr) depth 12)
-  executes-only {r} (isDone {n} s t x) = let q = ap granting (executed-one c m e n _ x (after-executed c m e)) in told-executing r (search (inl, inr) depth 12)
+      let q = held-one (λ f x y. holding milestoneWanting f x y m) (lowest-one (c .count) (Awaiting c m e) f _ l (lowest-awaiting (s .stands) (not-so h))) w in
+      told-executing r (inr (inr (inr (inr (inr (inl (((s, i), z), not-held h, q)))))))
+  executes-only {r} (isDone {n} s t x) = told-executing r (inr (inr (inr (inr (inr (inr ((s, t), ap granting (executed-one c m e n _ x (after-executed c m e)))))))))
 
   -- a refused step returns its marking; a granted one is that of an admitted, enabled event, and is Definition 3's
   kept-or-done : {r : ℕ} {s : Step} → Executes c m e r s → ((s .answer .code ≡ 0 → ⊥) × (s .marking ≡ m)) ⊎ (Admitted c m e r × Enabled c m e × Executed c m e (s .marking))

@@ -61,21 +61,19 @@ module _ (c : FlatChart) (m : Marking) (e : ℕ) where
 
   pub opens-only : {t : OpenTest} → Opens c m e t → t ≡ opening c m e
   unfolding opening testing openRows firstRow Told
-  opens-only (isUnfit n) = let h = not-held (λ ok. let t = fit-both c m ok in n (t .0) (t .1)) in told-only openRows (search (inl, inr, tt) depth 12)
-  opens-only (isGone f t g) = let h = le-leb (c .count) e g in told-only openRows (search (inl, inr) depth 12)
-  opens-only (isExcluded s x) = let h = not-held x in told-only openRows (search (inl, inr) depth 12)
+  opens-only (isUnfit n) = let h = not-held (λ ok. let t = fit-both c m ok in n (t .0) (t .1)) in told-only openRows (inl (tt, h, refl))
+  opens-only (isGone f t g) = told-only openRows (inr (inl ((f, t), le-leb (c .count) e g, refl)))
+  opens-only (isExcluded s x) = told-only openRows (inr (inr (inl (s, not-held x, refl))))
   opens-only (isWanting {f} s i l w) =
       let h = some-in c m e _ f (whole c m e .wanting f .1 (l .holds)) in
-      let k = not-held h in
       let q = held-one c m e (withBoth conditionWanting) (lowest-one (c .count) (Wanting c m e) f _ l (lowest-wanting c m e s (not-so h))) w in
-      told-only openRows (search (inl, inr) depth 12)
+      told-only openRows (inr (inr (inr (inl ((s, i), not-held h, q)))))
   opens-only (isAwaiting {f} s i n l w) =
       let z = eq-eqb _ 0 (none-zero (unmetOf m (setOf c condition e)) (λ g. not-so (λ h. n g (whole c m e .wanting g .0 h)))) in
       let h = some-in c m e _ f (whole c m e .awaiting f .1 (l .holds)) in
-      let k = not-held h in
       let q = held-one c m e (withBoth milestoneWanting) (lowest-one (c .count) (Awaiting c m e) f _ l (lowest-awaiting c m e s (not-so h))) w in
-      told-only openRows (search (inl, inr) depth 12)
-  opens-only (isOpened s t) = told-only openRows (search (inl, inr) depth 12)
+      told-only openRows (inr (inr (inr (inr (inl (((s, i), z), not-held h, q))))))
+  opens-only (isOpened s t) = told-only openRows (inr (inr (inr (inr (inr ((s, t), refl))))))
 
   pub open-determined : (s t : OpenTest) → s ≡ opening c m e → t ≡ opening c m e → s ≡ t
   open-determined s t = coincide

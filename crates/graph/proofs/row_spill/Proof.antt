@@ -9,4 +9,4 @@ row-spill-spec =
     tie.close
     (tie.spec
     (λ c κs. search needs)
-    (λ c. unfold rowSpill in cc))
+    (λ c. unfold rowSpill in c .less .ensures))

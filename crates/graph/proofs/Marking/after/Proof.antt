@@ -9,4 +9,4 @@ after-spec =
     tie.close
     (tie.spec
     (λ c κs. search needs) (λ c κs. search needs) (λ c κs. search needs)
-    (λ c. unfold afterWith in cc))
+    (λ c. unfold afterWith in rw (c .before .less .ensures, c .less2 .ensures, c .before .before .before .one .ensures)))

@@ -8,4 +8,4 @@ blocking-spec =
     tie.close
     (tie.spec
     (λ c κs. search needs) (λ c κs. search needs)
-    (λ c. cc))
+    (λ c. rw (c .before .unmet .ensures, c .awaited .ensures)))

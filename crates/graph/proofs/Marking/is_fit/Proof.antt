@@ -9,4 +9,4 @@ is-fit-spec =
     tie.close
     (tie.spec
     (λ c κs. search needs)
-    (λ c. unfold fitMarking in cc))
+    (λ c. unfold fitMarking in c .inside .ensures))

@@ -9,4 +9,4 @@ unmet-spec =
     tie.close
     (tie.spec
     (λ c κs. search needs)
-    (λ c. unfold unmetOf in cc))
+    (λ c. unfold unmetOf in c .less .ensures))

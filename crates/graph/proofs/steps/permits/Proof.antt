@@ -9,4 +9,4 @@ permits-spec =
     tie.close
     (tie.spec
     (λ c κs. search needs)
-    (λ c. unfold permits in cc))
+    (λ c. unfold permits in rw (c .member .ensures)))
