@@ -9,9 +9,9 @@ use borrow.Author.Tests.{eqb-true, eq-eqb, ltb-true, ltb-false, not-true, not-fa
 use Rattle.general.specs.Cases.{contra, cases, both}
 use Rattle.sets.specs.Set.{has, minus, only}
 use Rattle.sets.specs.Laws.{has-union, has-minus, has-only}
-use Rattle.graph.specs.Chart.{setOf, response, include, exclude, Fit}
+use Rattle.flat_chart.specs.Chart.{setOf, response, include, exclude, Fit}
 use Rattle.graph.specs.Steps.{after, afterWith}
-use Rattle.graph.specs.declared.FlatChart.{FlatChart}
+use Rattle.flat_chart.specs.declared.FlatChart.{FlatChart}
 use Rattle.graph.specs.declared.Marking.{Marking}
 use Rattle.book.specs.Text.{holds}
 use Rattle.book.specs.Book.{textOf, noRule}

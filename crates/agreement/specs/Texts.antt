@@ -11,9 +11,9 @@ use Rattle.general.specs.Cases.{contra, cases, all3, not-so, same-test}
 use Rattle.general.specs.Below.{every, every-at, every-of, every-same}
 use Rattle.sets.specs.Set.{has, inter}
 use Rattle.sets.specs.Laws.{has-inter, has-minus, has-empty, none-zero}
-use Rattle.graph.specs.Chart.{setOf, condition, milestone, In, Fit}
+use Rattle.flat_chart.specs.Chart.{setOf, condition, milestone, In, Fit}
 use Rattle.graph.specs.Steps.{isOpen, openWith, unmetOf, awaitedOf}
-use Rattle.graph.specs.declared.FlatChart.{FlatChart}
+use Rattle.flat_chart.specs.declared.FlatChart.{FlatChart}
 use Rattle.graph.specs.declared.Marking.{Marking}
 use Rattle.book.specs.Text.{Snap, push, top1, top2, eval, top, holds}
 use Rattle.general.specs.Lists.{flat}

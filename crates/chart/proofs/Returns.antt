@@ -13,7 +13,7 @@ use Rattle.paper.specs.declared.Answer.{Answer}
 use Rattle.general.specs.Cases.{neither, all3}
 use Rattle.sets.specs.Set.{lowest}
 use Rattle.general.specs.Below.{some, some-of, some-none, first, first-is, tally}
-use Rattle.graph.specs.declared.FlatChart.{FlatChart}
+use Rattle.flat_chart.specs.declared.FlatChart.{FlatChart}
 use Rattle.graph.specs.declared.Marking.{Marking}
 use Rattle.chart.specs.declared.Reading.{Reading}
 use Rattle.records.specs.Image.{nodes, relations, nodesOffset, relationsOffset, nodeAt, relationAt, outOfRange, misplaced, badNodeAt, badRelationAt, Whole}

@@ -16,7 +16,7 @@ use Rattle.general.specs.Below.{some, some-of, first}
 use Rattle.general.specs.Tables.{zeros-at}
 use Rattle.sets.specs.Set.{has}
 use Rattle.sets.specs.Laws.{has-empty}
-use Rattle.graph.specs.Chart.{include, exclude, emptyChart}
+use Rattle.flat_chart.specs.Chart.{include, exclude, emptyChart}
 use Rattle.graph.specs.Before.{Apart}
 use Rattle.chart.specs.declared.Reading.{Reading}
 use Rattle.records.specs.Image.{nodes, relations, outOfRange, misplaced, badNodeAt, badRelationAt}

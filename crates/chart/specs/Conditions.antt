@@ -12,7 +12,7 @@ use Rattle.paper.specs.Limits.{maxNodes, maxRelations, chartHeader, noParent, m
 use Rattle.general.specs.Cases.{contra, cases, both, either, neither, all3, or-left, or-right, not-so}
 use Rattle.sets.specs.Set.{has}
 use Rattle.general.specs.Below.{some, some-of, some-at, some-none, first, first-is, first-found, Lowest}
-use Rattle.graph.specs.Chart.{Kind}
+use Rattle.flat_chart.specs.Chart.{Kind}
 use Rattle.records.specs.Image.{nodes, relations, nodesOffset, relationsOffset, nodeAt, relationAt, parentOf, stateOf, rolesAt, fromOf, toOf, kindOf, outOfRange, misplaced, badNodeAt, badRelationAt}
 use Rattle.nesting.specs.Nesting.{parent, AtOrAbove, OnLoop, nested, atOrAbove, onLoopAt, isGroup, eventNode, flaggedGroupAt, nested-so}
 use Rattle.flattening.specs.Flattening.{kindNumber, Flattened, leads, related, NamesRole, namesAt, named}

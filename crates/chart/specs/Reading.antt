@@ -8,7 +8,8 @@ use Rattle.paper.specs.Limits.{maxEvents, chartHeader, chartShort, chartCount, 
 use Rattle.paper.specs.Answers.{answer, granted, refusal}
 use Rattle.paper.specs.declared.Answer.{Answer}
 use Rattle.general.specs.Below.{some, first}
-use Rattle.graph.specs.Chart.{emptyChart, emptyMarking}
+use Rattle.flat_chart.specs.Chart.{emptyChart}
+use Rattle.graph.specs.Fitness.{emptyMarking}
 use Rattle.chart.specs.declared.Reading.{Reading}
 use Rattle.records.specs.Image.{nodes, relations, outOfRange, misplaced, badNodeAt, badRelationAt}
 use Rattle.nesting.specs.Nesting.{onLoopAt, flaggedGroupAt, eventCount}

@@ -18,7 +18,8 @@ use Rattle.sets.specs.Laws.{has-collect, has-empty, none-zero, above}
 use Rattle.general.specs.Below.{first}
 use Rattle.general.specs.Tables.{tabulate, length-tabulate, getD-tabulate}
 use Rattle.closure.specs.Closure.{hop, join}
-use Rattle.graph.specs.Chart.{Kind, condition, response, milestone, include, exclude, table, setOf, rolesOf, In, Fit, FitMarking}
+use Rattle.flat_chart.specs.Chart.{Kind, condition, response, milestone, include, exclude, table, setOf, rolesOf, In, Fit}
+use Rattle.graph.specs.Fitness.{FitMarking}
 use Rattle.chart.specs.declared.Reading.{Reading}
 use Rattle.general.specs.Numbering.{tally-lt, tally-find, first-numbered, tally-grows}
 use Rattle.records.specs.Image.{nodes, flagsOf, rolesAt}

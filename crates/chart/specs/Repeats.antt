@@ -11,7 +11,7 @@ use Rattle.sets.specs.Set.{has, collect}
 use Rattle.general.specs.Below.{some, some-of, some-at, some-same, first, first-same, tally-same}
 use Rattle.general.specs.Tables.{tabulate-same}
 use Rattle.closure.specs.Closure.{within}
-use Rattle.graph.specs.Chart.{Kind, condition, response, milestone, include, exclude}
+use Rattle.flat_chart.specs.Chart.{Kind, condition, response, milestone, include, exclude}
 use Rattle.sets.specs.Collecting.{collect-same}
 use Rattle.records.specs.Image.{nodes, relations, parentOf, flagsOf, fromOf, toOf, kindOf, badNodeAt, badRelationAt}
 use Rattle.nesting.specs.Nesting.{parent, nested, atOrAbove, onLoopAt, isGroup, isEvent, number, eventCount, eventNode, flaggedGroupAt}

@@ -6,8 +6,8 @@ use mathlib.Core.List.{List, [], _∷_, _++_, append-nil}
 use lib.ListN.{length}
 use Rattle.paper.specs.Limits.{andWord, orWord, notWord}
 use Rattle.sets.specs.Set.{has}
-use Rattle.graph.specs.Chart.{condition, response, milestone, include, exclude, setOf}
-use Rattle.graph.specs.declared.FlatChart.{FlatChart}
+use Rattle.flat_chart.specs.Chart.{condition, response, milestone, include, exclude, setOf}
+use Rattle.flat_chart.specs.declared.FlatChart.{FlatChart}
 use Rattle.book.specs.Book.{Book, Condition, noCondition, textOf}
 use Rattle.general.specs.Lists.{flat, each, getD-each, cut-flat, All, all-append, append-all, all-flat, flat-all}
 use Rattle.book.specs.declared.Rule.{Rule}

@@ -8,9 +8,9 @@ use Rattle.paper.specs.Limits.{maxEvents}
 use Rattle.general.specs.Cases.{contra, cases, not-so}
 use Rattle.general.specs.Lists.{flat, All, all-append, append-all, all-flat, flat-all}
 use Rattle.sets.specs.Set.{has}
-use Rattle.graph.specs.Chart.{condition, response, milestone, include, exclude, setOf, In, Fit}
+use Rattle.flat_chart.specs.Chart.{condition, response, milestone, include, exclude, setOf, In, Fit}
 use Rattle.graph.specs.Overruled.{standingAt}
-use Rattle.graph.specs.declared.FlatChart.{FlatChart}
+use Rattle.flat_chart.specs.declared.FlatChart.{FlatChart}
 use Rattle.book.specs.declared.Rule.{Rule}
 use Rattle.book.specs.declared.Trigger.the-variants.{None, Completed}
 use Rattle.derived.specs.Derived.{executedMark, includedMark, answeredMark, on, listed, clause, inclusion, responding, answering, settingExecuted, textFor}

@@ -12,10 +12,10 @@ use Rattle.general.specs.Cases.{contra, cases, both, not-so}
 use Rattle.general.specs.Lists.{flat-same, All}
 use Rattle.sets.specs.Set.{has, minus}
 use Rattle.sets.specs.Laws.{has-minus, has-empty, none-zero}
-use Rattle.graph.specs.Chart.{Kind, condition, response, milestone, include, exclude, setOf, In, Fit}
+use Rattle.flat_chart.specs.Chart.{Kind, condition, response, milestone, include, exclude, setOf, In, Fit}
 use Rattle.graph.specs.Overruled.{standingAt, standing, standing-set, standing-steps}
 use Rattle.graph.specs.Steps.{after}
-use Rattle.graph.specs.declared.FlatChart.{FlatChart}
+use Rattle.flat_chart.specs.declared.FlatChart.{FlatChart}
 use Rattle.graph.specs.declared.Marking.{Marking}
 use Rattle.book.specs.declared.Rule.{Rule}
 use Rattle.book.specs.declared.Trigger.{Trigger}

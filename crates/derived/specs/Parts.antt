@@ -5,8 +5,8 @@ use mathlib.Core.Bool.{true}
 use mathlib.Core.List.{List, [], _∷_}
 use lib.ListN.{length, getD}
 use Rattle.sets.specs.Set.{union, within}
-use Rattle.graph.specs.Chart.{condition, response, milestone, Fit}
-use Rattle.graph.specs.declared.FlatChart.{FlatChart}
+use Rattle.flat_chart.specs.Chart.{condition, response, milestone, Fit}
+use Rattle.flat_chart.specs.declared.FlatChart.{FlatChart}
 use Rattle.book.specs.Book.{Condition}
 use Rattle.general.specs.Lists.{flat}
 use Rattle.book.specs.declared.Rule.{Rule}

@@ -12,8 +12,8 @@ use Rattle.general.specs.Cases.{cases, either}
 use Rattle.general.specs.Below.{tally, tally-le}
 use Rattle.sets.specs.Set.{has, union, only, size, within}
 use Rattle.sets.specs.Laws.{has-union, has-only, has-empty, within-lt, lt-within}
-use Rattle.graph.specs.Chart.{Kind, condition, response, milestone, include, exclude, setOf, Fit}
-use Rattle.graph.specs.declared.FlatChart.{FlatChart}
+use Rattle.flat_chart.specs.Chart.{Kind, condition, response, milestone, include, exclude, setOf, Fit}
+use Rattle.flat_chart.specs.declared.FlatChart.{FlatChart}
 use Rattle.general.specs.Lists.{total, total-same, total-le, flat, flat-same, length-flat, length-each}
 use Rattle.book.specs.ImageOf.{imageOf, image-length}
 use Rattle.book.specs.declared.Rule.{Rule}

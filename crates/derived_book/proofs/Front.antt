@@ -9,10 +9,10 @@ use lib.Seq.{take-append-seam}
 use Rattle.paper.specs.declared.Answer.{Answer}
 use Rattle.general.specs.Cases.{cases}
 use Rattle.wire.specs.Laws.{u32-first}
-use Rattle.graph.specs.declared.FlatChart.{FlatChart}
-use Rattle.graph.specs.Chart.{Fit}
-use Rattle.graph.specs.Tests.{fitChart}
-use Rattle.graph.specs.Fitness.{tested-fit}
+use Rattle.flat_chart.specs.declared.FlatChart.{FlatChart}
+use Rattle.flat_chart.specs.Chart.{Fit}
+use Rattle.flat_chart.specs.Tests.{fitChart}
+use Rattle.flat_chart.specs.Fitness.{tested-fit}
 use Rattle.book.specs.Image.{rulesIn, conditionsIn, wordsIn, conditionPlace, wordPlace}
 use Rattle.book.specs.Judging.{countsOf}
 use Rattle.book.specs.declared.Counts.{Counts}

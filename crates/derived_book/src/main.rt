@@ -7,7 +7,7 @@ ghost use Rattle.book.specs.Image.{rulesIn, conditionsIn, wordsIn, wordPlace};
 ghost use Rattle.deriver.specs.Deriving.{derivingAnswer, derivedImage};
 use book::header::counts_at;
 use book::header::words_from;
-use graph::FlatChart;
+use flat_chart::FlatChart;
 use libc::STDIN_FILENO;
 use libc::STDOUT_FILENO;
 use paper::Answer;

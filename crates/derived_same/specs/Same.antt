@@ -7,8 +7,8 @@ use Rattle.paper.specs.Limits.{maxEvents, bookHeader, ruleSize}
 use Rattle.general.specs.Lists.{flat, packed}
 use Rattle.general.specs.Writing.{Fits}
 use Rattle.wire.specs.Wire.{bytes16}
-use Rattle.graph.specs.Chart.{chartOf}
-use Rattle.graph.specs.declared.FlatChart.{FlatChart}
+use Rattle.flat_chart.specs.Chart.{chartOf}
+use Rattle.flat_chart.specs.declared.FlatChart.{FlatChart}
 use Rattle.book.specs.ImageOf.{ruleBytes, conditionBytes}
 use Rattle.derived.specs.Derived.{stageRules}
 use Rattle.derived.specs.Parts.{completionAt, CompletionsIn, textAt, conditionPart, TextsIn}

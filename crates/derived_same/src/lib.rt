@@ -7,7 +7,7 @@ ghost use Rattle.general.specs.Comparing.{sameBytes, standsAt};
 ghost use Rattle.general.specs.Lists.{flat, packed};
 ghost use Rattle.general.specs.Writing.{Fits};
 ghost use Rattle.wire.specs.Wire.{bytes16};
-ghost use Rattle.graph.specs.Chart.{Fit};
+ghost use Rattle.flat_chart.specs.Chart.{Fit};
 ghost use Rattle.book.specs.ImageOf.{ruleBytes, conditionBytes};
 ghost use Rattle.derived.specs.Derived.{stageRules};
 ghost use Rattle.derived.specs.Parts.{completionAt, CompletionsIn, textAt, conditionPart, TextsIn};

@@ -11,10 +11,10 @@ use Rattle.paper.specs.Limits.{maxEvents, maxRules, unfit, bookRoom}
 use Rattle.paper.specs.Answers.{answer, granted, refusal}
 use Rattle.paper.specs.declared.Answer.{Answer}
 use Rattle.wire.specs.Wire.{bytes16, bytes32, put32}
-use Rattle.graph.specs.declared.FlatChart.{FlatChart}
-use Rattle.graph.specs.Chart.{Fit}
-use Rattle.graph.specs.Tests.{fitChart}
-use Rattle.graph.specs.Fitness.{tested-fit}
+use Rattle.flat_chart.specs.declared.FlatChart.{FlatChart}
+use Rattle.flat_chart.specs.Chart.{Fit}
+use Rattle.flat_chart.specs.Tests.{fitChart}
+use Rattle.flat_chart.specs.Fitness.{tested-fit}
 use Rattle.general.specs.Lists.{flat, packed, packed-append}
 use Rattle.book.specs.Image.{conditionPlace, wordPlace}
 use Rattle.book.specs.ImageOf.{imageOf, image-length, headerBytes, ruleBytes, conditionBytes}

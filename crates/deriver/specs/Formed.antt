@@ -11,8 +11,8 @@ use Rattle.paper.specs.Limits.{maxEvents, maxMarks, andWord, orWord, notWord, m
 use Rattle.paper.specs.Answers.{granted}
 use Rattle.general.specs.Cases.{cases, both}
 use Rattle.sets.specs.Set.{has}
-use Rattle.graph.specs.Chart.{condition, response, milestone, include, exclude, setOf, Fit}
-use Rattle.graph.specs.declared.FlatChart.{FlatChart}
+use Rattle.flat_chart.specs.Chart.{condition, response, milestone, include, exclude, setOf, Fit}
+use Rattle.flat_chart.specs.declared.FlatChart.{FlatChart}
 use Rattle.book.specs.Text.{Snap, push, eval}
 use Rattle.book.specs.GoodTexts.{GoodText, depthAfter, follows, goodFrom, good, good-text, length-push}
 use Rattle.book.specs.Book.{conditionOf, noCondition, textOf}

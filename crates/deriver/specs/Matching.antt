@@ -15,10 +15,10 @@ use Rattle.paper.specs.declared.Answer.{Answer}
 use Rattle.general.specs.Cases.{cases}
 use Rattle.sets.specs.Set.{has, minus, allBelow}
 use Rattle.sets.specs.Laws.{has-minus, has-all, has-collect}
-use Rattle.graph.specs.Tests.{fit}
+use Rattle.graph.specs.Fitness.{fit}
 use Rattle.graph.specs.Fitness.{fit-both}
 use Rattle.graph.specs.Steps.{isOpen, openAmong}
-use Rattle.graph.specs.declared.FlatChart.{FlatChart}
+use Rattle.flat_chart.specs.declared.FlatChart.{FlatChart}
 use Rattle.graph.specs.declared.Marking.{Marking}
 use Rattle.book.specs.Text.{Snap, snapOf}
 use Rattle.general.specs.Lists.{flat-step, flat-same, each, length-each, getD-each}

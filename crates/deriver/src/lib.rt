@@ -3,7 +3,7 @@ ghost use mathlib.Core.Path.{_≡_};
 ghost use Prim.Native.Nat.{_*_, _≤_};
 ghost use lib.ListN.{length};
 ghost use Rattle.paper.specs.Limits.{maxEvents, maxRules, maxConditions, bookHeader};
-ghost use Rattle.graph.specs.Chart.{chartOf};
+ghost use Rattle.flat_chart.specs.Chart.{chartOf};
 ghost use Rattle.book.specs.ImageOf.{headerBytes};
 ghost use Rattle.general.specs.Writing.{Wrote};
 ghost use Rattle.deriver.specs.Deriving.{derivingAnswer, derivedRoom, bookRuns, BookReady};
@@ -17,7 +17,7 @@ use book::header::RULES_OFFSET_AT;
 use book::header::STAGE_COUNT_AT;
 use book::header::WORD_COUNT_AT;
 use book::header::WORDS_OFFSET_AT;
-use graph::FlatChart;
+use flat_chart::FlatChart;
 use graph::Marking;
 use paper::Answer;
 use paper::BOOK_HEADER;
@@ -106,7 +106,7 @@ pub fn derive_in<'a>(
 ) -> Answer
     ensures { λ r. ⌜ (r ≡ derivingAnswer (chartOf count (now (conditions .entry)) (now (responses .entry)) (now (milestones .entry)) (now (includes .entry)) (now (excludes .entry)) (now (roles .entry))) (length (now (room .entry)))) × (now (room .exit) ≡ derivedRoom (chartOf count (now (conditions .entry)) (now (responses .entry)) (now (milestones .entry)) (now (includes .entry)) (now (excludes .entry)) (now (roles .entry))) (now (room .entry))) ⌝ }
 {
-    if !graph::tables_fit(
+    if !flat_chart::tables_fit(
         count,
         conditions,
         responses,

@@ -4,7 +4,7 @@ ghost use Prim.Native.Nat.{_+_, _≤_};
 ghost use lib.Seq.{sets};
 ghost use Rattle.paper.specs.Limits.{maxMarks};
 ghost use Rattle.sets.specs.Set.{has};
-ghost use Rattle.graph.specs.Chart.{chartOf};
+ghost use Rattle.flat_chart.specs.Chart.{chartOf};
 ghost use Rattle.general.specs.Lists.{each};
 ghost use Rattle.deriver.specs.Matching.{matchingOf};
 use crate::Matched;

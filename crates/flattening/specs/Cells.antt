@@ -21,8 +21,8 @@ use Rattle.closure.specs.Reached.{apart, take-word, take-kept, length-takeRow}
 use Rattle.general.specs.Scan.{Passed, passed-none, passed-more, passed-found, passed-end, at-end, ltb-more}
 use Rattle.sets.specs.Collecting.{collect-more}
 use Rattle.records.specs.Image.{parentOf, fromOf, toOf, kindOf, flagsOf, rolesAt, nodes, badRelationAt, Whole}
-use Rattle.graph.specs.Chart.{condition, response, milestone, include, exclude}
-use Rattle.graph.specs.declared.FlatChart.{FlatChart}
+use Rattle.flat_chart.specs.Chart.{condition, response, milestone, include, exclude}
+use Rattle.flat_chart.specs.declared.FlatChart.{FlatChart}
 use Rattle.graph.specs.declared.Marking.{Marking}
 use Rattle.nesting.specs.Climbing.{fromUp, from-none, from-step}
 use Rattle.flattening.specs.Flattening.{kindNumber, holdsBack}

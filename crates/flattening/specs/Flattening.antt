@@ -9,8 +9,8 @@ use Rattle.paper.specs.Limits.{maxEvents, maxRoles}
 use Rattle.sets.specs.Set.{has, collect}
 use Rattle.general.specs.Below.{some}
 use Rattle.general.specs.Tables.{tabulate}
-use Rattle.graph.specs.Chart.{Kind, condition, response, milestone, include, exclude}
-use Rattle.graph.specs.declared.FlatChart.{FlatChart}
+use Rattle.flat_chart.specs.Chart.{Kind, condition, response, milestone, include, exclude}
+use Rattle.flat_chart.specs.declared.FlatChart.{FlatChart}
 use Rattle.graph.specs.declared.Marking.{Marking}
 use Rattle.records.specs.Image.{nodes, relations, fromOf, toOf, kindOf, flagsOf, rolesAt}
 use Rattle.nesting.specs.Nesting.{AtOrAbove, atOrAbove, eventCount, eventNode}

@@ -14,8 +14,8 @@ use Rattle.sets.specs.Set.{has, collect}
 use Rattle.sets.specs.Laws.{ext, has-collect, has-empty}
 use Rattle.general.specs.Below.{some, some-of, some-at, some-none, some-same, first, first-same, tally, tally-same}
 use Rattle.general.specs.Tables.{tabulate, tabulate-same, length-tabulate, getD-tabulate}
-use Rattle.graph.specs.Chart.{Kind, condition, response, milestone, include, exclude}
-use Rattle.graph.specs.declared.FlatChart.{FlatChart}
+use Rattle.flat_chart.specs.Chart.{Kind, condition, response, milestone, include, exclude}
+use Rattle.flat_chart.specs.declared.FlatChart.{FlatChart}
 use Rattle.graph.specs.declared.Marking.{Marking}
 use Rattle.sets.specs.Collecting.{collect-same}
 use Rattle.general.specs.Numbering.{tally-find, first-numbered}

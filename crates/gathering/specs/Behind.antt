@@ -15,9 +15,9 @@ use Rattle.general.specs.Tables.{tabulate, getD-tabulate, tabulate-same, zeros-
 use Rattle.general.specs.Lists.{flat, flat-same, All, all-at, at-all, all-map, tabulated}
 use Rattle.sets.specs.Set.{has}
 use Rattle.sets.specs.Laws.{ext, has-collect}
-use Rattle.graph.specs.Chart.{Kind, condition, response, milestone, include, exclude, table, setOf, In, Fit}
+use Rattle.flat_chart.specs.Chart.{Kind, condition, response, milestone, include, exclude, table, setOf, In, Fit}
 use Rattle.graph.specs.Overruled.{standingAt, standing}
-use Rattle.graph.specs.declared.FlatChart.{FlatChart}
+use Rattle.flat_chart.specs.declared.FlatChart.{FlatChart}
 use Rattle.book.specs.Book.{noRule, textOf}
 use Rattle.book.specs.declared.Rule.{Rule}
 use Rattle.book.specs.declared.Trigger.{Trigger}

@@ -16,7 +16,7 @@ use book::Trigger;
 use book::header::words_from;
 use book::reader::condition_in;
 use book::reader::rule_in;
-use graph::FlatChart;
+use flat_chart::FlatChart;
 use paper::MAX_EVENTS;
 use paper::WORD_SIZE;
 

@@ -11,9 +11,10 @@ use Rattle.paper.specs.Limits.{maxEvents}
 use Rattle.general.specs.Below.{every, every-at, every-of}
 use Rattle.sets.specs.Set.{union, inter, minus, allBelow}
 use Rattle.sets.specs.Laws.{union-zero, apart-not, not-apart}
-use Rattle.graph.specs.Chart.{include, exclude, setOf, In}
-use Rattle.graph.specs.Tests.{allowedAt, rowSpill, spillAt, spillOf, rolesFrom, fitTables, fitChart, fitMarking, fit}
-use Rattle.graph.specs.declared.FlatChart.{FlatChart}
+use Rattle.flat_chart.specs.Chart.{include, exclude, setOf, In}
+use Rattle.flat_chart.specs.Tests.{allowedAt, rowSpill, spillAt, spillOf, rolesFrom, fitTables, fitChart}
+use Rattle.graph.specs.Fitness.{fitMarking, fit}
+use Rattle.flat_chart.specs.declared.FlatChart.{FlatChart}
 use Rattle.graph.specs.declared.Marking.{Marking}
 
 -- "and no pair has both include and exclude", which fit means no more

@@ -7,10 +7,11 @@ use lib.Count.{trailingZeros}
 use Rattle.paper.specs.Limits.{maxEvents, notIncluded, conditionWanting}
 use Rattle.paper.specs.Answers.{answer}
 use Rattle.sets.specs.Set.{has}
-use Rattle.graph.specs.Roles.{permits}
-use Rattle.graph.specs.Tests.{rowSpill, spillAt, spillOf, rolesFrom, fitTables, fitChart, fitMarking, fit}
+use Rattle.flat_chart.specs.Roles.{permits}
+use Rattle.flat_chart.specs.Tests.{rowSpill, spillAt, spillOf, rolesFrom, fitTables, fitChart}
+use Rattle.graph.specs.Fitness.{fitMarking, fit}
 use Rattle.graph.specs.Steps.{unmetOf, awaitedOf, afterWith, granting, shut, testing, opening, stepping, steppingBy, executing}
-use Rattle.graph.specs.declared.FlatChart.{FlatChart}
+use Rattle.flat_chart.specs.declared.FlatChart.{FlatChart}
 use Rattle.graph.specs.declared.Marking.{Marking}
 
 abbrev pub none : List ℕ

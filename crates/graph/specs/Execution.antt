@@ -14,13 +14,13 @@ use Rattle.general.specs.Refusals.{Refusals, when, unless, otherwise, firstRow,
 use Rattle.sets.specs.Set.{has, inter, minus, only, lowest}
 use Rattle.sets.specs.Laws.{has-union, has-inter, has-minus, has-only, has-empty, none-zero, ext, lowest-has, lowest-lt, lowest-least, has-collect, size-collect, below, apart-not, not-apart}
 use Rattle.sets.specs.Laws.{lowest-none}
-use Rattle.graph.specs.Chart.{condition, response, milestone, include, exclude, setOf, rolesOf, In, Fit, FitMarking}
-use Rattle.graph.specs.Roles.{Permits, permits, permits-so}
-use Rattle.graph.specs.Tests.{fit}
+use Rattle.flat_chart.specs.Chart.{condition, response, milestone, include, exclude, setOf, rolesOf, In, Fit, rowOf}
+use Rattle.graph.specs.Fitness.{FitMarking, fit}
+use Rattle.flat_chart.specs.Roles.{Permits, permits, permits-so}
 use Rattle.graph.specs.Fitness.{fit-both, both-fit}
-use Rattle.graph.specs.Steps.{rowOf, unmetOf, awaitedOf, openWith, isOpen, afterWith, after, refusing, granting, steppingBy, stepping-cases, executing}
+use Rattle.graph.specs.Steps.{unmetOf, awaitedOf, openWith, isOpen, afterWith, after, refusing, granting, steppingBy, stepping-cases, executing}
 use Rattle.graph.specs.Steps.{openAmong, openSet, counting, finishing}
-use Rattle.graph.specs.declared.FlatChart.{FlatChart}
+use Rattle.flat_chart.specs.declared.FlatChart.{FlatChart}
 use Rattle.graph.specs.declared.Marking.{Marking}
 use Rattle.graph.specs.declared.steps.Step.{Step}
 use Rattle.graph.specs.declared.steps.OpenCount.{OpenCount}

@@ -10,15 +10,15 @@ use Rattle.paper.specs.Answers.{answer, granted}
 use Rattle.paper.specs.declared.Answer.{Answer}
 use Rattle.general.specs.Cases.{cases}
 use Rattle.sets.specs.Set.{has, lowest}
-use Rattle.graph.specs.Chart.{rolesOf}
-use Rattle.graph.specs.Roles.{Permits, permits, permits-so}
-use Rattle.graph.specs.Tests.{fit}
-use Rattle.graph.specs.Steps.{rowOf, unmetOf, awaitedOf, afterWith, testing, opening, handedOn, stepping, stepping-cases, steppingBy, executing}
+use Rattle.flat_chart.specs.Chart.{rolesOf, rowOf}
+use Rattle.flat_chart.specs.Roles.{Permits, permits, permits-so}
+use Rattle.graph.specs.Fitness.{fit}
+use Rattle.graph.specs.Steps.{unmetOf, awaitedOf, afterWith, testing, opening, handedOn, stepping, stepping-cases, steppingBy, executing}
 use Rattle.graph.specs.Execution.{BothSets, Admitted, Executes, isUnfit, isGone, isForbidden, isExcluded, isWanting, isAwaiting, isDone, executes}
 use Rattle.graph.specs.Opening.{Blocks}
-use Rattle.graph.specs.declared.FlatChart.{FlatChart}
+use Rattle.flat_chart.specs.declared.FlatChart.{FlatChart}
 use Rattle.graph.specs.declared.Marking.{Marking}
-use Rattle.graph.specs.declared.steps.Row.{Row}
+use Rattle.flat_chart.specs.declared.Row.{Row}
 use Rattle.graph.specs.declared.steps.Step.{Step}
 
 -- ---- "The step hands both on with code 12 or 13"

@@ -1,7 +1,4 @@
 -- The root of the crate's specs.
-pub mod Chart
-pub mod Roles
-pub mod Tests
 pub mod Fitness
 pub mod Before
 pub mod Steps

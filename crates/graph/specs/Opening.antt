@@ -13,13 +13,13 @@ use Rattle.general.specs.Below.{tally, tally-same, Lowest, lowest-one}
 use Rattle.general.specs.Refusals.{Refusals, when, unless, otherwise, firstRow, Told, first-told, told-only, not-held}
 use Rattle.sets.specs.Set.{has, union, minus, lowest}
 use Rattle.sets.specs.Laws.{has-union, has-minus, none-zero}
-use Rattle.graph.specs.Chart.{condition, milestone, setOf, In, Fit, FitMarking}
-use Rattle.graph.specs.Tests.{fit}
+use Rattle.flat_chart.specs.Chart.{condition, milestone, setOf, In, Fit}
+use Rattle.graph.specs.Fitness.{FitMarking, fit}
 use Rattle.graph.specs.Fitness.{fit-both, both-fit}
 use Rattle.graph.specs.Steps.{unmetOf, awaitedOf, isOpen, shut, opened, testing, opening, counting}
 use Rattle.graph.specs.Execution.{Enabled, Wanting, Awaiting, BothSets, Stands}
 use Rattle.graph.specs.Execution.{open-enabled, whole, held-one, none-of, lowest-wanting, lowest-awaiting, some-in, frees, counts}
-use Rattle.graph.specs.declared.FlatChart.{FlatChart}
+use Rattle.flat_chart.specs.declared.FlatChart.{FlatChart}
 use Rattle.graph.specs.declared.Marking.{Marking}
 use Rattle.graph.specs.declared.steps.OpenTest.{OpenTest}
 

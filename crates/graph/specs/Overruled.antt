@@ -11,11 +11,11 @@ use Rattle.general.specs.Cases.{contra, both, not-so}
 use Rattle.general.specs.Tables.{tabulate, getD-tabulate}
 use Rattle.sets.specs.Set.{has, union, minus}
 use Rattle.sets.specs.Laws.{ext, has-union, has-minus, has-empty, none-zero}
-use Rattle.graph.specs.Chart.{Kind, condition, response, milestone, include, exclude, setOf, In, Fit}
+use Rattle.flat_chart.specs.Chart.{Kind, condition, response, milestone, include, exclude, setOf, In, Fit}
 use Rattle.graph.specs.Before.{Apart}
 use Rattle.graph.specs.Steps.{afterWith, after}
 use Rattle.graph.specs.Execution.{Executed}
-use Rattle.graph.specs.declared.FlatChart.{FlatChart}
+use Rattle.flat_chart.specs.declared.FlatChart.{FlatChart}
 use Rattle.graph.specs.declared.Marking.{Marking}
 
 -- ---- Definition 3, of a pair in both tables: In' = (In \ (e →%)) ∪ (e →+)

@@ -15,13 +15,13 @@ use Rattle.paper.specs.declared.Answer.{Answer}
 use Rattle.general.specs.Cases.{cases}
 use Rattle.sets.specs.Set.{has, union, inter, minus, only, lowest, size, collect, putIf}
 use Rattle.sets.specs.Laws.{collect-step, one-bit, ext, has-inter, has-collect}
-use Rattle.graph.specs.Chart.{setOf, rolesOf, condition, response, milestone, include, exclude}
-use Rattle.graph.specs.Roles.{permits}
-use Rattle.graph.specs.Tests.{fit}
+use Rattle.flat_chart.specs.Chart.{setOf, condition, response, milestone, include, exclude, rowOf}
+use Rattle.flat_chart.specs.Roles.{permits}
+use Rattle.graph.specs.Fitness.{fit}
 use Rattle.graph.specs.Fitness.{fit-both}
-use Rattle.graph.specs.declared.FlatChart.{FlatChart}
+use Rattle.flat_chart.specs.declared.FlatChart.{FlatChart}
 use Rattle.graph.specs.declared.Marking.{Marking}
-use Rattle.graph.specs.declared.steps.Row.{Row}
+use Rattle.flat_chart.specs.declared.Row.{Row}
 use Rattle.graph.specs.declared.steps.Blocking.{Blocking}
 use Rattle.graph.specs.declared.steps.OpenTest.{OpenTest}
 use Rattle.graph.specs.declared.steps.Step.{Step}
@@ -69,18 +69,6 @@ blocked code place by = record { answer = answer code place 0; conditions = by .
 
 abbrev pub opened : OpenTest
 opened = record { answer = granted; conditions = 0; milestones = 0 }
-
--- the sets of event e, and the roles that it names
-abbrev pub rowOf : FlatChart → ℕ → Row
-rowOf c e =
-    record {
-      conditions = setOf c condition e;
-      responses = setOf c response e;
-      milestones = setOf c milestone e;
-      includes = setOf c include e;
-      excludes = setOf c exclude e;
-      roles = rolesOf c e;
-    }
 
 -- the test of event e after the fitness test, from the event's own sets
 unfoldable pub testing : Marking → ℕ → Row → OpenTest

@@ -4,25 +4,16 @@ ghost use mathlib.Core.Bool.{cond};
 ghost use Prim.Native.Nat.{_*_, _%_, _^_, _<_, _≤_};
 ghost use Rattle.paper.specs.Limits.{maxEvents};
 ghost use Rattle.sets.specs.Set.{union};
-ghost use Rattle.graph.specs.Chart.{chartOf};
-ghost use Rattle.graph.specs.Roles.{permits};
-ghost use Rattle.graph.specs.Steps.{rowOf, unmetOf, awaitedOf, blockingOf, shut, blocked, testing, opening};
+ghost use Rattle.flat_chart.specs.Chart.{chartOf};
+ghost use Rattle.graph.specs.Steps.{unmetOf, awaitedOf, blockingOf, shut, blocked, testing, opening};
 ghost use Rattle.graph.specs.Steps.{freeWith, afterWith, refusing, handedOn, steppingBy, openAmong, executing, counting, finishing};
-use crate::FlatChart;
 use crate::Marking;
+use flat_chart::FlatChart;
+use flat_chart::Row;
+use flat_chart::permits;
+use flat_chart::row_at;
 use paper::Answer;
 use paper::MAX_EVENTS;
-use paper::MAX_ROLES;
-
-// One event's own sets, and the roles that it names.
-pub struct Row {
-    pub conditions: u64,
-    pub responses: u64,
-    pub milestones: u64,
-    pub includes: u64,
-    pub excludes: u64,
-    pub roles: u8,
-}
 
 // What holds an event back: its included conditions that are not executed, and its included milestones that are pending.
 struct Blocking {
@@ -77,13 +68,6 @@ fn put_bit_if(s: u64, bit: u64, on: bool) -> u64
     s
 }
 
-// Whether a role may execute an event that names these; an event that names none is open to roles 0 to 7.
-pub fn permits(roles: u8, role: u32) -> bool
-    ensures { λ r. ⌜ r ≡ permits roles role ⌝ }
-{
-    (role < MAX_ROLES) & ((roles == 0) | sets::member(roles as u64, role as usize))
-}
-
 fn shut(code: u32) -> OpenTest
     ensures { λ r. ⌜ r ≡ shut code ⌝ }
 {
@@ -114,29 +98,6 @@ fn handed_on(test: OpenTest, marking: Marking) -> Step
         marking,
         conditions: test.conditions,
         milestones: test.milestones,
-    }
-}
-
-// The sets and the roles of event e, out of lent tables.
-pub fn row_at<'a>(
-    e: usize,
-    conditions: &'a [u64; MAX_EVENTS],
-    responses: &'a [u64; MAX_EVENTS],
-    milestones: &'a [u64; MAX_EVENTS],
-    includes: &'a [u64; MAX_EVENTS],
-    excludes: &'a [u64; MAX_EVENTS],
-    roles: &'a [u8; MAX_EVENTS],
-) -> Row
-    requires { ⌜ e < maxEvents ⌝ }
-    ensures { λ r. ⌜ r ≡ rowOf (chartOf 0 (now (conditions .entry)) (now (responses .entry)) (now (milestones .entry)) (now (includes .entry)) (now (excludes .entry)) (now (roles .entry))) e ⌝ }
-{
-    Row {
-        conditions: conditions[e],
-        responses: responses[e],
-        milestones: milestones[e],
-        includes: includes[e],
-        excludes: excludes[e],
-        roles: roles[e],
     }
 }
 

@@ -11,10 +11,10 @@ use Rattle.paper.specs.Limits.{andWord, orWord, notWord, maxEvents, maxMarks, m
 use Rattle.paper.specs.declared.Answer.{Answer}
 use Rattle.general.specs.Cases.{cases, neither}
 use Rattle.general.specs.Below.{some, first, first-is, tally, tally-le}
-use Rattle.graph.specs.declared.FlatChart.{FlatChart}
-use Rattle.graph.specs.Chart.{Fit}
-use Rattle.graph.specs.Tests.{fitChart}
-use Rattle.graph.specs.Fitness.{tested-fit}
+use Rattle.flat_chart.specs.declared.FlatChart.{FlatChart}
+use Rattle.flat_chart.specs.Chart.{Fit}
+use Rattle.flat_chart.specs.Tests.{fitChart}
+use Rattle.flat_chart.specs.Fitness.{tested-fit}
 use Rattle.records.specs.Image.{nodes, relations, outOfRange, misplaced, badNodeAt, badRelationAt}
 use Rattle.nesting.specs.Nesting.{eventCount, isEvent, onLoopAt, flaggedGroupAt}
 use Rattle.chart.specs.Reading.{readingRelations, readingNodes, reading}

@@ -13,10 +13,10 @@ use Rattle.paper.specs.Limits.{bookHeader, wordSize}
 use Rattle.paper.specs.declared.Answer.{Answer}
 use Rattle.general.specs.Cases.{cases, coincide}
 use Rattle.wire.specs.Laws.{u32-first}
-use Rattle.graph.specs.declared.FlatChart.{FlatChart}
-use Rattle.graph.specs.Chart.{Fit}
-use Rattle.graph.specs.Tests.{fitChart}
-use Rattle.graph.specs.Fitness.{tested-fit}
+use Rattle.flat_chart.specs.declared.FlatChart.{FlatChart}
+use Rattle.flat_chart.specs.Chart.{Fit}
+use Rattle.flat_chart.specs.Tests.{fitChart}
+use Rattle.flat_chart.specs.Fitness.{tested-fit}
 use Rattle.chart.specs.Reading.{reading}
 use Rattle.chart.specs.declared.Reading.{Reading}
 use Rattle.book.specs.Image.{conditionPlace, bookOf}

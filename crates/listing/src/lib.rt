@@ -9,7 +9,7 @@ ghost use Rattle.writing.specs.Writers.{Space};
 ghost use Rattle.listing.specs.Limits.{maxListing};
 ghost use Rattle.listing.specs.Text.{bookText, chartText, imageText};
 ghost use Rattle.listing.specs.Listing.{listedLength, listedRoom};
-use graph::FlatChart;
+use flat_chart::FlatChart;
 use paper::WORD_SIZE;
 
 // How many bytes of a chart the listing reads: the longest image, and one byte more, which shows a longer input for what it is.

@@ -2,7 +2,7 @@
 // no call copies it.
 ghost use mathlib.Core.Path.{_≡_};
 ghost use lib.ListN.{length};
-ghost use Rattle.graph.specs.Chart.{chartOf};
+ghost use Rattle.flat_chart.specs.Chart.{chartOf};
 ghost use Rattle.graph.specs.Steps.{opening, executing, counting, finishing};
 ghost use Rattle.chart.specs.Reading.{reading};
 ghost use Rattle.replay.specs.Replaying.{replaying, striking};

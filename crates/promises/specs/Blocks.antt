@@ -7,14 +7,15 @@ use lib.Dec.{eqb}
 use lib.ListN.{length, getD}
 use Rattle.paper.specs.Limits.{conditionWanting, milestoneWanting}
 use Rattle.general.specs.Below.{tally}
-use Rattle.graph.specs.Chart.{rolesOf, In, Fit, FitMarking}
-use Rattle.graph.specs.Roles.{Permits}
+use Rattle.flat_chart.specs.Chart.{rolesOf, In, Fit}
+use Rattle.graph.specs.Fitness.{FitMarking}
+use Rattle.flat_chart.specs.Roles.{Permits}
 use Rattle.graph.specs.Steps.{opened, opening, handedOn, executing, counting}
 use Rattle.graph.specs.Execution.{Enabled, BothSets, Stands}
 use Rattle.graph.specs.Opening.{Blocks, sets-exact, wanting-told, awaiting-told, others-empty, opened-enabled}
 use Rattle.graph.specs.Opening.{Cleared, clear, clear-cleared, cleared-open, each-needed, counted-by-test}
 use Rattle.graph.specs.HandedOn.{step-tests, step-exact, step-hands, step-others-empty, executingThen, leftOut, step-as-then}
-use Rattle.graph.specs.declared.FlatChart.{FlatChart}
+use Rattle.flat_chart.specs.declared.FlatChart.{FlatChart}
 use Rattle.graph.specs.declared.Marking.{Marking}
 use Rattle.replay.specs.Recorded.{Entry, recordOf}
 use Rattle.replay.specs.Replaying.{replaying, striking, without}

@@ -11,12 +11,14 @@ use Rattle.paper.specs.Limits.{maxEvents, maxMarks, includeExclude, unfit}
 use Rattle.paper.specs.Answers.{granted, refusal}
 use Rattle.paper.specs.declared.Answer.{Answer}
 use Rattle.general.specs.Cases.{cases, coincide}
-use Rattle.graph.specs.Chart.{Fit, FitMarking, emptyChart}
-use Rattle.graph.specs.Tests.{fitChart, fit}
+use Rattle.flat_chart.specs.Chart.{Fit, emptyChart}
+use Rattle.graph.specs.Fitness.{FitMarking}
+use Rattle.flat_chart.specs.Tests.{fitChart}
+use Rattle.graph.specs.Fitness.{fit}
 use Rattle.graph.specs.Steps.{opening, executing, counting, finishing}
 use Rattle.graph.specs.Execution.{Executes, executes, executes-only, refused-kept, counts, count-refused, finish-refused}
 use Rattle.graph.specs.Opening.{Opens, opens, opens-only, Blocks, others-empty}
-use Rattle.graph.specs.declared.FlatChart.{FlatChart}
+use Rattle.flat_chart.specs.declared.FlatChart.{FlatChart}
 use Rattle.graph.specs.declared.Marking.{Marking}
 use Rattle.graph.specs.declared.steps.OpenTest.{OpenTest}
 use Rattle.graph.specs.declared.steps.Step.{Step}

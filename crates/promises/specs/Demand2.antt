@@ -15,12 +15,14 @@ use Rattle.paper.specs.Limits.{maxMarks, notPermitted}
 use Rattle.paper.specs.Answers.{granted}
 use Rattle.paper.specs.declared.Answer.{Answer}
 use Rattle.general.specs.Cases.{cases}
-use Rattle.graph.specs.Chart.{rolesOf, Fit, FitMarking}
-use Rattle.graph.specs.Roles.{Permits}
-use Rattle.graph.specs.Fitness.{fit-tested}
-use Rattle.graph.specs.Steps.{isOpen, after, executing, refusing, granting}
+use Rattle.flat_chart.specs.Chart.{rolesOf, Fit}
+use Rattle.graph.specs.Fitness.{FitMarking}
+use Rattle.flat_chart.specs.Roles.{Permits}
+use Rattle.flat_chart.specs.Fitness.{fit-tested}
+use Rattle.graph.specs.Steps.{isOpen, after, executing, refusing}
+use Rattle.graph.specs.Execution.{granting}
 use Rattle.graph.specs.Execution.{Enabled, isForbidden, isDone, open-enabled, granted-enabled, after-executed, executes-only, refused-kept, after-fit, step-fit}
-use Rattle.graph.specs.declared.FlatChart.{FlatChart}
+use Rattle.flat_chart.specs.declared.FlatChart.{FlatChart}
 use Rattle.graph.specs.declared.Marking.{Marking}
 use Rattle.book.specs.Text.{Snap, snapOf}
 use Rattle.book.specs.Book.{Book}

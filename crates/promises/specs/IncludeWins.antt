@@ -12,12 +12,12 @@ use Rattle.paper.specs.Limits.{includeExclude, noSuchEvent, unfit, bookRoom}
 use Rattle.paper.specs.Answers.{answer, granted, refusal}
 use Rattle.paper.specs.declared.Answer.{Answer}
 use Rattle.general.specs.Lists.{All}
-use Rattle.graph.specs.Chart.{include, exclude, setOf, In, Fit}
+use Rattle.flat_chart.specs.Chart.{include, exclude, setOf, In, Fit, rowOf}
 use Rattle.graph.specs.Before.{Apart, fitChartThen, fitThen, chart-as-then, fit-as-then}
-use Rattle.graph.specs.Steps.{rowOf, refusing, steppingBy, executing, after}
+use Rattle.graph.specs.Steps.{refusing, steppingBy, executing, after}
 use Rattle.graph.specs.Execution.{Executed, granted-executed}
 use Rattle.graph.specs.Overruled.{inclusion-wins, exclusion-stands, standing, standing-fit, standing-steps}
-use Rattle.graph.specs.declared.FlatChart.{FlatChart}
+use Rattle.flat_chart.specs.declared.FlatChart.{FlatChart}
 use Rattle.graph.specs.declared.Marking.{Marking}
 use Rattle.graph.specs.declared.steps.Step.{Step}
 use Rattle.chart.specs.Reading.{reading, grantedReading}

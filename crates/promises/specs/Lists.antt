@@ -6,12 +6,12 @@ use mathlib.Core.Logic.{_↔_}
 use mathlib.Core.List.{List, [], _∷_}
 use lib.ListN.{length}
 use Rattle.paper.specs.Limits.{maxMarks, maxList}
-use Rattle.graph.specs.Chart.{Fit, FitMarking}
-use Rattle.graph.specs.Chart.{rolesOf}
-use Rattle.graph.specs.Roles.{Permits}
+use Rattle.flat_chart.specs.Chart.{Fit, rolesOf}
+use Rattle.graph.specs.Fitness.{FitMarking}
+use Rattle.flat_chart.specs.Roles.{Permits}
 use Rattle.graph.specs.Steps.{executing}
 use Rattle.graph.specs.Execution.{granted-enabled}
-use Rattle.graph.specs.declared.FlatChart.{FlatChart}
+use Rattle.flat_chart.specs.declared.FlatChart.{FlatChart}
 use Rattle.graph.specs.declared.Marking.{Marking}
 use Rattle.order_theory.specs.Order as order
 use Rattle.book.specs.Image.{bookOf}

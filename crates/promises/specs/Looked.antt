@@ -14,13 +14,15 @@ use Rattle.general.specs.Cases.{cases}
 use Rattle.general.specs.Below.{tally}
 use Rattle.general.specs.Lists.{total, total-same, total-le, total-one, flat, All, all-append, all-flat}
 use Rattle.sets.specs.Set.{has}
-use Rattle.graph.specs.Chart.{response, include, exclude, setOf, rolesOf, Fit, FitMarking}
-use Rattle.graph.specs.Roles.{Permits, permits}
+use Rattle.flat_chart.specs.Chart.{response, include, exclude, setOf, rolesOf, Fit}
+use Rattle.graph.specs.Fitness.{FitMarking, fitMarking, fit}
+use Rattle.flat_chart.specs.Roles.{Permits, permits}
 use Rattle.graph.specs.Steps.{unmetOf, awaitedOf, afterWith, stepping, steppingBy, testing, executing}
-use Rattle.graph.specs.Tests.{rowSpill, spillAt, spillOf, rolesFrom, fitTables, fitChart, fitMarking, fit}
+use Rattle.flat_chart.specs.Tests.{rowSpill, spillAt, spillOf, rolesFrom, fitTables, fitChart}
 use Rattle.graph.specs.Fitness.{fit-both}
-use Rattle.graph.specs.Examples.{none, marking}
-use Rattle.graph.specs.declared.FlatChart.{FlatChart}
+use Rattle.graph.specs.Examples.{none}
+use Rattle.graph.specs.HandedOn.{marking}
+use Rattle.flat_chart.specs.declared.FlatChart.{FlatChart}
 use Rattle.order_theory.specs.Order.{countedRules}
 use Rattle.book.specs.Text.{Snap, snapOf}
 use Rattle.book.specs.Book.{Book, noRule}

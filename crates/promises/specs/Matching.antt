@@ -13,12 +13,12 @@ use Rattle.paper.specs.Limits.{maxEvents, maxMarks, unfit}
 use Rattle.paper.specs.Answers.{granted, refusal}
 use Rattle.general.specs.Cases.{cases, contra, same-test, not-so}
 use Rattle.sets.specs.Set.{has}
-use Rattle.graph.specs.Chart.{In, Fit, FitMarking}
-use Rattle.graph.specs.Tests.{fit}
+use Rattle.flat_chart.specs.Chart.{In, Fit}
+use Rattle.graph.specs.Fitness.{FitMarking, fit}
 use Rattle.graph.specs.Fitness.{fit-both, both-fit}
 use Rattle.graph.specs.Steps.{isOpen}
 use Rattle.graph.specs.Execution.{Enabled, open-enabled}
-use Rattle.graph.specs.declared.FlatChart.{FlatChart}
+use Rattle.flat_chart.specs.declared.FlatChart.{FlatChart}
 use Rattle.graph.specs.declared.Marking.{Marking}
 use Rattle.book.specs.Text.{snapOf}
 use Rattle.general.specs.Lists.{each, length-each}

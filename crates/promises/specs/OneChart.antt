@@ -11,13 +11,13 @@ use lib.Seq.{take-at}
 use borrow.Author.Tests.{leb-false}
 use Rattle.paper.specs.Limits.{maxEvents}
 use Rattle.general.specs.Cases.{cases}
-use Rattle.graph.specs.Chart.{Kind, condition, milestone, table, setOf, rolesOf, Fit}
-use Rattle.graph.specs.Roles.{Permits, permits-so}
-use Rattle.graph.specs.Tests.{fit}
-use Rattle.graph.specs.Fitness.{fit-tested}
+use Rattle.flat_chart.specs.Chart.{Kind, condition, milestone, table, setOf, rolesOf, Fit}
+use Rattle.flat_chart.specs.Roles.{Permits, permits-so}
+use Rattle.graph.specs.Fitness.{fit}
+use Rattle.flat_chart.specs.Fitness.{fit-tested}
 use Rattle.graph.specs.Steps.{stepping, steppingBy, testing, executing}
 use Rattle.graph.specs.Overruled.{standing}
-use Rattle.graph.specs.declared.FlatChart.{FlatChart}
+use Rattle.flat_chart.specs.declared.FlatChart.{FlatChart}
 use Rattle.graph.specs.declared.Marking.{Marking}
 use Rattle.graph.specs.declared.steps.Step.{Step}
 use Rattle.chart.specs.Reading.{reading}

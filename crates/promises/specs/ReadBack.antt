@@ -8,9 +8,9 @@ use lib.ListN.{length, replicate}
 use Rattle.paper.specs.Limits.{maxEvents, notDerived}
 use Rattle.paper.specs.Answers.{granted}
 use Rattle.paper.specs.declared.Answer.{Answer}
-use Rattle.graph.specs.Chart.{Kind, table, Fit}
+use Rattle.flat_chart.specs.Chart.{Kind, table, Fit}
 use Rattle.graph.specs.Overruled.{standing}
-use Rattle.graph.specs.declared.FlatChart.{FlatChart}
+use Rattle.flat_chart.specs.declared.FlatChart.{FlatChart}
 use Rattle.chart.specs.Reading.{reading}
 use Rattle.chart.specs.ReadingGives.{reading-fit}
 use Rattle.judge.specs.Checking.{BookPasses}

@@ -11,12 +11,12 @@ use lib.ListN.{length}
 use borrow.Author.Tests.{eqb-true, eqb-false}
 use Rattle.paper.specs.Limits.{maxList, unfit}
 use Rattle.general.specs.Cases.{cases}
-use Rattle.graph.specs.Chart.{In, Fit, FitMarking}
-use Rattle.graph.specs.Fitness.{fit-both}
-use Rattle.graph.specs.Tests.{fit}
+use Rattle.flat_chart.specs.Chart.{In, Fit}
+use Rattle.graph.specs.Fitness.{FitMarking}
+use Rattle.graph.specs.Fitness.{fit-both, fit}
 use Rattle.graph.specs.Steps.{executing}
 use Rattle.graph.specs.Execution.{Executes, isUnfit, isGone, isForbidden, isExcluded, isWanting, isAwaiting, isDone, executes, refused-kept, finished-when}
-use Rattle.graph.specs.declared.FlatChart.{FlatChart}
+use Rattle.flat_chart.specs.declared.FlatChart.{FlatChart}
 use Rattle.graph.specs.declared.Marking.{Marking}
 use Rattle.graph.specs.declared.steps.Step.{Step}
 use Rattle.deriver.specs.Deriving.{derivedImage}

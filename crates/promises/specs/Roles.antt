@@ -14,14 +14,15 @@ use Rattle.general.specs.Cases.{contra, not-so}
 use Rattle.sets.specs.Set.{has}
 use Rattle.sets.specs.Laws.{has-empty, has-union, none-zero}
 use Rattle.general.specs.Tables.{zeros-at}
-use Rattle.graph.specs.Chart.{rolesOf, Fit, FitMarking}
-use Rattle.graph.specs.Tests.{rolesFrom, fitMarking, fit}
+use Rattle.flat_chart.specs.Chart.{rolesOf, Fit, rowOf}
+use Rattle.graph.specs.Fitness.{FitMarking, fitMarking, fit}
+use Rattle.flat_chart.specs.Tests.{rolesFrom}
 use Rattle.graph.specs.Before.{Apart, spillOfThen, fitTablesThen, fitChartThen, fitThen, fit-as-then}
-use Rattle.graph.specs.Roles.{Permits, permits-so}
-use Rattle.graph.specs.Steps.{rowOf, refusing, executing}
+use Rattle.flat_chart.specs.Roles.{Permits, permits-so}
+use Rattle.graph.specs.Steps.{refusing, executing}
 use Rattle.graph.specs.Execution.{granted-enabled, executes-only, isForbidden, refused-kept}
 use Rattle.graph.specs.HandedOn.{StepThen, refusingThen, steppingThen, steppingByThen, executingThen, leftOut, step-as-then}
-use Rattle.graph.specs.declared.FlatChart.{FlatChart}
+use Rattle.flat_chart.specs.declared.FlatChart.{FlatChart}
 use Rattle.graph.specs.declared.Marking.{Marking}
 use Rattle.flattening.specs.Flattening.{flatChart}
 use Rattle.chart.specs.Reading.{reading}

@@ -14,16 +14,21 @@ use Rattle.paper.specs.declared.Answer.{Answer}
 use Rattle.general.specs.Below.{tally}
 use Rattle.sets.specs.Set.{has}
 use Rattle.general.specs.Tables.{tabulate, zeros-at}
-use Rattle.graph.specs.Chart.{rolesOf, Fit, FitMarking}
-use Rattle.graph.specs.Tests.{rowSpill, spillAt, spillOf, rolesFrom, fitTables, fitChart, fitMarking, fit}
-use Rattle.graph.specs.Fitness.{tested-fit, fit-both}
+use Rattle.flat_chart.specs.Chart.{rolesOf, Fit}
+use Rattle.graph.specs.Fitness.{FitMarking}
+use Rattle.flat_chart.specs.Tests.{rowSpill, spillAt, spillOf, rolesFrom, fitTables, fitChart}
+use Rattle.graph.specs.Fitness.{fitMarking, fit}
+use Rattle.flat_chart.specs.Fitness.{tested-fit}
+use Rattle.graph.specs.Fitness.{fit-both}
 use Rattle.graph.specs.Overruled.{standingAt}
-use Rattle.graph.specs.Roles.{Permits, permits}
-use Rattle.graph.specs.Steps.{openWith, unmetOf, awaitedOf, afterWith, testing, stepping, steppingBy, executing, granting, finishing}
+use Rattle.flat_chart.specs.Roles.{Permits, permits}
+use Rattle.graph.specs.Steps.{openWith, unmetOf, awaitedOf, afterWith, testing, stepping, steppingBy, executing, finishing}
+use Rattle.graph.specs.Execution.{granting}
 use Rattle.graph.specs.Execution.{holding}
-use Rattle.graph.specs.Examples.{none, pair, marking}
+use Rattle.graph.specs.Examples.{none, pair}
+use Rattle.graph.specs.HandedOn.{marking}
 use Rattle.graph.specs.Examples as graph
-use Rattle.graph.specs.declared.FlatChart.{FlatChart}
+use Rattle.flat_chart.specs.declared.FlatChart.{FlatChart}
 use Rattle.graph.specs.declared.Marking.{Marking}
 use Rattle.chart.specs.Reading.{reading}
 use Rattle.chart.specs.ReadingGives.{reading-fit}

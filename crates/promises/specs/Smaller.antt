@@ -15,11 +15,12 @@ use Rattle.general.specs.Cases.{contra, cases, same-test, not-so}
 use Rattle.general.specs.Below.{every, every-at, every-of, every-same}
 use Rattle.general.specs.Lists.{All, each, length-each, getD-each}
 use Rattle.sets.specs.Set.{has}
-use Rattle.graph.specs.Chart.{rolesOf, Fit, FitMarking}
-use Rattle.graph.specs.Roles.{Permits}
+use Rattle.flat_chart.specs.Chart.{rolesOf, Fit}
+use Rattle.graph.specs.Fitness.{FitMarking}
+use Rattle.flat_chart.specs.Roles.{Permits}
 use Rattle.graph.specs.Steps.{after, executing, finishing}
 use Rattle.graph.specs.Execution.{isDone, granted-enabled, after-executed, executes-only, refused-kept, after-fit, finished-when}
-use Rattle.graph.specs.declared.FlatChart.{FlatChart}
+use Rattle.flat_chart.specs.declared.FlatChart.{FlatChart}
 use Rattle.graph.specs.declared.Marking.{Marking}
 use Rattle.graph.specs.declared.steps.Step.{Step}
 use Rattle.book.specs.Text.{Snap, snapOf}

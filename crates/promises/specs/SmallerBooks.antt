@@ -15,9 +15,10 @@ use Rattle.paper.specs.Answers.{granted}
 use Rattle.paper.specs.declared.Answer.{Answer}
 use Rattle.general.specs.Cases.{contra, cases, not-so}
 use Rattle.general.specs.Lists.{All, length-each}
-use Rattle.graph.specs.Chart.{Fit, FitMarking}
+use Rattle.flat_chart.specs.Chart.{Fit}
+use Rattle.graph.specs.Fitness.{FitMarking}
 use Rattle.graph.specs.Fitness.{both-fit}
-use Rattle.graph.specs.declared.FlatChart.{FlatChart}
+use Rattle.flat_chart.specs.declared.FlatChart.{FlatChart}
 use Rattle.graph.specs.declared.Marking.{Marking}
 use Rattle.book.specs.Text.{snapOf}
 use Rattle.book.specs.Book.{Book}

@@ -13,12 +13,13 @@ use Rattle.general.specs.Cases.{cases, contra, both, not-so}
 use Rattle.general.specs.Below.{tally, tally-none, Lowest, lowest-one}
 use Rattle.sets.specs.Set.{has, inter, lowest}
 use Rattle.sets.specs.Laws.{has-inter, below, lowest-has, lowest-lt, apart-not, not-apart}
-use Rattle.graph.specs.Chart.{In, Fit, FitMarking}
-use Rattle.graph.specs.Tests.{fit, fitChart}
-use Rattle.graph.specs.Fitness.{fit-chart, fit-both, both-fit, fit-tested}
+use Rattle.flat_chart.specs.Chart.{In, Fit}
+use Rattle.graph.specs.Fitness.{FitMarking, fit, fit-both, both-fit}
+use Rattle.flat_chart.specs.Tests.{fitChart}
+use Rattle.flat_chart.specs.Fitness.{fit-chart, fit-tested}
 use Rattle.graph.specs.Steps.{isOpen, counting, finishing}
 use Rattle.graph.specs.Execution.{Enabled, open-enabled, Counts, counts, count-refused, finish-refused}
-use Rattle.graph.specs.declared.FlatChart.{FlatChart}
+use Rattle.flat_chart.specs.declared.FlatChart.{FlatChart}
 use Rattle.graph.specs.declared.Marking.{Marking}
 use Rattle.graph.specs.declared.steps.OpenCount.{OpenCount}
 use Rattle.graph.specs.declared.steps.Finished.{Finished}

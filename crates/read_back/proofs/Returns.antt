@@ -12,10 +12,10 @@ use Rattle.paper.specs.declared.Answer.{Answer}
 use Rattle.general.specs.Cases.{both, not-so}
 use Rattle.general.specs.Comparing.{sameBytes, same-so}
 use Rattle.general.specs.Tables.{length-tabulate}
-use Rattle.graph.specs.Chart.{Fit, chartOf}
-use Rattle.graph.specs.Tests.{fitChart}
-use Rattle.graph.specs.Fitness.{tested-fit}
-use Rattle.graph.specs.declared.FlatChart.{FlatChart}
+use Rattle.flat_chart.specs.Chart.{Fit, chartOf}
+use Rattle.flat_chart.specs.Tests.{fitChart}
+use Rattle.flat_chart.specs.Fitness.{tested-fit}
+use Rattle.flat_chart.specs.declared.FlatChart.{FlatChart}
 use Rattle.book.specs.Book.{Book}
 use Rattle.book.specs.Image.{stagesIn, rulesIn, conditionsIn, conditionPlace, conditionFrom, bookOf}
 use Rattle.book.specs.ImageOf.{book-of-image}

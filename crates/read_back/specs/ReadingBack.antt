@@ -7,9 +7,9 @@ use Rattle.paper.specs.Limits.{notDerived}
 use Rattle.paper.specs.Answers.{granted, refusal}
 use Rattle.paper.specs.declared.Answer.{Answer}
 use Rattle.general.specs.Comparing.{sameBytes}
-use Rattle.graph.specs.Chart.{emptyChart}
-use Rattle.graph.specs.Tests.{fitChart}
-use Rattle.graph.specs.declared.FlatChart.{FlatChart}
+use Rattle.flat_chart.specs.Chart.{emptyChart}
+use Rattle.flat_chart.specs.Tests.{fitChart}
+use Rattle.flat_chart.specs.declared.FlatChart.{FlatChart}
 use Rattle.book.specs.Image.{bookOf}
 use Rattle.judge.specs.Checking.{bookAnswer}
 use Rattle.deriver.specs.Deriving.{derivedImage}

@@ -12,10 +12,10 @@ use Rattle.paper.specs.Answers.{granted, refusal}
 use Rattle.paper.specs.declared.Answer.{Answer}
 use Rattle.general.specs.Cases.{contra, cases, both, coincide, not-so}
 use Rattle.general.specs.Comparing.{sameBytes, same-so, so-same}
-use Rattle.graph.specs.Chart.{Fit, emptyChart}
-use Rattle.graph.specs.Tests.{fitChart}
-use Rattle.graph.specs.Fitness.{tested-fit, fit-tested}
-use Rattle.graph.specs.declared.FlatChart.{FlatChart}
+use Rattle.flat_chart.specs.Chart.{Fit, emptyChart}
+use Rattle.flat_chart.specs.Tests.{fitChart}
+use Rattle.flat_chart.specs.Fitness.{tested-fit, fit-tested}
+use Rattle.flat_chart.specs.declared.FlatChart.{FlatChart}
 use Rattle.book.specs.Image.{rulesIn, bookOf}
 use Rattle.book.specs.ImageOf.{imageOf, book-of-image}
 use Rattle.judge.specs.Checking.{bookAnswer, BookPasses, Checked, passes-granted, book-passes, book-is, is-book}

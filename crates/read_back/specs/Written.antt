@@ -4,9 +4,9 @@ use mathlib.Core.List.{List}
 use Prim.Native.Nat.{ℕ}
 use Rattle.paper.specs.declared.Answer.{Answer}
 use Rattle.general.specs.Comparing.{sameBytes}
-use Rattle.graph.specs.Chart.{emptyChart}
-use Rattle.graph.specs.Tests.{fitChart}
-use Rattle.graph.specs.declared.FlatChart.{FlatChart}
+use Rattle.flat_chart.specs.Chart.{emptyChart}
+use Rattle.flat_chart.specs.Tests.{fitChart}
+use Rattle.flat_chart.specs.declared.FlatChart.{FlatChart}
 use Rattle.deriver.specs.Deriving.{derivedImage}
 use Rattle.read_back.specs.declared.ReadBack.{ReadBack}
 

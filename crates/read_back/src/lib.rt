@@ -8,7 +8,7 @@ ghost use Rattle.derived_same.specs.Same.{roleless};
 ghost use Rattle.read_back.specs.ReadingBack.{readingBack};
 ghost use Rattle.read_back.specs.Written.{writtenFor, refusedBack};
 use book::header::counts_at;
-use graph::FlatChart;
+use flat_chart::FlatChart;
 use paper::Answer;
 use paper::MAX_EVENTS;
 use paper::NOT_DERIVED;
@@ -33,7 +33,7 @@ fn written_for<'a>(
     requires { ⌜ now roles ≡ replicate maxEvents 0 ⌝ }
     ensures { λ r. ⌜ r ≡ writtenFor (roleless count (now (conditions .entry)) (now (responses .entry)) (now (milestones .entry)) (now (includes .entry)) (now (excludes .entry))) (now (book .entry)) ⌝ }
 {
-    if !graph::tables_fit(
+    if !flat_chart::tables_fit(
         count,
         conditions,
         responses,

@@ -14,9 +14,9 @@ use Rattle.paper.specs.Limits.{unfit, noSuchPosition}
 use Rattle.paper.specs.Answers.{answer, granted, refusal, placeOf}
 use Rattle.paper.specs.declared.Answer.{Answer}
 use Rattle.sets.specs.Set.{inter}
-use Rattle.graph.specs.Tests.{fit}
+use Rattle.graph.specs.Fitness.{fit}
 use Rattle.graph.specs.Steps.{finish-told}
-use Rattle.graph.specs.declared.FlatChart.{FlatChart}
+use Rattle.flat_chart.specs.declared.FlatChart.{FlatChart}
 use Rattle.graph.specs.declared.Marking.{Marking}
 use Rattle.graph.specs.declared.steps.Finished.{Finished}
 use Rattle.replay.specs.Recorded.{Entry, recordOf, reaching, reach-fit, reach-whole, reach-short, reach-stopped, reach-append}

@@ -11,13 +11,14 @@ use lib.Seq.{slice, slice-cons, slice-empty}
 use Rattle.paper.specs.Limits.{maxEvents, noSuchEvent}
 use Rattle.paper.specs.Answers.{granted, refusal}
 use Rattle.paper.specs.declared.Answer.{Answer}
-use Rattle.graph.specs.Tests.{fit}
+use Rattle.graph.specs.Fitness.{fit}
 use Rattle.graph.specs.Fitness.{fit-both, both-fit}
-use Rattle.graph.specs.Steps.{executing, refusing, steppingBy, rowOf, fit-index, step-gone, step-taken}
+use Rattle.flat_chart.specs.Chart.{rowOf}
+use Rattle.graph.specs.Steps.{executing, refusing, steppingBy, fit-index, step-gone, step-taken}
 use Rattle.graph.specs.Execution.{step-fit}
-use Rattle.graph.specs.declared.FlatChart.{FlatChart}
+use Rattle.flat_chart.specs.declared.FlatChart.{FlatChart}
 use Rattle.graph.specs.declared.Marking.{Marking}
-use Rattle.graph.specs.declared.steps.Row.{Row}
+use Rattle.flat_chart.specs.declared.Row.{Row}
 use Rattle.graph.specs.declared.steps.Step.{Step}
 use Rattle.replay.specs.Recorded.{Entry, recordOf, taking, reaching, reach-then, reach-until}
 use Rattle.replay.specs.Replaying.{walking}

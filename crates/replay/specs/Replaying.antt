@@ -7,9 +7,9 @@ use lib.Seq.{slice}
 use lib.Dec.{eqb, leb, ltb}
 use Rattle.paper.specs.Limits.{unfit, noSuchPosition}
 use Rattle.paper.specs.Answers.{answer, granted, refusal, placeOf}
-use Rattle.graph.specs.Tests.{fit}
+use Rattle.graph.specs.Fitness.{fit}
 use Rattle.graph.specs.Steps.{finishing}
-use Rattle.graph.specs.declared.FlatChart.{FlatChart}
+use Rattle.flat_chart.specs.declared.FlatChart.{FlatChart}
 use Rattle.graph.specs.declared.Marking.{Marking}
 use Rattle.graph.specs.declared.steps.Step.{Step}
 use Rattle.replay.specs.Recorded.{Entry, recordOf, Reached, reaching}

@@ -13,14 +13,14 @@ use Rattle.paper.specs.Limits.{unfit, noSuchPosition}
 use Rattle.paper.specs.Answers.{granted, placeOf}
 use Rattle.general.specs.Cases.{contra, cases, coincide}
 use Rattle.general.specs.Refusals.{Refusals, when, unless, otherwise, firstRow, Told, first-told, told-only, not-held}
-use Rattle.graph.specs.Chart.{Fit, FitMarking}
-use Rattle.graph.specs.Tests.{fit}
+use Rattle.flat_chart.specs.Chart.{Fit}
+use Rattle.graph.specs.Fitness.{FitMarking, fit}
 use Rattle.graph.specs.Fitness.{fit-both, both-fit}
 use Rattle.graph.specs.Steps.{finishing}
 use Rattle.graph.specs.Execution.{BothSets, refused-kept}
 use Rattle.graph.specs.Opening.{Blocks}
 use Rattle.graph.specs.HandedOn.{step-exact, step-others-empty}
-use Rattle.graph.specs.declared.FlatChart.{FlatChart}
+use Rattle.flat_chart.specs.declared.FlatChart.{FlatChart}
 use Rattle.graph.specs.declared.Marking.{Marking}
 use Rattle.graph.specs.declared.steps.Step.{Step}
 use Rattle.replay.specs.Recorded.{Entry, recordOf, Allowed, HowFar, whole, until, Reached, reached, reaching, how-far, how-far-only, reach-whole, allowed-reached}

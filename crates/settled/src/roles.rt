@@ -1,6 +1,6 @@
 // Roles: a step by a role that the event or a group above it names, by one that none names, and where 32 stands among the codes.
 use crate::show;
-use graph::FlatChart;
+use flat_chart::FlatChart;
 use graph::Marking;
 
 fn step(name: &[u8], chart: FlatChart, marking: Marking, event: u32, role: u32) {

@@ -1,6 +1,6 @@
 // Steps and deriving: the mortgage application's run of document 000, section 2, P8, and the room of a book.
 use crate::show;
-use graph::FlatChart;
+use flat_chart::FlatChart;
 use graph::Marking;
 
 // The chart names no roles, so any may.

@@ -8,7 +8,7 @@ use borrow.Author.Tests.{lt-ltb}
 use Rattle.general.specs.Below.{some}
 use Rattle.sets.specs.Set.{has, union, minus, allBelow}
 use Rattle.sets.specs.Laws.{has-union, has-minus, has-empty, has-all}
-use Rattle.graph.specs.declared.FlatChart.{FlatChart}
+use Rattle.flat_chart.specs.declared.FlatChart.{FlatChart}
 use Rattle.graph.specs.declared.Marking.{Marking}
 use Rattle.smaller.specs.Staying.{named, executedStays, includedStays, answeredStays}
 

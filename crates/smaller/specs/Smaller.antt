@@ -6,8 +6,8 @@ use lib.ListN.{length}
 use lib.Dec.{eqb}
 use Rattle.general.specs.Below.{tally}
 use Rattle.general.specs.Lists.{flat, packed}
-use Rattle.graph.specs.Chart.{condition, milestone, setOf}
-use Rattle.graph.specs.declared.FlatChart.{FlatChart}
+use Rattle.flat_chart.specs.Chart.{condition, milestone, setOf}
+use Rattle.flat_chart.specs.declared.FlatChart.{FlatChart}
 use Rattle.graph.specs.declared.Marking.{Marking}
 use Rattle.book.specs.Book.{Book, Condition}
 use Rattle.book.specs.declared.Rule.{Rule}

@@ -10,8 +10,8 @@ use Rattle.general.specs.Cases.{contra, cases, neither, not-so}
 use Rattle.general.specs.Below.{some, some-of, some-at, tally}
 use Rattle.general.specs.Lists.{each}
 use Rattle.sets.specs.Set.{has}
-use Rattle.graph.specs.Chart.{Kind, condition, response, include, exclude, setOf, In}
-use Rattle.graph.specs.declared.FlatChart.{FlatChart}
+use Rattle.flat_chart.specs.Chart.{Kind, condition, response, include, exclude, setOf, In}
+use Rattle.flat_chart.specs.declared.FlatChart.{FlatChart}
 use Rattle.graph.specs.declared.Marking.{Marking}
 
 module _ (c : FlatChart) (m : Marking) where

@@ -10,8 +10,8 @@ use Rattle.general.specs.Cases.{cases, lt-suc}
 use Rattle.general.specs.Below.{tally, tally-le, tally-all}
 use Rattle.general.specs.Lists.{flat, flat-same, All, all-append, all-flat, packed}
 use Rattle.sets.specs.Set.{has}
-use Rattle.graph.specs.Chart.{condition, response, milestone, include, exclude, setOf}
-use Rattle.graph.specs.declared.FlatChart.{FlatChart}
+use Rattle.flat_chart.specs.Chart.{condition, response, milestone, include, exclude, setOf}
+use Rattle.flat_chart.specs.declared.FlatChart.{FlatChart}
 use Rattle.graph.specs.declared.Marking.{Marking}
 use Rattle.book.specs.Book.{Book}
 use Rattle.book.specs.Image.{bookOf}

@@ -12,9 +12,9 @@ use Rattle.general.specs.Cases.{contra, cases}
 use Rattle.general.specs.Below.{some-of}
 use Rattle.general.specs.Lists.{flat, All, all-append, append-all, all-flat, all-map, all-at, at-all, packed, packed-all}
 use Rattle.sets.specs.Set.{has}
-use Rattle.graph.specs.Chart.{condition, milestone, response, include, exclude, setOf, Fit}
+use Rattle.flat_chart.specs.Chart.{condition, milestone, response, include, exclude, setOf, Fit}
 use Rattle.graph.specs.Steps.{isOpen, after}
-use Rattle.graph.specs.declared.FlatChart.{FlatChart}
+use Rattle.flat_chart.specs.declared.FlatChart.{FlatChart}
 use Rattle.graph.specs.declared.Marking.{Marking}
 use Rattle.book.specs.Text.{Snap, eval, top, holds}
 use Rattle.book.specs.Book.{textOf, noRule}

@@ -7,10 +7,10 @@ use lib.Dec.{ltb}
 use borrow.Author.Tests.{lt-ltb, le-ltb, ltb-true, ltb-false}
 use Rattle.general.specs.Cases.{contra, cases, not-so}
 use Rattle.sets.specs.Set.{has}
-use Rattle.graph.specs.Chart.{In}
+use Rattle.flat_chart.specs.Chart.{In}
 use Rattle.graph.specs.Steps.{after}
 use Rattle.graph.specs.Execution.{after-executed}
-use Rattle.graph.specs.declared.FlatChart.{FlatChart}
+use Rattle.flat_chart.specs.declared.FlatChart.{FlatChart}
 use Rattle.graph.specs.declared.Marking.{Marking}
 use Rattle.book.specs.Text.{Snap}
 use Rattle.smaller.specs.Staying.{includedStays, answeredStays, included-goes, answered-goes, stays, newMark, smallerMarks}

@@ -9,10 +9,10 @@ use lib.Seq.{take-append-seam}
 use Rattle.paper.specs.declared.Answer.{Answer}
 use Rattle.general.specs.Cases.{cases}
 use Rattle.wire.specs.Laws.{u32-first}
-use Rattle.graph.specs.declared.FlatChart.{FlatChart}
+use Rattle.flat_chart.specs.declared.FlatChart.{FlatChart}
 use Rattle.graph.specs.declared.Marking.{Marking}
-use Rattle.graph.specs.Chart.{Fit}
-use Rattle.graph.specs.Tests.{fit}
+use Rattle.flat_chart.specs.Chart.{Fit}
+use Rattle.graph.specs.Fitness.{fit}
 use Rattle.graph.specs.Fitness.{fit-both}
 use Rattle.book.specs.Image.{rulesIn, conditionsIn, wordsIn, conditionPlace, wordPlace}
 use Rattle.book.specs.Judging.{countsOf}

@@ -7,7 +7,7 @@ ghost use Rattle.book.specs.Image.{rulesIn, conditionsIn, wordsIn, wordPlace};
 ghost use Rattle.smaller_deriver.specs.Calling.{derivingSmaller, smallerImage};
 use book::header::counts_at;
 use book::header::words_from;
-use graph::FlatChart;
+use flat_chart::FlatChart;
 use graph::Marking;
 use libc::STDIN_FILENO;
 use libc::STDOUT_FILENO;

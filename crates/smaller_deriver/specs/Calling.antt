@@ -10,10 +10,10 @@ use Rattle.paper.specs.Limits.{maxMarks, maxRules, maxConditions, maxWords, noM
 use Rattle.paper.specs.Answers.{answer, granted, refusal}
 use Rattle.paper.specs.declared.Answer.{Answer}
 use borrow.Author.Tests.{not-true, not-false}
-use Rattle.graph.specs.Chart.{Fit}
-use Rattle.graph.specs.Tests.{fit}
+use Rattle.flat_chart.specs.Chart.{Fit}
+use Rattle.graph.specs.Fitness.{fit}
 use Rattle.graph.specs.Fitness.{fit-both}
-use Rattle.graph.specs.declared.FlatChart.{FlatChart}
+use Rattle.flat_chart.specs.declared.FlatChart.{FlatChart}
 use Rattle.graph.specs.declared.Marking.{Marking}
 use Rattle.book.specs.ImageOf.{imageOf}
 use Rattle.smaller.specs.Staying.{markTable, smallerMarks}

@@ -14,7 +14,7 @@ use Rattle.general.specs.Lists.{flat, flat-step, flat-same, each, length-each}
 use Rattle.general.specs.Writing.{sets-append}
 use Rattle.sets.specs.Set.{has, union, allBelow}
 use Rattle.sets.specs.Laws.{has-all}
-use Rattle.graph.specs.declared.FlatChart.{FlatChart}
+use Rattle.flat_chart.specs.declared.FlatChart.{FlatChart}
 use Rattle.graph.specs.declared.Marking.{Marking}
 use Rattle.deriver.specs.Matching.{four-runs}
 use Rattle.smaller.specs.Staying.{stays, newMark, smallerMarks, markTable}

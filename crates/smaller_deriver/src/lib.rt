@@ -1,11 +1,11 @@
 // Deriving a smaller book from a flat chart and a start marking.
 ghost use mathlib.Core.Path.{_≡_};
 ghost use lib.ListN.{length};
-ghost use Rattle.graph.specs.Chart.{chartOf};
+ghost use Rattle.flat_chart.specs.Chart.{chartOf};
 ghost use Rattle.general.specs.Writing.{Ran};
 ghost use Rattle.smaller_deriver.specs.Calling.{derivingSmaller, smallerRoom, refusingSmaller};
 ghost use Rattle.smaller_deriver.specs.Book.{bookRuns, Ready, Laid, Whole, wholeAnswer, wholeRoom};
-use graph::FlatChart;
+use flat_chart::FlatChart;
 use graph::Marking;
 use paper::Answer;
 use paper::BOOK_HEADER;

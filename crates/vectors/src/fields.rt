@@ -3,7 +3,7 @@ ghost use Prim.Native.Nat.{_+_, _*_, _≤_};
 ghost use lib.ListN.{length};
 use crate::rooms::MAX_NUMBERS;
 use book::Snapshot;
-use graph::FlatChart;
+use flat_chart::FlatChart;
 use graph::Marking;
 use paper::MAX_EVENTS;
 use paper::MAX_MARKS;

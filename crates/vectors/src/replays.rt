@@ -5,7 +5,7 @@ use crate::fields;
 use crate::show;
 use fields::FLAT;
 use fields::MARKING;
-use graph::FlatChart;
+use flat_chart::FlatChart;
 use graph::Marking;
 use replay::Replayed;
 use replay::Struck;

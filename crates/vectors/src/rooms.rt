@@ -2,7 +2,7 @@
 ghost use Prim.Native.Nat.{_≤_};
 ghost use lib.ListN.{length};
 use book::Snapshot;
-use graph::FlatChart;
+use flat_chart::FlatChart;
 use graph::Marking;
 use indexed::ListCompletion;
 use paper::Answer;

@@ -3,7 +3,7 @@ ghost use Prim.Native.Nat.{_+_, _≤_};
 ghost use lib.ListN.{length};
 use crate::fields;
 use book::Snapshot;
-use graph::FlatChart;
+use flat_chart::FlatChart;
 use graph::Marking;
 use libc::STDOUT_FILENO;
 use paper::Answer;

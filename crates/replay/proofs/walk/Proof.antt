@@ -1,6 +1,6 @@
 -- `replay::walk` meets its contract. Assumes nothing.
 use Prim.Native.Nat.{_-_}
-use Rattle.graph.specs.Chart.{chartOf}
+use Rattle.flat_chart.specs.Chart.{chartOf}
 use Rattle.replay.proofs.Walks.{Going, going-start, going-more, going-stop, going-end}
 use borrow.Author.Needs.{needs}
 use native.Mathlib.Omega.{arith}

@@ -1,5 +1,5 @@
 -- `graph::Marking::is_fit` meets its contract. Assumes nothing.
-use Rattle.graph.specs.Tests.{fitMarking}
+use Rattle.graph.specs.Fitness.{fitMarking}
 use borrow.Author.Needs.{needs}
 use Rattle.graph.proofs.Marking.is_fit.Statement.{statement}
 use Rattle.graph.proofs.Marking.is_fit.Tie as tie

@@ -1,11 +1,11 @@
--- `graph::roles_past` meets its contract. The loop's invariant: all holds the roles of the events passed. Assumes nothing.
+-- `flat_chart::roles_past` meets its contract. The loop's invariant: all holds the roles of the events passed. Assumes nothing.
 use Prim.Native.Nat.{_≤_, _-_}
-use Rattle.graph.specs.Tests.{rolesFrom, roles-none, roles-more, roles-end}
+use Rattle.flat_chart.specs.Tests.{rolesFrom, roles-none, roles-more, roles-end}
 use borrow.Author.Needs.{needs}
 use mathlib.Core.Path.{_≡_, refl}
 use native.Mathlib.Omega.{arith}
-use Rattle.graph.proofs.roles_past.Statement.{statement}
-use Rattle.graph.proofs.roles_past.Tie as tie
+use Rattle.flat_chart.proofs.roles_past.Statement.{statement}
+use Rattle.flat_chart.proofs.roles_past.Tie as tie
 
 abbrev Inv-loop : tie.InvT-loop
 Inv-loop n roles all₀ e₀ all e = (n ≤ e) × (e ≤ 64) × (all ≡ rolesFrom roles n (e - n))

@@ -1,11 +1,11 @@
--- `graph::spill_rows` meets its contract. The loop's invariant: over holds what the rows passed add. Assumes nothing.
+-- `flat_chart::spill_rows` meets its contract. The loop's invariant: over holds what the rows passed add. Assumes nothing.
 use Prim.Native.Nat.{_≤_, _-_}
-use Rattle.graph.specs.Tests.{spillRows, rows-none, rows-more, rows-end}
+use Rattle.flat_chart.specs.Tests.{spillRows, rows-none, rows-more, rows-end}
 use borrow.Author.Needs.{needs}
 use mathlib.Core.Path.{_≡_, refl}
 use native.Mathlib.Omega.{arith}
-use Rattle.graph.proofs.spill_rows.Statement.{statement}
-use Rattle.graph.proofs.spill_rows.Tie as tie
+use Rattle.flat_chart.proofs.spill_rows.Statement.{statement}
+use Rattle.flat_chart.proofs.spill_rows.Tie as tie
 
 abbrev Inv-loop : tie.InvT-loop
 Inv-loop start from end allowed conditions responses milestones includes excludes over₀ e₀ over e =

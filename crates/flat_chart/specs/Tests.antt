@@ -1,4 +1,4 @@
--- The test that a chart and a marking are fit, in the form in which the code makes it, and the law for each return. Assumes nothing.
+-- The test that a chart is fit, in the form in which the code makes it, and the law for each return. Assumes nothing.
 use Prim.Native.Nat.{ℕ, zero, suc, _+_, _-_, _≤_, _<_}
 use mathlib.Core.Path.{_≡_, refl, ap, _∙_}
 use mathlib.Core.Bool.{Bool, false, _&&_, cond, and-false}
@@ -9,10 +9,9 @@ use lib.ListN.{getD}
 use lib.Dec.{eqb, leb, ltb}
 use borrow.Author.Tests.{lt-leb, le-leb, lt-ltb, le-ltb}
 use Rattle.paper.specs.Limits.{maxEvents}
-use Rattle.sets.specs.Set.{union, minus, within, allBelow}
-use Rattle.graph.specs.Chart.{chartOf}
-use Rattle.graph.specs.declared.FlatChart.{FlatChart}
-use Rattle.graph.specs.declared.Marking.{Marking}
+use Rattle.sets.specs.Set.{union, minus, allBelow}
+use Rattle.flat_chart.specs.Chart.{chartOf}
+use Rattle.flat_chart.specs.declared.FlatChart.{FlatChart}
 
 -- what a set of event e may hold, where all is every event of a chart of n
 abbrev pub allowedAt : ℕ → ℕ → ℕ → ℕ
@@ -116,9 +115,3 @@ module _ (n : ℕ) (a b d i x o : List ℕ) where
   pub chart-tested : (s t : ℕ) → 1 ≤ n → n ≤ maxEvents → s ≡ spillOf n a b d i x maxEvents → t ≡ rolesFrom o n (maxEvents - n) → (eqb s 0 && eqb t 0) ≡ fitChart (chartOf n a b d i x o)
   unfolding fitChart fitTables
   chart-tested s t h l e f = simp (le-leb 1 n h, le-leb n maxEvents l, e, f)
-
-unfoldable pub fitMarking : ℕ → Marking → Bool
-fitMarking n m = within n (union (union (m .executed) (m .pending)) (m .included))
-
-unfoldable pub fit : FlatChart → Marking → Bool
-fit c m = fitMarking (c .count) m && fitChart c

@@ -1,8 +1,8 @@
--- `graph::tables_fit` meets its contract. Assumes nothing.
-use Rattle.graph.specs.Tests.{chart-few, chart-many, chart-tested}
+-- `flat_chart::tables_fit` meets its contract. Assumes nothing.
+use Rattle.flat_chart.specs.Tests.{chart-few, chart-many, chart-tested}
 use borrow.Author.Needs.{needs}
-use Rattle.graph.proofs.tables_fit.Statement.{statement}
-use Rattle.graph.proofs.tables_fit.Tie as tie
+use Rattle.flat_chart.proofs.tables_fit.Statement.{statement}
+use Rattle.flat_chart.proofs.tables_fit.Tie as tie
 
 pub tables-fit-spec : {M : Type 1} → statement M
 tables-fit-spec =

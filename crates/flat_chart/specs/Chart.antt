@@ -1,4 +1,4 @@
--- The flat chart's five relations by kind, and what fit means. Assumes nothing.
+-- The flat chart's five relations by kind, one event's row of them, and what fit means. Assumes nothing.
 use Prim.Native.Nat.{ℕ, _≤_, _<_}
 use mathlib.Core.Path.{_≡_}
 use mathlib.Core.Bool.{true}
@@ -6,8 +6,8 @@ use mathlib.Core.List.{List}
 use lib.ListN.{getD, replicate}
 use Rattle.paper.specs.Limits.{maxEvents}
 use Rattle.sets.specs.Set.{has}
-use Rattle.graph.specs.declared.FlatChart.{FlatChart}
-use Rattle.graph.specs.declared.Marking.{Marking}
+use Rattle.flat_chart.specs.declared.FlatChart.{FlatChart}
+use Rattle.flat_chart.specs.declared.Row.{Row}
 
 pub data Kind : Type 0 where
   condition response milestone include exclude : Kind
@@ -31,6 +31,18 @@ In s f = has s f ≡ true
 abbrev pub rolesOf : FlatChart → ℕ → ℕ
 rolesOf c e = getD (c .roles) e 0
 
+-- the sets of event e, and the roles that it names
+abbrev pub rowOf : FlatChart → ℕ → Row
+rowOf c e =
+    record {
+      conditions = setOf c condition e;
+      responses = setOf c response e;
+      milestones = setOf c milestone e;
+      includes = setOf c include e;
+      excludes = setOf c exclude e;
+      roles = rolesOf c e;
+    }
+
 -- "A flat chart is fit if the count is 1 to 64, no bit stands outside it, every set past it is empty", and no more by request (xii): "A fit flat chart may have a pair
 -- in both tables." Request (i): "The flat chart holds a role byte per event, 0 past the count."
 pub record Fit (c : FlatChart) : Type 0 where
@@ -39,12 +51,6 @@ pub record Fit (c : FlatChart) : Type 0 where
   pub inside : (k : Kind) (e f : ℕ) → e < c .count → In (setOf c k e) f → f < c .count
   pub past : (k : Kind) (e : ℕ) → c .count ≤ e → e < maxEvents → setOf c k e ≡ 0
   pub unnamed : (e : ℕ) → c .count ≤ e → e < maxEvents → rolesOf c e ≡ 0
-
--- "A marking is three sets: Ex, Re, In; it is fit if no bit stands outside the count."
-pub record FitMarking (n : ℕ) (m : Marking) : Type 0 where
-  pub executed : (f : ℕ) → In (m .executed) f → f < n
-  pub pending : (f : ℕ) → In (m .pending) f → f < n
-  pub included : (f : ℕ) → In (m .included) f → f < n
 
 -- a chart in its parts, as the calls lend them
 abbrev pub chartOf : ℕ → List ℕ → List ℕ → List ℕ → List ℕ → List ℕ → List ℕ → FlatChart
@@ -64,6 +70,3 @@ emptyChart =
       excludes = replicate maxEvents 0;
       roles = replicate maxEvents 0;
     }
-
-abbrev pub emptyMarking : Marking
-emptyMarking = record { executed = 0; pending = 0; included = 0 }

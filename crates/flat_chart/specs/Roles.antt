@@ -8,7 +8,7 @@ use borrow.Author.Tests.{eq-eqb, eqb-true, lt-ltb, ltb-true}
 use Rattle.paper.specs.Limits.{maxRoles}
 use Rattle.general.specs.Cases.{both, either, or-right}
 use Rattle.sets.specs.Set.{has}
-use Rattle.graph.specs.Chart.{In}
+use Rattle.flat_chart.specs.Chart.{In}
 
 -- "32, role not permitted or not 0 to 7"; "An event whose whole chain names no role stays open to everyone"
 pub record Permits (roles r : ℕ) : Type 0 where
