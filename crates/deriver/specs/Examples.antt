@@ -6,8 +6,7 @@ use mathlib.Core.List.{List, [], _∷_}
 use lib.ListN.{set}
 use Rattle.paper.specs.Limits.{andWord, orWord, notWord}
 use Rattle.sets.specs.Set.{has}
-use Rattle.graph.specs.Examples.{none}
-use Rattle.graph.specs.HandedOn.{marking}
+use Rattle.graph.specs.Examples.{none, marking}
 use Rattle.graph.specs.Steps.{openWith, unmetOf, awaitedOf, afterWith, after}
 use Rattle.flat_chart.specs.declared.FlatChart.{FlatChart}
 use Rattle.graph.specs.declared.Marking.{Marking}

@@ -97,6 +97,11 @@ afterWith m e responses includes excludes =
       included = union (minus (m .included) excludes) includes;
     }
 
+pub after-made : (m : Marking) (e responses includes excludes : ℕ) {b p i : ℕ} → b ≡ only e → p ≡ minus (m .pending) b → i ≡ minus (m .included) excludes
+    → record { executed = union (m .executed) b; pending = union p responses; included = union i includes } ≡ afterWith m e responses includes excludes
+unfolding afterWith
+after-made m e responses includes excludes h p i = rw (i, p, h)
+
 abbrev pub after : FlatChart → Marking → ℕ → Marking
 after c m e = afterWith m e (setOf c response e) (setOf c include e) (setOf c exclude e)
 

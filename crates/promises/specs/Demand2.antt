@@ -19,8 +19,7 @@ use Rattle.flat_chart.specs.Chart.{rolesOf, Fit}
 use Rattle.graph.specs.Fitness.{FitMarking}
 use Rattle.flat_chart.specs.Roles.{Permits}
 use Rattle.flat_chart.specs.Fitness.{fit-tested}
-use Rattle.graph.specs.Steps.{isOpen, after, executing, refusing}
-use Rattle.graph.specs.Execution.{granting}
+use Rattle.graph.specs.Steps.{isOpen, after, executing, refusing, granting}
 use Rattle.graph.specs.Execution.{Enabled, isForbidden, isDone, open-enabled, granted-enabled, after-executed, executes-only, refused-kept, after-fit, step-fit}
 use Rattle.flat_chart.specs.declared.FlatChart.{FlatChart}
 use Rattle.graph.specs.declared.Marking.{Marking}

@@ -20,8 +20,7 @@ use Rattle.flat_chart.specs.Roles.{Permits, permits}
 use Rattle.graph.specs.Steps.{unmetOf, awaitedOf, afterWith, stepping, steppingBy, testing, executing}
 use Rattle.flat_chart.specs.Tests.{rowSpill, spillAt, spillOf, rolesFrom, fitTables, fitChart}
 use Rattle.graph.specs.Fitness.{fit-both}
-use Rattle.graph.specs.Examples.{none}
-use Rattle.graph.specs.HandedOn.{marking}
+use Rattle.graph.specs.Examples.{none, marking}
 use Rattle.flat_chart.specs.declared.FlatChart.{FlatChart}
 use Rattle.order_theory.specs.Order.{countedRules}
 use Rattle.book.specs.Text.{Snap, snapOf}

@@ -22,11 +22,9 @@ use Rattle.flat_chart.specs.Fitness.{tested-fit}
 use Rattle.graph.specs.Fitness.{fit-both}
 use Rattle.graph.specs.Overruled.{standingAt}
 use Rattle.flat_chart.specs.Roles.{Permits, permits}
-use Rattle.graph.specs.Steps.{openWith, unmetOf, awaitedOf, afterWith, testing, stepping, steppingBy, executing, finishing}
-use Rattle.graph.specs.Execution.{granting}
+use Rattle.graph.specs.Steps.{openWith, unmetOf, awaitedOf, afterWith, testing, stepping, steppingBy, executing, finishing, granting}
 use Rattle.graph.specs.Execution.{holding}
-use Rattle.graph.specs.Examples.{none, pair}
-use Rattle.graph.specs.HandedOn.{marking}
+use Rattle.graph.specs.Examples.{none, pair, marking}
 use Rattle.graph.specs.Examples as graph
 use Rattle.flat_chart.specs.declared.FlatChart.{FlatChart}
 use Rattle.graph.specs.declared.Marking.{Marking}

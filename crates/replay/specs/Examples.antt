@@ -12,8 +12,7 @@ use Rattle.flat_chart.specs.Roles.{permits}
 use Rattle.flat_chart.specs.Tests.{rowSpill, spillAt, spillOf, rolesFrom, fitTables, fitChart}
 use Rattle.graph.specs.Fitness.{fitMarking, fit}
 use Rattle.graph.specs.Steps.{unmetOf, awaitedOf, afterWith, testing, stepping, steppingBy, executing, finishing}
-use Rattle.graph.specs.Examples.{none, pair}
-use Rattle.graph.specs.HandedOn.{marking}
+use Rattle.graph.specs.Examples.{none, pair, marking}
 use Rattle.flat_chart.specs.declared.FlatChart.{FlatChart}
 use Rattle.replay.specs.Recorded.{recordOf, reaching}
 use Rattle.replay.specs.Replaying.{replaying, without, oldPosition, notStruck, struck, struckBy, striking}

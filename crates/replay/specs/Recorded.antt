@@ -11,8 +11,7 @@ use borrow.Author.Tests.{eq-eqb, ne-eqb, eqb-true, eqb-false}
 use Rattle.general.specs.Cases.{cases}
 use Rattle.graph.specs.Fitness.{fit}
 use Rattle.graph.specs.Fitness.{fit-both, both-fit}
-use Rattle.graph.specs.Execution.{granting}
-use Rattle.graph.specs.Steps.{executing}
+use Rattle.graph.specs.Steps.{granting, executing}
 use Rattle.graph.specs.Execution.{isDone, executes-only, after-executed, granted-enabled, refused-kept, step-fit}
 use Rattle.flat_chart.specs.declared.FlatChart.{FlatChart}
 use Rattle.graph.specs.declared.Marking.{Marking}

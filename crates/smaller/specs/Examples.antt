@@ -7,8 +7,7 @@ use Rattle.paper.specs.Limits.{orWord, notWord, noMark}
 use Rattle.sets.specs.Set.{has}
 use Rattle.general.specs.Below.{some, tally}
 use Rattle.general.specs.Lists.{flat, packed}
-use Rattle.graph.specs.Examples.{none}
-use Rattle.graph.specs.HandedOn.{marking}
+use Rattle.graph.specs.Examples.{none, marking}
 use Rattle.flat_chart.specs.declared.FlatChart.{FlatChart}
 use Rattle.graph.specs.declared.Marking.{Marking}
 use Rattle.book.specs.Book.{Book}

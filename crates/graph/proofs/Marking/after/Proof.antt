@@ -1,5 +1,5 @@
 -- `graph::Marking::after` meets its contract. Assumes nothing.
-use Rattle.graph.specs.Steps.{afterWith}
+use Rattle.graph.specs.Steps.{after-made}
 use borrow.Author.Needs.{needs}
 use Rattle.graph.proofs.Marking.after.Statement.{statement}
 use Rattle.graph.proofs.Marking.after.Tie as tie
@@ -9,4 +9,4 @@ after-spec =
     tie.close
     (tie.spec
     (λ c κs. search needs) (λ c κs. search needs) (λ c κs. search needs)
-    (λ c. unfold afterWith in rw (c .before .less .ensures, c .less2 .ensures, c .before .before .before .one .ensures)))
+    (λ c. search after-made))
