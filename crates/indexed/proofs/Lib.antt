@@ -1,4 +1,3 @@
 -- The root of the crate's shared laws for proofs.
 pub mod Returns
 pub mod Turns
-pub mod Listed

@@ -1,92 +1,32 @@
--- A law for each return of the functions that build an index, compare one, and judge a snapshot and a stage. Assumes nothing.
+-- A law for each return of the functions that compare an index, and judge a snapshot and a stage. Assumes nothing.
 use mathlib.Core.Path.{_≡_, sym, ap, _∙_}
 use mathlib.Core.Bool.{Bool, true, false, not}
 use mathlib.Core.List.{List}
-use Prim.Native.Nat.{ℕ, _≤_, _<_, _^_}
+use Prim.Native.Nat.{ℕ, _≤_, _<_}
 use native.Mathlib.Omega.{arith}
-use lib.ListN.{length, replicate}
+use lib.ListN.{length}
 use lib.Dec.{ltb}
 use borrow.Author.Tests.{eq-eqb, ne-eqb, lt-ltb, le-ltb, ltb-true, not-true, not-false}
-use Rattle.paper.specs.Limits.{maxEvents, markAbove, noSuchStage, stageClosed, indexUnfit, indexRoom}
+use Rattle.paper.specs.Limits.{maxEvents, markAbove, noSuchStage, stageClosed, indexUnfit}
 use Rattle.paper.specs.Answers.{answer, granted, refusal}
 use Rattle.paper.specs.declared.Answer.{Answer}
 use Rattle.general.specs.Cases.{cases}
 use Rattle.general.specs.Comparing.{sameBytes}
-use Rattle.general.specs.Writing.{Wrote, wrote-whole}
 use Rattle.book.specs.Text.{snapOf}
-use Rattle.book.specs.Image.{stagesIn, marksIn, rulesIn, bookOf}
+use Rattle.book.specs.Image.{stagesIn, marksIn, bookOf}
 use Rattle.book.specs.Judging.{countsOf}
-use Rattle.book.specs.WellFormed.{WellFormed}
 use Rattle.book.specs.WellRead.{Opened}
 use Rattle.book.specs.declared.Counts.{Counts}
 use Rattle.book.specs.declared.Snapshot.{Snapshot}
-use Rattle.texts.specs.Noted.{References}
 use Rattle.judge.specs.Head.{headAnswer, head-refused}
-use Rattle.judge.specs.Checking.{bookAnswer, BookPasses, book-passes, stages-many}
+use Rattle.judge.specs.Checking.{bookAnswer}
 use Rattle.judge.proofs.Returns.{book-refused}
 use Rattle.runner.specs.Completing.{anyFrom, through}
 use Rattle.runner.specs.Table.{Passes}
-use Rattle.index.specs.Index.{orderOf, indexImage, index-ends, NoLoops}
-use Rattle.index.specs.Reading.{offset-small}
-use Rattle.index.specs.Sizes.{startFrom, Sized, StageCounts}
-use Rattle.index.specs.Ready.{IndexReady, ready-sized, ready-length}
-use Rattle.indexed.specs.Building.{indexOf, roomAnswer, building, builtRoom, granted-index, refused-index}
+use Rattle.index.specs.Index.{orderOf, indexImage, NoLoops}
+use Rattle.index_builder.specs.Building.{indexOf}
 use Rattle.indexed.specs.Indexed.{indexAnswer, openAnswer, marksAnswer, indexedAnswer, completingIndexed}
 use Rattle.indexed.specs.IndexedTable.{index-passes, looked-count}
-
--- ---- behind 20 to 26
-
-module _ (s : List ℕ) (b : Answer) (e : b ≡ bookAnswer s) (z : b .code ≡ 0) (h : Counts) (c : h ≡ countsOf s) where
-  passes : BookPasses s
-  passes = book-passes s (sym (ap (λ (x : Answer). x .code) e) ∙ z)
-
-  pub counts-asks : (table : List ℕ) → table ≡ replicate maxEvents 0 → (WellFormed s) × (h .rules ≡ rulesIn s) × (table ≡ replicate maxEvents 0)
-  counts-asks table t = (passes .formed, ap (λ (x : Counts). x .rules) c, t)
-
-  module _ (refs table : List ℕ) (common : ℕ) (r : References s refs) (t : StageCounts s table common) where
-    pub index-ready : IndexReady s h refs table common
-    index-ready = record { opened = record { formed = passes .formed; counts = c }; references = r; acyclic = passes .acyclic; counted = t }
-
-    pub index-sized : Sized (h .stages) table common
-    index-sized = ready-sized s h refs table common index-ready
-
-    module _ (need : ℕ) (n : need ≡ startFrom (h .stages) table common (h .stages)) where
-      pub need-is : need ≡ length (indexOf s)
-      need-is = n ∙ ready-length s h refs table common index-ready
-
-      pub need-small : need < 2 ^ 32
-      need-small = omega (arith, need-is, index-ends (bookOf s), offset-small s (passes .formed) (passes .acyclic) (bookOf s .stages) (rw (stages-many s) (omega arith)))
-
--- ---- building
-
-abbrev pub Built : List ℕ → List ℕ → List ℕ → Answer → Type 0
-Built s entry exit r = (r ≡ building s (length entry)) × (exit ≡ builtRoom s entry)
-
-module _ (s room : List ℕ) where
-  refusing : (a : Answer) → a ≡ building s (length room) → (a .code ≡ 0 → ⊥) → Built s room room a
-  refusing a e n = (e, sym (refused-index s room (λ z. n (ap (λ (x : Answer). x .code) e ∙ z))))
-
-  pub build-book : (a : Answer) → a ≡ bookAnswer s → (a .code ≡ 0 → ⊥) → Built s room room a
-  unfolding building
-  build-book a e n = refusing a (rw (← e, ne-eqb (a .code) 0 n)) n
-
-  pub build-head : (a : Answer) → a ≡ headAnswer s → (a .code ≡ 0 → ⊥) → Built s room room a
-  build-head a e n = build-book a (book-refused s a (head-refused s a e n) n) n
-
-  module _ (b : Answer) (f : b ≡ bookAnswer s) (i : b .code ≡ 0) (need : ℕ) (n : need ≡ length (indexOf s)) (r : Answer) where
-    then : building s (length room) ≡ roomAnswer s (length room)
-    unfolding building
-    then = rw (← f, i)
-
-    pub build-narrow : length room < need → r ≡ answer indexRoom need 0 → Built s room room r
-    unfolding roomAnswer
-    build-narrow l g = refusing r (g ∙ sym (then ∙ rw (← n, lt-ltb (length room) need l))) (λ x. absurd (omega (arith, ap (λ (y : Answer). y .code) g)))
-
-    pub build-built : need ≤ length room → (next : ℕ) (exit : List ℕ) → Wrote room 0 (indexOf s) next exit → r ≡ granted → Built s room exit r
-    unfolding roomAnswer
-    build-built l next exit w g =
-        let y : building s (length room) ≡ granted = then ∙ rw (← n, le-ltb (length room) need l) in
-        (g ∙ sym y, wrote-whole w (omega arith) ∙ sym (granted-index s room (ap (λ (v : Answer). v .code) y)))
 
 -- ---- 20 to 26 and 34
 

@@ -15,7 +15,7 @@ use Rattle.runner.specs.Walks.{looks, goes-run}
 use Rattle.runner.specs.declared.Completion.{Completion}
 use Rattle.index.specs.Index.{orderOf}
 use Rattle.general.specs.Comparing.{sameBytes}
-use Rattle.indexed.specs.Building.{indexOf}
+use Rattle.index_builder.specs.Building.{indexOf}
 use Rattle.indexed.specs.declared.IndexedCompletion.{IndexedCompletion}
 
 -- "An index is fit exactly if it is what the builder writes for this book."; "34, unfit index, after 26"

@@ -26,7 +26,7 @@ use Rattle.runner.specs.Walks.{looks-length, goes-run}
 use Rattle.index.specs.Index.{orderOf, NoLoops}
 use Rattle.index.specs.Reading.{count-small}
 use Rattle.general.specs.Comparing.{sameBytes, same-so, so-same}
-use Rattle.indexed.specs.Building.{indexOf, passes-zero, building, builtRoom, build-passes, built-is}
+use Rattle.index_builder.specs.Building.{indexOf, passes-zero, building, builtRoom, build-passes, built-is}
 use Rattle.indexed.specs.Indexed.{indexAnswer, openAnswer, marksAnswer, indexedAnswer, lookedAt, completingIndexed, completionOf}
 use Rattle.indexed.specs.declared.IndexedCompletion.{IndexedCompletion}
 

@@ -8,7 +8,11 @@ ghost use Rattle.book.specs.Image.{stagesIn, marksIn, conditionsIn};
 ghost use Rattle.book.specs.Judging.{countsOf};
 ghost use Rattle.book.specs.Marks.{markWords};
 ghost use Rattle.book.specs.WellFormed.{Headed};
+ghost use Rattle.general.specs.Comparing.{sameBytes};
+ghost use Rattle.texts.specs.Noted.{References};
+ghost use Rattle.judge.specs.Checking.{BookPasses};
 ghost use Rattle.judge.specs.Head.{Begun, smallMarks, smallConditions};
+ghost use Rattle.index_builder.specs.Building.{indexOf};
 ghost use Rattle.indexed.specs.Indexed.{indexAnswer, openAnswer, marksAnswer};
 use book::Counts;
 use book::header::counts_at;
@@ -30,6 +34,16 @@ use paper::STAGE_CLOSED;
 use rule_order::references::REFS;
 use runner::judging::any_from;
 
+// Whether these bytes are the index of a book that passed.
+fn index_fits(book: &[u8], counts: Counts, refs: &[u64], index: &[u8]) -> bool
+    requires { ⌜ (BookPasses (now book)) × (counts ≡ countsOf (now book)) × (References (now book) (now refs)) ⌝ }
+    ensures { λ r. ⌜ r ≡ sameBytes (now (index .entry)) (indexOf (now (book .entry))) ⌝ }
+{
+    let mut table = [0u32; MAX_EVENTS];
+    let common = stage_counts(book, counts.rules as usize, &mut table);
+    index_same(book, counts, refs, &table, common, index)
+}
+
 // 23 to 26 and 34, behind a head that passed.
 fn judge_index_in(
     book: &[u8],
@@ -45,9 +59,7 @@ fn judge_index_in(
     if answer.code != 0 {
         return answer;
     }
-    let mut table = [0u32; MAX_EVENTS];
-    let common = stage_counts(book, counts.rules as usize, &mut table);
-    if index_same(book, counts, refs, &table, common, index) {
+    if index_fits(book, counts, refs, index) {
         return paper::granted();
     }
     paper::refused(INDEX_UNFIT, 0, 0)

@@ -11,9 +11,9 @@ ghost use Rattle.deriver.specs.Matching.{matchingOf};
 ghost use Rattle.smaller_deriver.specs.Calling.{derivingSmaller, smallerRoom};
 ghost use Rattle.judge.specs.Checking.{checking, checkedRoom};
 ghost use Rattle.runner.specs.Completing.{completing};
-ghost use Rattle.indexed.specs.Building.{building, builtRoom};
+ghost use Rattle.index_builder.specs.Building.{building, builtRoom};
 ghost use Rattle.indexed.specs.Indexed.{completingIndexed};
-ghost use Rattle.indexed.specs.InList.{completingList};
+ghost use Rattle.indexed_list.specs.InList.{completingList};
 ghost use Rattle.read_back.specs.ReadingBack.{readingBack};
 ghost use Rattle.mend.specs.Calling.{mending, mendedRoom, changesRoom};
 use book::Snapshot;
@@ -25,7 +25,7 @@ use graph::steps::OpenCount;
 use graph::steps::OpenTest;
 use graph::steps::Step;
 use indexed::IndexedCompletion;
-use indexed::ListCompletion;
+use indexed_list::ListCompletion;
 use mend::Mended;
 use paper::Answer;
 use paper::MAX_EVENTS;
@@ -301,7 +301,7 @@ pub extern "C" fn ozhimka_complete(
 pub extern "C" fn ozhimka_build_index(book: &[u8], room: &mut [u8]) -> Answer
     ensures { λ r. ⌜ (r ≡ building (now (book .entry)) (length (now (room .entry)))) × (now (room .exit) ≡ builtRoom (now (book .entry)) (now (room .entry))) ⌝ }
 {
-    indexed::build(book, room)
+    index_builder::build(book, room)
 }
 
 #[no_mangle]
@@ -325,7 +325,7 @@ pub extern "C" fn ozhimka_complete_list(
 ) -> ListCompletion
     ensures { λ r. ⌜ r ≡ completingList (now (book .entry)) (now (index .entry)) snapshot (now (list .entry)) ⌝ }
 {
-    indexed::complete_list(book, index, snapshot, list)
+    indexed_list::complete_list(book, index, snapshot, list)
 }
 
 #[no_mangle]

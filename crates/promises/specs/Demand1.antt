@@ -41,11 +41,11 @@ use Rattle.smaller_deriver.specs.declared.Smaller.{Smaller}
 use Rattle.runner.specs.Table.{Answered, answered, answered-is}
 use Rattle.runner.specs.Completing.{completing}
 use Rattle.runner.specs.Completion.{refusal-hands-back}
-use Rattle.indexed.specs.Building.{indexOf, building, builtRoom, Builds, builds, builds-is, granted-index, refused-index}
+use Rattle.index_builder.specs.Building.{indexOf, building, builtRoom, Builds, builds, builds-is, granted-index, refused-index}
 use Rattle.indexed.specs.Indexed.{completingIndexed}
 use Rattle.indexed.specs.IndexedTable.{Indexed, indexed, indexed-is, indexed-hands-back, indexed-none}
-use Rattle.indexed.specs.InList.{grantedOf, reached, lookedIn, stopping, placed, beforeList, completingList}
-use Rattle.indexed.specs.ListTable.{Lists, lists, lists-is, list-answer, before-hands-back, within-hands-back}
+use Rattle.indexed_list.specs.InList.{grantedOf, reached, lookedIn, stopping, placed, beforeList, completingList}
+use Rattle.indexed_list.specs.ListTable.{Lists, lists, lists-is, list-answer, before-hands-back, within-hands-back}
 use Rattle.replay.specs.Replaying.{replaying, striking, untold}
 use Rattle.replay.specs.Table.{Replays, replays, replays-only, replay-kept, Strikes, strikes, strikes-only, strike-kept}
 use Rattle.replay.specs.declared.Replayed.{Replayed}

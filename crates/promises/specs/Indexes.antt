@@ -11,7 +11,7 @@ use Rattle.book.specs.declared.Snapshot.{Snapshot}
 use Rattle.judge.specs.Checking.{checking}
 use Rattle.deriver.specs.Deriving.{derivedImage}
 use Rattle.runner.specs.Completing.{completing}
-use Rattle.indexed.specs.Building.{indexOf, building, build-granted}
+use Rattle.index_builder.specs.Building.{indexOf, building, build-granted}
 use Rattle.indexed.specs.Indexed.{indexAnswer, completingIndexed, completionOf}
 use Rattle.indexed.specs.IndexedTable.{checkedOrder, builtIndex, built-fit, fit-one, through-built}
 use Rattle.promises.specs.Demand2.{passes}

@@ -23,11 +23,11 @@ use Rattle.deriver.specs.Matching.{matchingOf}
 use Rattle.runner.specs.Completing.{completing}
 use Rattle.runner.specs.declared.Completion.{Completion}
 use Rattle.index.specs.Index.{orderOf}
-use Rattle.indexed.specs.Building.{indexOf}
+use Rattle.index_builder.specs.Building.{indexOf}
 use Rattle.indexed.specs.Indexed.{completingIndexed, completionOf}
 use Rattle.indexed.specs.IndexedTable.{along-order, indexed-hands-back, indexed-known}
-use Rattle.indexed.specs.InList.{completingList, InTurn, ended, goes, stops}
-use Rattle.indexed.specs.ListTable.{list-in-turn, in-turn-one}
+use Rattle.indexed_list.specs.InList.{completingList, InTurn, ended, goes, stops}
+use Rattle.indexed_list.specs.ListTable.{list-in-turn, in-turn-one}
 use Rattle.indexed.specs.declared.IndexedCompletion.{IndexedCompletion}
 use Rattle.promises.specs.Demand2.{passes, stages-are, same-grants, match-again, fit-again, matching-whole}
 

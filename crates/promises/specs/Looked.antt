@@ -37,11 +37,11 @@ use Rattle.deriver.specs.Deriving.{derivedImage}
 use Rattle.deriver.specs.Matching.{matchingOf}
 use Rattle.runner.specs.Walks.{Goes, looks, looks-length}
 use Rattle.index.specs.Index.{orderOf, order-length}
-use Rattle.indexed.specs.Building.{indexOf}
+use Rattle.index_builder.specs.Building.{indexOf}
 use Rattle.indexed.specs.Indexed.{completingIndexed}
 use Rattle.indexed.specs.IndexedTable.{indexed-known, indexed-none, indexed-looked, looked-count}
-use Rattle.indexed.specs.InList.{completingList}
-use Rattle.indexed.specs.ListTable.{list-small}
+use Rattle.indexed_list.specs.InList.{completingList}
+use Rattle.indexed_list.specs.ListTable.{list-small}
 use Rattle.indexed.specs.declared.IndexedCompletion.{IndexedCompletion}
 use Rattle.promises.specs.Demand2.{passes, stages-are}
 use Rattle.promises.specs.Lists.{grants-alike}

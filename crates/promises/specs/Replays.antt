@@ -21,8 +21,8 @@ use Rattle.graph.specs.declared.Marking.{Marking}
 use Rattle.graph.specs.declared.steps.Step.{Step}
 use Rattle.deriver.specs.Deriving.{derivedImage}
 use Rattle.deriver.specs.Matching.{matchingOf}
-use Rattle.indexed.specs.Building.{indexOf}
-use Rattle.indexed.specs.InList.{completingList}
+use Rattle.index_builder.specs.Building.{indexOf}
+use Rattle.indexed_list.specs.InList.{completingList}
 use Rattle.replay.specs.Recorded.{Entry, recordOf, taking, Allowed, reaching, reach-fit}
 use Rattle.replay.specs.Replaying.{replaying, striking, without}
 use Rattle.replay.specs.Table.{allWith, replay-allowed, strike-replay, strike-marking}

@@ -41,7 +41,7 @@ use Rattle.smaller_deriver.specs.Calling.{smallerImage, derivingSmaller, smalle
 use Rattle.smaller_agreement.specs.Through.{through-past}
 use Rattle.smaller_agreement.specs.Passing.{said, smaller-passes}
 use Rattle.runner.specs.Completion.{written-fit}
-use Rattle.indexed.specs.Building.{indexOf, building, build-granted}
+use Rattle.index_builder.specs.Building.{indexOf, building, build-granted}
 use Rattle.promises.specs.Demand2.{ordered}
 use Rattle.promises.specs.Smaller.{Ordered, Alongside, alongside, smallerSnapshot, small-one, small-long, small-at, small-new, full-at}
 

@@ -4,7 +4,7 @@ ghost use lib.ListN.{length};
 use book::Snapshot;
 use flat_chart::FlatChart;
 use graph::Marking;
-use indexed::ListCompletion;
+use indexed_list::ListCompletion;
 use paper::Answer;
 use runner::Completion;
 use smaller_deriver::Smaller;
@@ -66,7 +66,7 @@ pub fn check(book: &[u8], stage: u32, room: &mut [u16; MAX_NUMBERS], n: usize) -
 fn index_part(book: &[u8], room: &mut [u8], n: usize) -> Answer
     requires { ⌜ n ≤ length (now room) ⌝ }
 {
-    indexed::build(book, &mut room[..n])
+    index_builder::build(book, &mut room[..n])
 }
 
 // Builds the index into the first n bytes.
@@ -104,7 +104,7 @@ fn list_part(
 ) -> ListCompletion
     requires { ⌜ n ≤ length (now stages) ⌝ }
 {
-    indexed::complete_list(book, index, snapshot, &stages[..n])
+    indexed_list::complete_list(book, index, snapshot, &stages[..n])
 }
 
 // Completes the first n stages one after another.

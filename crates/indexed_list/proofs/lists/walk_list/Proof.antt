@@ -1,13 +1,13 @@
--- `indexed::lists::walk_list` meets its contract. Assumes nothing.
+-- `indexed_list::lists::walk_list` meets its contract. Assumes nothing.
 use Prim.Native.Nat.{_-_}
 use mathlib.Core.Path.{refl, ap}
 use native.Mathlib.Omega.{arith}
 use lib.ListN.{length}
 use Rattle.book.specs.declared.Counts.{Counts}
-use Rattle.indexed.proofs.Listed.{Gone, gone-first, gone-all, gone-stops, gone-fits, gone-on, stages-few, turn-asks}
+use Rattle.indexed_list.proofs.Listed.{Gone, gone-first, gone-all, gone-stops, gone-fits, gone-on, stages-few, turn-asks}
 use borrow.Author.Needs.{needs}
-use Rattle.indexed.proofs.lists.walk_list.Statement.{statement}
-use Rattle.indexed.proofs.lists.walk_list.Tie as tie
+use Rattle.indexed_list.proofs.lists.walk_list.Statement.{statement}
+use Rattle.indexed_list.proofs.lists.walk_list.Tie as tie
 
 abbrev Inv-loop : tie.InvT-loop
 Inv-loop book counts index list held₀ evaluated₀ j₀ j-end held evaluated j = Gone book (held₀ .marks) list (held .marks) evaluated j

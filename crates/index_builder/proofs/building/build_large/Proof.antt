@@ -1,9 +1,9 @@
--- `indexed::building::build_large` meets its contract. Assumes nothing.
+-- `index_builder::building::build_large` meets its contract. Assumes nothing.
 use Rattle.judge.proofs.Returns.{large-ready}
 use borrow.Author.Needs.{needs}
 use mathlib.Core.Path.{refl}
-use Rattle.indexed.proofs.building.build_large.Statement.{statement}
-use Rattle.indexed.proofs.building.build_large.Tie as tie
+use Rattle.index_builder.proofs.building.build_large.Statement.{statement}
+use Rattle.index_builder.proofs.building.build_large.Tie as tie
 
 pub build-large-spec : {M : Type 1} → statement M
 build-large-spec =

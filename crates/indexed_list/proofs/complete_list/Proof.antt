@@ -1,8 +1,8 @@
--- `indexed::complete_list` meets its contract: a law for each return. Assumes nothing.
-use Rattle.indexed.proofs.Listed.{list-refused, list-headed, walk-begins, list-walked}
+-- `indexed_list::complete_list` meets its contract: a law for each return. Assumes nothing.
+use Rattle.indexed_list.proofs.Listed.{list-refused, list-headed, walk-begins, list-walked}
 use borrow.Author.Needs.{needs}
-use Rattle.indexed.proofs.complete_list.Statement.{statement}
-use Rattle.indexed.proofs.complete_list.Tie as tie
+use Rattle.indexed_list.proofs.complete_list.Statement.{statement}
+use Rattle.indexed_list.proofs.complete_list.Tie as tie
 
 pub complete-list-spec : {M : Type 1} → statement M
 complete-list-spec =

@@ -19,12 +19,12 @@ use Rattle.book.specs.declared.Snapshot.{Snapshot}
 use Rattle.judge.specs.Checking.{bookAnswer, Checked, book-passes, book-is, is-book}
 use Rattle.runner.specs.Completing.{anyFrom}
 use Rattle.runner.specs.Table.{Passes, Belongs, belongs-none, none-belongs, some-above, above-some}
-use Rattle.indexed.specs.Building.{indexOf}
+use Rattle.index_builder.specs.Building.{indexOf}
 use Rattle.indexed.specs.Indexed.{indexAnswer, openAnswer, marksAnswer, indexedAnswer, lookedAt, completingIndexed}
 use Rattle.indexed.specs.IndexedTable.{index-granted, index-unfit, index-refused, index-passes, indexed-hands-back}
-use Rattle.indexed.specs.InList.{completedMarks, grantedOf, reached, lookedIn, stopping, placed, beforeList, listAnswer, completingList, looked-in-small, before-passes, InTurn, in-turn}
-use Rattle.indexed.specs.InList as turn
-use Rattle.indexed.specs.declared.ListCompletion.{ListCompletion}
+use Rattle.indexed_list.specs.InList.{completedMarks, grantedOf, reached, lookedIn, stopping, placed, beforeList, listAnswer, completingList, looked-in-small, before-passes, InTurn, in-turn}
+use Rattle.indexed_list.specs.InList as turn
+use Rattle.indexed_list.specs.declared.ListCompletion.{ListCompletion}
 
 -- the walk along a list: how many are granted, where it ends, how many rules it looks at, and the code of the first that is not granted, 0 if all are
 pub data Walk (s : List ℕ) : List Bool → List ℕ → ℕ → List Bool → ℕ → ℕ → Type 0 where

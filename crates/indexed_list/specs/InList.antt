@@ -23,10 +23,10 @@ use Rattle.runner.specs.Table.{Passes, Belongs}
 use Rattle.runner.specs.Completion.{Open, completes, completed-marks}
 use Rattle.runner.specs.declared.Completion.{Completion}
 use Rattle.index.specs.Index.{orderOf, NoLoops}
-use Rattle.indexed.specs.Building.{indexOf}
+use Rattle.index_builder.specs.Building.{indexOf}
 use Rattle.indexed.specs.Indexed.{indexAnswer, openAnswer, lookedAt, completingIndexed}
 use Rattle.indexed.specs.IndexedTable.{then-open, indexed-hands-back, looked-most}
-use Rattle.indexed.specs.declared.ListCompletion.{ListCompletion}
+use Rattle.indexed_list.specs.declared.ListCompletion.{ListCompletion}
 
 -- ---- within the list
 

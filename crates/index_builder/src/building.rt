@@ -6,8 +6,10 @@ ghost use Rattle.book.specs.Image.{marksIn, conditionsIn};
 ghost use Rattle.book.specs.Judging.{countsOf};
 ghost use Rattle.book.specs.Marks.{markWords};
 ghost use Rattle.book.specs.WellFormed.{Headed};
+ghost use Rattle.texts.specs.Noted.{References};
+ghost use Rattle.judge.specs.Checking.{BookPasses};
 ghost use Rattle.judge.specs.Head.{Begun, smallMarks, smallConditions};
-ghost use Rattle.indexed.specs.Building.{building, builtRoom};
+ghost use Rattle.index_builder.specs.Building.{building, builtRoom};
 use book::Counts;
 use index::sizes::index_size;
 use index::sizes::stage_counts;
@@ -20,6 +22,21 @@ use paper::Answer;
 use paper::INDEX_ROOM;
 use paper::MAX_EVENTS;
 use rule_order::references::REFS;
+
+// 35, or 0 and the index in the room, of a book that passed.
+fn write_in(book: &[u8], counts: Counts, refs: &[u64], room: &mut [u8]) -> Answer
+    requires { ⌜ (BookPasses (now book)) × (counts ≡ countsOf (now book)) × (References (now book) (now refs)) ⌝ }
+    ensures { λ r. ⌜ (r ≡ building (now (book .entry)) (length (now (room .entry)))) × (now (room .exit) ≡ builtRoom (now (book .entry)) (now (room .entry))) ⌝ }
+{
+    let mut table = [0u32; MAX_EVENTS];
+    let common = stage_counts(book, counts.rules as usize, &mut table);
+    let need = index_size(counts.stages as usize, common, &table);
+    if room.len() < need {
+        return paper::refused(INDEX_ROOM, need as u32, 0);
+    }
+    put_index(book, counts, refs, &table, common, room);
+    paper::granted()
+}
 
 // 23 to 26 and 35, or 0 and the index in the room.
 fn build_in(
@@ -36,14 +53,7 @@ fn build_in(
     if answer.code != 0 {
         return answer;
     }
-    let mut table = [0u32; MAX_EVENTS];
-    let common = stage_counts(book, counts.rules as usize, &mut table);
-    let need = index_size(counts.stages as usize, common, &table);
-    if room.len() < need {
-        return paper::refused(INDEX_ROOM, need as u32, 0);
-    }
-    put_index(book, counts, refs, &table, common, room);
-    paper::granted()
+    write_in(book, counts, refs, room)
 }
 
 pub fn build_small(book: &[u8], counts: Counts, room: &mut [u8]) -> Answer

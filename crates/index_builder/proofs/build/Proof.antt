@@ -1,9 +1,9 @@
--- `indexed::build` meets its contract. Assumes nothing.
+-- `index_builder::build` meets its contract. Assumes nothing.
 use Rattle.judge.proofs.Returns.{headed-so, small-so}
-use Rattle.indexed.proofs.Returns.{build-head}
+use Rattle.index_builder.proofs.Returns.{build-head}
 use borrow.Author.Needs.{needs}
-use Rattle.indexed.proofs.build.Statement.{statement}
-use Rattle.indexed.proofs.build.Tie as tie
+use Rattle.index_builder.proofs.build.Statement.{statement}
+use Rattle.index_builder.proofs.build.Tie as tie
 
 pub build-spec : {M : Type 1} → statement M
 build-spec =

@@ -1,9 +1,9 @@
--- `indexed::lists::judge_before` meets its contract: a law for each return. Assumes nothing.
+-- `indexed_list::lists::judge_before` meets its contract: a law for each return. Assumes nothing.
 use Rattle.indexed.proofs.Returns.{index-so}
-use Rattle.indexed.proofs.Listed.{before-index, before-above, before-long, before-granted}
+use Rattle.indexed_list.proofs.Listed.{before-index, before-above, before-long, before-granted}
 use borrow.Author.Needs.{needs}
-use Rattle.indexed.proofs.lists.judge_before.Statement.{statement}
-use Rattle.indexed.proofs.lists.judge_before.Tie as tie
+use Rattle.indexed_list.proofs.lists.judge_before.Statement.{statement}
+use Rattle.indexed_list.proofs.lists.judge_before.Tie as tie
 
 pub judge-before-spec : {M : Type 1} → statement M
 judge-before-spec =

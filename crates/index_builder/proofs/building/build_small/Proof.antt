@@ -1,9 +1,9 @@
--- `indexed::building::build_small` meets its contract. Assumes nothing.
+-- `index_builder::building::build_small` meets its contract. Assumes nothing.
 use Rattle.judge.proofs.Returns.{small-ready}
 use borrow.Author.Needs.{needs}
 use mathlib.Core.Path.{refl}
-use Rattle.indexed.proofs.building.build_small.Statement.{statement}
-use Rattle.indexed.proofs.building.build_small.Tie as tie
+use Rattle.index_builder.proofs.building.build_small.Statement.{statement}
+use Rattle.index_builder.proofs.building.build_small.Tie as tie
 
 pub build-small-spec : {M : Type 1} → statement M
 build-small-spec =

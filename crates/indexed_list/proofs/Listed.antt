@@ -21,11 +21,11 @@ use Rattle.runner.specs.Completing.{anyFrom}
 use Rattle.runner.specs.Table.{Passes}
 use Rattle.index.specs.Index.{orderOf, indexImage, NoLoops}
 use Rattle.index.specs.Reading.{count-small}
-use Rattle.indexed.specs.Building.{indexOf}
+use Rattle.index_builder.specs.Building.{indexOf}
 use Rattle.indexed.specs.Indexed.{indexAnswer, openAnswer}
 use Rattle.indexed.specs.IndexedTable.{index-passes, looked-count}
-use Rattle.indexed.specs.InList.{completedMarks, grantedOf, reached, lookedIn, stopping, placed, beforeList, completingList, opens-known, before-passes}
-use Rattle.indexed.specs.declared.ListCompletion.{ListCompletion}
+use Rattle.indexed_list.specs.InList.{completedMarks, grantedOf, reached, lookedIn, stopping, placed, beforeList, completingList, opens-known, before-passes}
+use Rattle.indexed_list.specs.declared.ListCompletion.{ListCompletion}
 
 -- ---- before the list
 
