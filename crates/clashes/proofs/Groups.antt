@@ -19,7 +19,8 @@ use Rattle.book.specs.declared.Trigger.the-variants.{None, Completed, BecomeYes
 use Rattle.book.specs.WellRead.{triggerExists}
 use Rattle.clashes.specs.Clash.{completesOther, otherStages, oppositeSenses, apart, Apart, opposed, clash, clashes-so}
 use Rattle.clashes.specs.Clash.Apart.{stages, written, negated}
-use Rattle.clashes.specs.Groups.{side, does, turn, stagesAt, slot, mixed, code, codeOf, twin, meets, Senses, Summed, calm, clashesAny}
+use Rattle.senses.specs.Senses.{side, does, turn, stagesAt, slot, mixed, code, codeOf, twin, meets, Senses}
+use Rattle.clashes.specs.Groups.{Summed, calm, clashesAny}
 use Rattle.clashes.proofs.Senses.{code-some, twin-mixed, twin-not-mixed, opposite-code, senses-one}
 
 -- ---- two rules

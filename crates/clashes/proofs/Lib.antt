@@ -1,6 +1,5 @@
 -- The root of the crate's proofs.
 pub mod Senses
-pub mod Bytes
 pub mod Groups
 pub mod Passes
 pub mod Rules

@@ -18,7 +18,8 @@ use Rattle.closure.specs.Reached.{length-clear, clear-at}
 use Rattle.book.specs.Book.{Book, ruleOf}
 use Rattle.clashes.specs.Clash.{clash}
 use Rattle.clashes.specs.Pairs.{clashing, clashFirst, clashSecond, clashing-of, clashing-low, alone-some}
-use Rattle.clashes.specs.Groups.{does, turn, stagesAt, slot, slots, codeOf, withSense, Senses, Summed, ByStage, clashesAny, Found}
+use Rattle.senses.specs.Senses.{does, turn, stagesAt, slot, slots, codeOf, withSense, Senses}
+use Rattle.clashes.specs.Groups.{Summed, ByStage, clashesAny, Found}
 use Rattle.clashes.proofs.Senses.{senses-none, senses-past, senses-more}
 
 module _ (b : Book) where

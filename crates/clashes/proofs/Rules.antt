@@ -17,8 +17,9 @@ use Rattle.book.specs.Marks.{markWords}
 use Rattle.book.specs.Read.{rules-count}
 use Rattle.book.specs.WellFormed.{WellFormed}
 use Rattle.book.specs.WellRead.{rule-exists}
-use Rattle.clashes.specs.Groups.{side, turn, stagesAt, slots, codeOf, twin, withSense, meets, Summed, ByStage, calm, clashesAny, Found}
-use Rattle.clashes.proofs.Bytes.{trigger-known}
+use Rattle.senses.specs.Senses.{side, turn, stagesAt, slots, codeOf, twin, withSense, meets}
+use Rattle.clashes.specs.Groups.{Summed, ByStage, calm, clashesAny, Found}
+use Rattle.senses.proofs.Bytes.{trigger-known}
 use Rattle.clashes.proofs.Groups.{Known, any-late, any-early, calm-any}
 use Rattle.clashes.proofs.Passes.{Searched, summed-start, summed-more, by-start, by-past, by-more, found-start, found-calm, found-more, search-start}
 

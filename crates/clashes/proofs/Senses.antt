@@ -11,7 +11,7 @@ use Rattle.book.specs.Book.{Book, ruleOf}
 use Rattle.book.specs.declared.Sense.{Sense}
 use Rattle.book.specs.declared.Sense.the-variants.{NoCondition, AsWritten, Negated}
 use Rattle.clashes.specs.Clash.{isWritten, isNegated, oppositeSenses}
-use Rattle.clashes.specs.Groups.{code, codeOf, mixed, twin, withSense, meets, Senses}
+use Rattle.senses.specs.Senses.{code, codeOf, mixed, twin, withSense, meets, Senses}
 
 -- ---- the number of a sense, and of its opposite
 

@@ -1,4 +1,4 @@
-// The lowest pair of rules that clash.
+// The lowest rule that clashes with some rule.
 //
 // Rules of one mark that set and clear it are summed up by effect, so that most marks are told to have no clash from four words. For each mark
 // that is left the rules are summed up by stage too, and its lowest rule that clashes is the first that has another sense than just the opposite
@@ -8,124 +8,28 @@ ghost use mathlib.Core.Bool.{_&&_};
 ghost use Prim.Native.Nat.{_+_, _*_, _≤_, _<_};
 ghost use lib.Dec.{eqb};
 ghost use lib.ListN.{length, replicate};
-ghost use Rattle.paper.specs.Limits.{maxMarks, maxEvents};
 ghost use Rattle.general.specs.Below.{first};
 ghost use Rattle.book.specs.Book.{ruleOf};
 ghost use Rattle.book.specs.Image.{rulesIn, marksIn, bookOf};
-ghost use Rattle.book.specs.Marks.{markWords};
 ghost use Rattle.book.specs.WellFormed.{WellFormed};
-ghost use Rattle.clashes.specs.Clash.{clash};
-ghost use Rattle.clashes.specs.Pairs.{clashFirst, clashSecond};
-ghost use Rattle.clashes.specs.Groups.{side, turn, stagesAt, slots, codeOf, twin, withSense, meets, Summed, ByStage, SummedIn, ByStageIn, calm, clashesAny, Found};
-use book::rules::CONDITION_AT;
-use book::rules::EFFECT_AT;
-use book::rules::EFFECT_SET;
-use book::rules::NUMBER_AT;
-use book::rules::SENSE_AS_WRITTEN;
-use book::rules::SENSE_AT;
-use book::rules::SENSE_NONE;
-use book::rules::TARGET_AT;
-use book::rules::TRIGGER_COMPLETED;
-use paper::BOOK_HEADER;
+ghost use Rattle.senses.specs.Senses.{slots};
+ghost use Rattle.clashes.specs.Groups.{Summed, ByStage, SummedIn, ByStageIn, calm, clashesAny, Found};
 use paper::MAX_EVENTS;
-use paper::RULE_SIZE;
-
-// Two rules, the lower one first. Where no rules clash both are the number of rules.
-pub struct Pair {
-    pub first: usize,
-    pub second: usize,
-}
+use senses::meets;
+use senses::sense_of;
+use senses::sets_it;
+use senses::side;
+use senses::stages_at;
+use senses::target_of;
+use senses::turn_of;
+use senses::twin;
+use senses::with_sense;
 
 // 64 stages and no completion, by effect.
 const SLOTS: usize = 2 * MAX_EVENTS + 2;
 
-// ---- one rule
-fn target_of(image: &[u8], r: usize) -> usize
-    requires { ⌜ (WellFormed (now image)) × (r < rulesIn (now image)) ⌝ }
-    ensures { λ t. ⌜ (t ≡ ruleOf (bookOf (now (image .entry))) r .target) × (t < marksIn (now (image .entry))) ⌝ }
-{
-    wire::u16_at(image, BOOK_HEADER + RULE_SIZE * r + TARGET_AT) as usize
-}
-
-fn sets_it(image: &[u8], r: usize) -> bool
-    requires { ⌜ (WellFormed (now image)) × (r < rulesIn (now image)) ⌝ }
-    ensures { λ t. ⌜ t ≡ ruleOf (bookOf (now (image .entry))) r .effect ⌝ }
-{
-    image[BOOK_HEADER + RULE_SIZE * r + EFFECT_AT] == EFFECT_SET
-}
-
-// The stage whose completion rule r waits for, or 64 where its trigger is another.
-fn turn_of(image: &[u8], r: usize) -> usize
-    requires { ⌜ (WellFormed (now image)) × (r < rulesIn (now image)) ⌝ }
-    ensures { λ t. ⌜ (t ≡ turn (ruleOf (bookOf (now (image .entry))) r .trigger)) × (t ≤ maxEvents) ⌝ }
-{
-    let at = BOOK_HEADER + RULE_SIZE * r;
-    if image[at] == TRIGGER_COMPLETED {
-        return wire::u16_at(image, at + NUMBER_AT) as usize;
-    }
-    MAX_EVENTS
-}
-
-// The sense of rule r and its condition as one number.
-fn sense_of(image: &[u8], r: usize) -> u64
-    requires { ⌜ (WellFormed (now image)) × (r < rulesIn (now image)) ⌝ }
-    ensures { λ g. ⌜ g ≡ codeOf (bookOf (now (image .entry))) r ⌝ }
-{
-    let at = BOOK_HEADER + RULE_SIZE * r;
-    let sense = image[at + SENSE_AT];
-    let condition = wire::u16_at(image, at + CONDITION_AT) as u64;
-    if sense == SENSE_NONE {
-        return 1;
-    }
-    if sense == SENSE_AS_WRITTEN {
-        return 2 * condition + 2;
-    }
-    2 * condition + 3
-}
-
-// A number and whether the effect is to set, as one number.
-fn side(n: usize, set: bool) -> usize
-    requires { ⌜ n ≤ maxMarks ⌝ }
-    ensures { λ r. ⌜ (r ≡ side n set) × (r < 2 * n + 2) ⌝ }
-{
-    if set { 2 * n + 1 } else { 2 * n }
-}
-
-// The stage as a set, or every stage where it is none.
-fn stages_at(turn: usize) -> u64
-    ensures { λ r. ⌜ r ≡ stagesAt turn ⌝ }
-{
-    if turn < MAX_EVENTS {
-        return sets::one(turn);
-    }
-    sets::all_below(MAX_EVENTS)
-}
-
-// ---- the senses of a group of rules: 0 for no rule, their sense, or 1 where they are mixed or a rule has no condition
-fn twin(n: u64) -> u64
-    ensures { λ r. ⌜ r ≡ twin n ⌝ }
-{
-    if n % 2 == 0 { n + 1 } else { n - 1 }
-}
-
-fn with_sense(senses: u64, sense: u64) -> u64
-    ensures { λ r. ⌜ r ≡ withSense senses sense ⌝ }
-{
-    if senses == 0 {
-        return sense;
-    }
-    if senses == sense { senses } else { 1 }
-}
-
-// Whether some rule of the group has another sense than the one that keeps apart.
-fn meets(senses: u64, apart: u64) -> bool
-    ensures { λ r. ⌜ r ≡ meets senses apart ⌝ }
-{
-    (senses != 0) & (senses != apart)
-}
-
 // ---- the first pass: for each mark and effect the stages and the senses
-fn sum_up(image: &[u8], rules: usize, work: &mut [u64])
+pub fn sum_up(image: &[u8], rules: usize, work: &mut [u64])
     requires { ⌜ (WellFormed (now image)) × (rules ≡ rulesIn (now image)) × (Summed (bookOf (now image)) (marksIn (now image)) 0 (now work)) ⌝ }
     ensures { λ _. ⌜ (Summed (bookOf (now (image .entry))) (marksIn (now (image .entry))) rules (now (work .exit))) × (length (now (work .exit)) ≡ length (now (work .entry))) ⌝ }
 {
@@ -204,7 +108,7 @@ fn lowest_of(image: &[u8], rules: usize, m: usize, low: usize, work: &[u64]) -> 
 }
 
 // The lowest rule that clashes with some rule, or the number of rules. Marks that are calm cost four words each, others two passes over the rules.
-fn lowest(image: &[u8], rules: usize, marks: usize, work: &[u64]) -> usize
+pub fn lowest(image: &[u8], rules: usize, marks: usize, work: &[u64]) -> usize
     requires { ⌜ (WellFormed (now image)) × (rules ≡ rulesIn (now image)) × (marks ≡ marksIn (now image)) × (Summed (bookOf (now image)) (marksIn (now image)) rules (now work)) ⌝ }
     ensures { λ r. ⌜ Found (bookOf (now (image .entry))) marks r ⌝ }
 {
@@ -215,56 +119,4 @@ fn lowest(image: &[u8], rules: usize, marks: usize, work: &[u64]) -> usize
         }
     }
     low
-}
-
-// ---- the pair
-fn clash(image: &[u8], p: usize, q: usize) -> bool
-    requires { ⌜ (WellFormed (now image)) × (p < rulesIn (now image)) × (q < rulesIn (now image)) ⌝ }
-    ensures { λ r. ⌜ r ≡ clash (ruleOf (bookOf (now (image .entry))) p) (ruleOf (bookOf (now (image .entry))) q) ⌝ }
-{
-    let undone = side(target_of(image, p), !sets_it(image, p));
-    if side(target_of(image, q), sets_it(image, q)) != undone {
-        return false;
-    }
-    let t = turn_of(image, p);
-    let u = turn_of(image, q);
-    let stages = (t != u) & (t < MAX_EVENTS) & (u < MAX_EVENTS);
-    let senses = sense_of(image, q) == twin(sense_of(image, p));
-    !(stages | senses)
-}
-
-// Rule pairs from rule `low` on, until one clashes. `low` is known to clash with some rule, so that the inner loop runs once.
-fn search(image: &[u8], rules: usize, low: usize) -> Pair
-    requires { ⌜ (WellFormed (now image)) × (rules ≡ rulesIn (now image)) × (Found (bookOf (now image)) (marksIn (now image)) low) ⌝ }
-    ensures { λ r. ⌜ (r .first ≡ clashFirst (bookOf (now (image .entry)))) × (r .second ≡ clashSecond (bookOf (now (image .entry))) (r .first)) ⌝ }
-{
-    let mut p = low;
-    let mut q = rules;
-    'search: while p < rules {
-        q = p + 1;
-        while q < rules {
-            if clash(image, p, q) {
-                break 'search;
-            }
-            q += 1;
-        }
-        p += 1;
-    }
-    Pair {
-        first: p,
-        second: q,
-    }
-}
-
-// `work` may come with any content: its first four words for each mark are cleared.
-// Cost: one pass over the rules, two more for each mark that is not calm, so at most 513, and one for the second rule of a pair.
-pub fn first_clash(image: &[u8], rules: usize, marks: usize, work: &mut [u64]) -> Pair
-    requires { ⌜ (WellFormed (now image)) × (rules ≡ rulesIn (now image)) × (marks ≡ marksIn (now image)) × (marks * markWords ≤ length (now work)) ⌝ }
-    ensures { λ r. ⌜ (r .first ≡ clashFirst (bookOf (now (image .entry)))) × (r .second ≡ clashSecond (bookOf (now (image .entry))) (r .first)) ⌝ }
-    ensures { λ _. ⌜ length (now (work .exit)) ≡ length (now (work .entry)) ⌝ }
-{
-    closure::clear(work, 4 * marks);
-    sum_up(image, rules, work);
-    let low = lowest(image, rules, marks, work);
-    search(image, rules, low)
 }

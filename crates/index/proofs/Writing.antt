@@ -16,8 +16,8 @@ use Rattle.book.specs.Image.{rulesIn, bookOf}
 use Rattle.book.specs.WellFormed.{WellFormed}
 use Rattle.book.specs.declared.Counts.{Counts}
 use Rattle.rule_order.specs.Nets.{rulesOf, rules-few}
-use Rattle.rule_order.specs.Counters.{Begun}
-use Rattle.rule_order.specs.Scanning.{Scanned, Turn, scanned-first, order-few}
+use Rattle.unwritten.specs.Counters.{Begun}
+use Rattle.ordering.specs.Scanning.{Scanned, Turn, scanned-first, order-few}
 use Rattle.index.specs.Index.{orderBytes, indexImage, order-length}
 use Rattle.index.specs.Sizes.{orderSize, startFrom, entryFrom, Sized}
 use Rattle.index.specs.Runs.{pair-length, start-first, start-more, start-small, ruleAt, ordered, order-runs}

@@ -12,7 +12,7 @@ use Rattle.book.specs.Book.{Book}
 use Rattle.book.specs.Image.{stagesIn, bookOf}
 use Rattle.book.specs.WellFormed.{WellFormed}
 use Rattle.rule_order.specs.Nets.{rulesOf, count-is, few-counted, rules-few}
-use Rattle.rule_order.specs.Scanning.{order-counted}
+use Rattle.ordering.specs.Scanning.{order-counted}
 use Rattle.index.specs.Index.{orderOf, orderBytes, offsetOf, entryBytes, indexImage, length-order, length-entry, length-entries, length-header, offset-is, NoLoops, order-length}
 
 -- what stands inside, read from its start

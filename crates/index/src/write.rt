@@ -16,15 +16,15 @@ ghost use Rattle.index.specs.Sizes.{entryFrom, Sized};
 ghost use Rattle.index.specs.Ready.{IndexReady};
 use crate::sizes::order_size;
 use book::Counts;
+use ordering::scan::next_rule;
 use paper::INDEX_HEADER;
 use paper::INDEX_RULE;
 use paper::INDEX_STAGE;
 use paper::MAX_EVENTS;
 use paper::MAX_MARKS;
-use rule_order::scan::next_rule;
-use rule_order::waiting::count_targets;
-use rule_order::written::RULE_WORDS;
 use texts::references::MARK_WORDS;
+use unwritten::waiting::count_targets;
+use unwritten::written::RULE_WORDS;
 
 // Two numbers of 32 bits.
 fn put_pair(room: &mut [u8], at: usize, first: u32, second: u32) -> usize

@@ -24,15 +24,15 @@ use crate::rising::entries_rise;
 use book::Counts;
 use index::sizes::index_size;
 use index::sizes::order_size;
+use ordering::scan::next_rule;
 use paper::INDEX_HEADER;
 use paper::INDEX_RULE;
 use paper::INDEX_STAGE;
 use paper::MAX_EVENTS;
 use paper::MAX_MARKS;
-use rule_order::scan::next_rule;
-use rule_order::waiting::count_targets;
-use rule_order::written::RULE_WORDS;
 use texts::references::MARK_WORDS;
+use unwritten::waiting::count_targets;
+use unwritten::written::RULE_WORDS;
 
 // Two numbers of 32 bits.
 fn pair_same(index: &[u8], at: usize, first: u32, second: u32) -> bool

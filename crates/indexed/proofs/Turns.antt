@@ -22,7 +22,7 @@ use Rattle.book.specs.declared.Counts.{Counts}
 use Rattle.book.specs.declared.Rule.{Rule}
 use Rattle.rule_order.specs.Rules.{actsOf}
 use Rattle.rule_order.specs.Nets.{rulesOf, count-is}
-use Rattle.rule_order.specs.Scanning.{order-counted}
+use Rattle.ordering.specs.Scanning.{order-counted}
 use Rattle.judge.specs.Checking.{stages-many}
 use Rattle.runner.specs.Completing.{through}
 use Rattle.runner.proofs.Turns.{turn-fired, turn-kept}

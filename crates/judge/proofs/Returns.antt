@@ -23,8 +23,8 @@ use Rattle.book.specs.declared.Counts.{Counts}
 use Rattle.texts.specs.Noted.{References, Named}
 use Rattle.texts.proofs.Rows.{named-references}
 use Rattle.rule_order.specs.Nets.{rulesOf}
-use Rattle.rule_order.specs.Scanning.{orderedRoom}
-use Rattle.loops.specs.Places.{loopPlace, loop-fits}
+use Rattle.ordering.specs.Scanning.{orderedRoom}
+use Rattle.loop_search.specs.Places.{loopPlace, loop-fits}
 use Rattle.clashes.specs.Pairs.{clashFirst, clashSecond}
 use Rattle.judge.specs.Head.{headAnswer, head-refused, head-passed, passed-body, Begun, smallMarks, smallConditions, isSmall}
 use Rattle.judge.specs.Checking.{rulesAnswer, bookAnswer, stageAnswer, checking, checkedRoom, marks-many, acyclic-at, book-answer, book-passes, granted-room, refused-room}

@@ -24,7 +24,7 @@ use Rattle.rule_order.specs.Rules.{netOf}
 use Rattle.rule_order.specs.Nets.{rulesOf}
 use Rattle.clashes.specs.Clash.{NoClash, Clashes, clashes-so}
 use Rattle.clashes.specs.Pairs.{clashFirst, clashSecond, LowestClash, clash-fits, lowest-clash, clash-found, no-clash}
-use Rattle.loops.specs.Places.{loopPlace, loop-fits, loop-place}
+use Rattle.loop_search.specs.Places.{loopPlace, loop-fits, loop-place}
 
 -- ---- the answer
 

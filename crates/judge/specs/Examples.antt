@@ -20,7 +20,7 @@ use Rattle.book.specs.Firing.{awaits, reads, refers}
 use Rattle.rule_order.specs.Rules.{counted, netOf}
 use Rattle.clashes.specs.Clash.{completesOther, otherStages, isWritten, isNegated, oppositeSenses, apart, opposed, clash}
 use Rattle.clashes.specs.Pairs.{clashing, clashFirst, clashSecond}
-use Rattle.loops.specs.Places.{stagePlace, lesser, placeBelow, loopPlace}
+use Rattle.loop_search.specs.Places.{stagePlace, lesser, placeBelow, loopPlace}
 use Rattle.judge.specs.Checking.{rulesAnswer, bookAnswer, stageAnswer, checking, checkedRoom}
 
 -- a header of five counts and three offsets

@@ -22,11 +22,11 @@ use crate::sizes::WORK;
 use crate::sizes::is_small;
 use book::Counts;
 use book::header::counts_at;
+use ordering::running::running_order;
 use paper::Answer;
 use paper::NO_SUCH_STAGE;
 use paper::ORDER_ROOM;
 use rule_order::references::REFS;
-use rule_order::running::running_order;
 
 // 23 to 26, behind a head that passed. Where it gives 0 the rows have the marks that the conditions name.
 pub fn judge_book(book: &[u8], counts: Counts, refs: &mut [u64], work: &mut [u64]) -> Answer
@@ -88,7 +88,7 @@ fn check_large(book: &[u8], counts: Counts, stage: u32, room: &mut [u16]) -> Ans
 // The check for a stage: 20 to 26, 29 and 31, or 0 and the stage's running order in the room.
 // Cost: one pass over the rules for 23, one over the condition records and their texts for 24, in which the marks that they name are noted,
 // one over the rules and the noted rows for loops, one over the rules for clashes, one for what counts, and the scan of the running order.
-// A book where some mark may lie on a loop or have a clash takes more: `loops::loop_place` and `clashes::first_clash` say how much.
+// A book where some mark may lie on a loop or have a clash takes more: `loops::loop_place` and `clash_search::first_clash` say how much.
 // Stack: 16 KiB for the two arrays, of a small book too, since both sizes stand in one frame, and 3 in the search for clashes and the running
 // order.
 pub fn check(book: &[u8], stage: u32, room: &mut [u16]) -> Answer

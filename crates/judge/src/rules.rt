@@ -8,7 +8,7 @@ ghost use Rattle.book.specs.WellRead.{Opened};
 ghost use Rattle.texts.specs.Noted.{References};
 ghost use Rattle.judge.specs.Checking.{rulesAnswer};
 use book::Counts;
-use clashes::first_clash;
+use clash_search::first_clash;
 use loops::loop_place;
 use paper::Answer;
 use paper::CLASH;

@@ -1,4 +1,2 @@
--- The root of the crate's proofs.
-pub mod Rows
+-- The root of the crate's shared laws for proofs.
 pub mod Stages
-pub mod Sorting

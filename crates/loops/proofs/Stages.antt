@@ -6,26 +6,26 @@ use Prim.Native.Nat.{ℕ, _+_, _*_, _≤_, _<_}
 use native.Mathlib.Omega.{arith}
 use lib.Dec.{eqb, leb, ltb}
 use lib.ListN.{length}
-use borrow.Author.Tests.{eqb-true, eqb-false, eq-eqb, ne-eqb, le-leb, lt-leb, ltb-false, not-true}
+use borrow.Author.Tests.{eqb-true, eq-eqb, ne-eqb, le-leb, lt-leb, ltb-false, not-true}
 use Rattle.paper.specs.Limits.{maxEvents}
 use Rattle.general.specs.Cases.{cases, not-so}
 use Rattle.general.specs.Below.{some, some-step}
 use Rattle.sets.specs.Set.{has, union, only, collect}
 use Rattle.sets.specs.Laws.{has-empty, has-union, has-only, has-collect, ext}
 use Rattle.book.specs.Book.{ruleOf}
-use Rattle.book.specs.Image.{stagesIn, marksIn, rulesIn, rulePlace, triggerFrom, senseFrom, ruleFrom, bookOf, kindAt, senseAt, numberAt, conditionAt}
+use Rattle.book.specs.Image.{stagesIn, marksIn, rulesIn, rulePlace, triggerFrom, ruleFrom, bookOf, kindAt, senseAt, numberAt, conditionAt}
 use Rattle.book.specs.Read.{rules-count, rule-read}
 use Rattle.book.specs.Marks.{markWords}
 use Rattle.book.specs.WellFormed.{WellFormed}
 use Rattle.book.specs.WellRead.{Opened}
 use Rattle.book.specs.declared.Counts.{Counts}
 use Rattle.texts.specs.Noted.{References}
-use Rattle.loops.specs.Linked.{withStage}
-use Rattle.loops.specs.Places.{stagePlace, lesser, loopPlace}
-use Rattle.loops.specs.Searching.{completes, asks, searchRule, searches, searching, searching-has, searches-below, none-search, one-searches, completable, targets-exist}
-use Rattle.loops.specs.Searching.{searchedBelow, searched-on, searched-past, searched-last, common-last, no-stages}
-use Rattle.loops.specs.Chances.{mayLoop, no-chance}
-use Rattle.loops.proofs.Rows.{marks-many}
+use Rattle.loops.specs.Gathering.{withStage}
+use Rattle.loop_search.specs.Places.{stagePlace, lesser, loopPlace}
+use Rattle.loop_search.specs.Searching.{completes, searchRule, searches, searching, searching-has, searches-below, none-search, one-searches, completable, targets-exist}
+use Rattle.loop_search.specs.Searching.{searchedBelow, searched-on, searched-past, searched-last, common-last, no-stages}
+use Rattle.loop_chances.specs.Chances.{mayLoop, no-chance}
+use Rattle.loop_search.proofs.Rows.{asks-byte, marks-many}
 
 -- ---- one rule
 
@@ -45,12 +45,6 @@ module _ (s : List ℕ) (r : ℕ) where
     pub stage-taken : (n o next : ℕ) → kindAt s (rulePlace r) ≡ 1 → 1 ≤ senseAt s (rulePlace r) → n ≡ numberAt s (rulePlace r) → o ≡ only n → next ≡ union set o → next ≡ withStage s set r
     unfolding withStage
     stage-taken n o next k h e f g = rw (eq-eqb (kindAt s (rulePlace r)) 1 k, le-leb 1 (senseAt s (rulePlace r)) h) (g ∙ rw (f, e))
-
-pub asks-byte : (k c : ℕ) → asks (senseFrom k c) ≡ leb 1 k
-unfolding senseFrom asks
-asks-byte k c =
-    cases (eqb k 0) (λ e. rw (e, lt-leb 1 k (omega (arith, eqb-true k 0 e))))
-    (λ e. rw (e, le-leb 1 k (omega (arith, eqb-false k 0 e))) (cases (eqb k 1) (λ f. rw f) (λ f. rw f)))
 
 completes-byte : (k n stage : ℕ) → completes stage (triggerFrom k n) ≡ (eqb k 1 && eqb n stage)
 unfolding triggerFrom completes

@@ -1,7 +1,4 @@
 // The lowest mark targeted by a rule on a loop among the rules that count for some stage.
-pub mod chances;
-pub mod searches;
-
 ghost use mathlib.Core.Path.{_≡_};
 ghost use Prim.Native.Nat.{_*_, _≤_, _<_};
 ghost use lib.ListN.{length};
@@ -10,16 +7,16 @@ ghost use Rattle.book.specs.Marks.{markWords};
 ghost use Rattle.book.specs.WellFormed.{WellFormed};
 ghost use Rattle.book.specs.WellRead.{Opened};
 ghost use Rattle.texts.specs.Noted.{References};
-ghost use Rattle.loops.specs.Linked.{withStage};
-ghost use Rattle.loops.specs.Places.{lesser, loopPlace};
-ghost use Rattle.loops.specs.Searching.{searching};
-use crate::chances::may_loop;
-use crate::searches::stage_place;
+ghost use Rattle.loops.specs.Gathering.{withStage};
+ghost use Rattle.loop_search.specs.Places.{lesser, loopPlace};
+ghost use Rattle.loop_search.specs.Searching.{searching};
 use book::Counts;
 use book::rules::NUMBER_AT;
 use book::rules::SENSE_AS_WRITTEN;
 use book::rules::SENSE_AT;
 use book::rules::TRIGGER_COMPLETED;
+use loop_chances::may_loop;
+use loop_search::stage_place;
 use paper::BOOK_HEADER;
 use paper::RULE_SIZE;
 

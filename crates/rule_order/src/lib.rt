@@ -1,10 +1,4 @@
-// The order of the rules that count for a stage: which they are, what they refer to, the running order, and whether a given order is fit.
+// What the order of rules goes by: which rules count for a stage, and what they refer to.
 
 pub mod counted;
-pub mod fit;
-pub mod ready;
 pub mod references;
-pub mod running;
-pub mod scan;
-pub mod waiting;
-pub mod written;

@@ -28,7 +28,7 @@ use Rattle.rule_order.specs.Rules.{counted, netOf, actsOf}
 use Rattle.rule_order.specs.Nets.{rulesOf, count-is}
 use Rattle.clashes.specs.Clash.{completesOther, otherStages, isWritten, isNegated, oppositeSenses, apart, opposed, clash}
 use Rattle.clashes.specs.Pairs.{clashing, clashFirst, clashSecond}
-use Rattle.loops.specs.Places.{stagePlace, lesser, placeBelow, loopPlace}
+use Rattle.loop_search.specs.Places.{stagePlace, lesser, placeBelow, loopPlace}
 use Rattle.judge.specs.Checking.{rulesAnswer, bookAnswer}
 use Rattle.judge.specs.Examples.{header, rule, p10, pair}
 use Rattle.runner.specs.Completing.{fitted, orderAnswer, anyFrom, snapshotAnswer, completionAnswer, through, completing}

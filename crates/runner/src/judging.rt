@@ -17,13 +17,13 @@ use judge::sizes::SMALL_REFS;
 use judge::sizes::SMALL_WORK;
 use judge::sizes::WORK;
 use judge::sizes::is_small;
+use ordering::fit::order_fits;
 use paper::Answer;
 use paper::MARK_ABOVE;
 use paper::MAX_MARKS;
 use paper::NO_SUCH_STAGE;
 use paper::ORDER_UNFIT;
 use paper::STAGE_CLOSED;
-use rule_order::fit::order_fits;
 use rule_order::references::REFS;
 
 // 23 to 26, 29 and 27, behind a head that passed.

@@ -11,7 +11,7 @@ use book::applying::alters;
 use book::applying::applied;
 use book::reader::rule_in;
 use firing::rule_fires;
-use rule_order::fit::entry_of;
+use ordering::fit::entry_of;
 
 // The snapshot after the turns. A rule whose target has its value already cannot alter it, so its condition is not evaluated; one that
 // fires goes through `applied`, whose one store is in place and which copies the 256 marks.

@@ -1,6 +1,6 @@
 -- `loops::lesser` meets its contract. Assumes nothing.
 use borrow.Author.Tests.{le-leb, lt-leb}
-use Rattle.loops.specs.Places.{lesser}
+use Rattle.loop_search.specs.Places.{lesser}
 use Rattle.loops.proofs.lesser.Statement.{statement}
 use Rattle.loops.proofs.lesser.Tie as tie
 

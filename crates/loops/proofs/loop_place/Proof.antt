@@ -1,5 +1,5 @@
 -- `loops::loop_place` meets its contract. Assumes nothing.
-use Rattle.loops.proofs.Rows.{rules-many}
+use Rattle.loop_search.proofs.Rows.{rules-many}
 use Rattle.loops.proofs.Stages.{place-none, place-calm, place-common}
 use borrow.Author.Needs.{needs}
 use Rattle.loops.proofs.loop_place.Statement.{statement}
