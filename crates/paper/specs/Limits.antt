@@ -4,25 +4,25 @@ use Prim.Native.Nat.{ℕ}
 -- ---- limits
 
 abbrev pub maxNodes : ℕ
-maxNodes = 128
+maxNodes = 512
 
 abbrev pub maxRelations : ℕ
-maxRelations = 4096
+maxRelations = 16384
 
 abbrev pub maxEvents : ℕ
-maxEvents = 64
+maxEvents = 256
 
 abbrev pub maxMarks : ℕ
-maxMarks = 256
+maxMarks = 1024
 
 abbrev pub maxRules : ℕ
-maxRules = 8384
+maxRules = 131840
 
 abbrev pub maxConditions : ℕ
-maxConditions = 256
+maxConditions = 1024
 
 abbrev pub maxWords : ℕ
-maxWords = 41024
+maxWords = 655616
 
 abbrev pub maxStack : ℕ
 maxStack = 16
@@ -94,7 +94,7 @@ abbrev pub indexStage : ℕ
 indexStage = 8
 
 abbrev pub indexRule : ℕ
-indexRule = 2
+indexRule = 4
 
 -- ---- what mending writes: a change's size in bytes, and the five steps
 

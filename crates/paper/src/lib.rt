@@ -3,19 +3,19 @@ ghost use mathlib.Core.Path.{_≡_};
 ghost use Rattle.paper.specs.Answers.{granted, answer, placeOf};
 
 // ---- limits
-pub const MAX_NODES: usize = 128;
+pub const MAX_NODES: usize = 512;
 
-pub const MAX_RELATIONS: usize = 4096;
+pub const MAX_RELATIONS: usize = 16384;
 
-pub const MAX_EVENTS: usize = 64;
+pub const MAX_EVENTS: usize = 256;
 
-pub const MAX_MARKS: usize = 256;
+pub const MAX_MARKS: usize = 1024;
 
-pub const MAX_RULES: usize = 8384;
+pub const MAX_RULES: usize = 131840;
 
-pub const MAX_CONDITIONS: usize = 256;
+pub const MAX_CONDITIONS: usize = 1024;
 
-pub const MAX_WORDS: usize = 41024;
+pub const MAX_WORDS: usize = 655616;
 
 pub const MAX_STACK: usize = 16;
 
@@ -62,7 +62,7 @@ pub const INDEX_HEADER: usize = 8;
 
 pub const INDEX_STAGE: usize = 8;
 
-pub const INDEX_RULE: usize = 2;
+pub const INDEX_RULE: usize = 4;
 
 // ---- what mending writes: a change's size in bytes, and the five steps
 pub const CHANGE_SIZE: usize = 10;
