@@ -6,8 +6,7 @@ use mathlib.Core.List.{List}
 use lib.ListN.{getD, replicate}
 use Rattle.paper.specs.Limits.{maxEvents}
 use Rattle.sets.specs.Set.{has}
-use Rattle.flat_chart.specs.declared.FlatChart.{FlatChart}
-use Rattle.flat_chart.specs.declared.Row.{Row}
+use Rattle.flat_chart.specs.Flat.{FlatChart, Row}
 
 pub data Kind : Type 0 where
   condition response milestone include exclude : Kind

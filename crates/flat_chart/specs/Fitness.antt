@@ -14,7 +14,7 @@ use Rattle.general.specs.Cases.{contra, cases, both, all3, either, not-so}
 use Rattle.general.specs.Below.{every, every-at, every-of}
 use Rattle.sets.specs.Set.{has, union, minus, allBelow}
 use Rattle.sets.specs.Laws.{has-union, has-empty, has-all, none-zero, union-zero, minus-none, none-minus}
-use Rattle.flat_chart.specs.declared.FlatChart.{FlatChart}
+use Rattle.flat_chart.specs.Flat.{FlatChart}
 use Rattle.flat_chart.specs.Chart.{Kind, condition, response, milestone, include, exclude, setOf, In, Fit}
 use Rattle.flat_chart.specs.Tests.{allowedAt, rowSpill, spillAt, spillOf, rolesFrom, fitTables, fitChart}
 

@@ -11,7 +11,7 @@ use borrow.Author.Tests.{lt-leb, le-leb, lt-ltb, le-ltb}
 use Rattle.paper.specs.Limits.{maxEvents}
 use Rattle.sets.specs.Set.{union, minus, allBelow}
 use Rattle.flat_chart.specs.Chart.{chartOf}
-use Rattle.flat_chart.specs.declared.FlatChart.{FlatChart}
+use Rattle.flat_chart.specs.Flat.{FlatChart}
 
 -- what a set of event e may hold, where all is every event of a chart of n
 abbrev pub allowedAt : ℕ → ℕ → ℕ → ℕ
@@ -23,9 +23,13 @@ allowed-in all e n h = rw (lt-ltb e n h)
 pub allowed-past : (all e n : ℕ) → n ≤ e → 0 ≡ allowedAt all e n
 allowed-past all e n h = rw (le-ltb e n h)
 
--- what one event's sets hold outside what they may
+-- what one event's sets hold
+abbrev pub rowHeld : ℕ → ℕ → ℕ → ℕ → ℕ → ℕ
+rowHeld a b d i x = union (union (union (union a b) d) i) x
+
+-- and that outside what they may
 unfoldable pub rowSpill : ℕ → ℕ → ℕ → ℕ → ℕ → ℕ → ℕ
-rowSpill allowed a b d i x = minus (union (union (union (union a b) d) i) x) allowed
+rowSpill allowed a b d i x = minus (rowHeld a b d i x) allowed
 
 module _ (n : ℕ) (a b d i x : List ℕ) where
   unfoldable pub spillAt : ℕ → ℕ
@@ -46,13 +50,13 @@ module _ (w o from : ℕ) (a b d i x : List ℕ) where
   unfolding spillRows
   rows-none e h = let z : e - from ≡ 0 = omega arith in rw z
 
-  pub rows-more : (e : ℕ) {r s t : ℕ} → from ≤ e → s ≡ spillRows (e - from) → r ≡ rowSpill w (getD a e 0) (getD b e 0) (getD d e 0) (getD i e 0) (getD x e 0)
-      → t ≡ union s r → t ≡ spillRows (e + 1 - from)
-  unfolding spillRows
-  rows-more e l p q h =
+  pub rows-more : (e : ℕ) {h r s t : ℕ} → from ≤ e → s ≡ spillRows (e - from) → h ≡ rowHeld (getD a e 0) (getD b e 0) (getD d e 0) (getD i e 0) (getD x e 0)
+      → r ≡ minus h w → t ≡ union s r → t ≡ spillRows (e + 1 - from)
+  unfolding spillRows rowSpill
+  rows-more e l p k q h =
       let z : e + 1 - from ≡ suc (e - from) = omega arith in
       let y : from + (e - from) ≡ e = omega arith in
-      rw (z, y, h, p, q)
+      rw (z, y, h, p, q, k)
 
   pub rows-end : (e end s : ℕ) → e ≤ end → end ≤ e → s ≡ spillRows (e - from) → s ≡ spillRows (end - from)
   rows-end e end s h l p = let z : e ≡ end = omega arith in p ∙ ap (λ (m : ℕ). spillRows (m - from)) z
@@ -69,12 +73,12 @@ module _ (n : ℕ) (a b d i x : List ℕ) where
   last-rows (suc k) = rw (add-suc, last-rows k, ← allowed-past (allBelow n) (n + k) n (omega arith))
 
   -- the rows of the events, which may hold all of them, and the rows past the count, which may hold nothing
-  pub spill-whole : (all s t : ℕ) → n ≤ maxEvents → all ≡ allBelow n → s ≡ spillRows all 0 0 a b d i x (n - 0) → t ≡ spillRows 0 s n a b d i x (maxEvents - n)
-      → t ≡ spillOf n a b d i x maxEvents
-  spill-whole all s t h p q r =
+  pub spill-whole : (all none s t : ℕ) → n ≤ maxEvents → all ≡ allBelow n → none ≡ 0 → s ≡ spillRows all none 0 a b d i x (n - 0)
+      → t ≡ spillRows none s n a b d i x (maxEvents - n) → t ≡ spillOf n a b d i x maxEvents
+  spill-whole all none s t h p o q r =
       let z : n + (maxEvents - n) ≡ maxEvents = omega arith in
       let y : n - 0 ≡ n = omega arith in
-      r ∙ rw (q, y, p, first-rows n (omega arith), last-rows (maxEvents - n), z)
+      r ∙ rw (q, o, y, p, first-rows n (omega arith), last-rows (maxEvents - n), z)
 
 -- the roles that k events from one on name
 module _ (roles : List ℕ) (from : ℕ) where
@@ -112,6 +116,7 @@ module _ (n : ℕ) (a b d i x o : List ℕ) where
   unfolding fitChart
   chart-many h = simp (lt-leb n maxEvents h, and-false)
 
-  pub chart-tested : (s t : ℕ) → 1 ≤ n → n ≤ maxEvents → s ≡ spillOf n a b d i x maxEvents → t ≡ rolesFrom o n (maxEvents - n) → (eqb s 0 && eqb t 0) ≡ fitChart (chartOf n a b d i x o)
+  pub chart-tested : (s t : ℕ) (z : Bool) → 1 ≤ n → n ≤ maxEvents → s ≡ spillOf n a b d i x maxEvents → t ≡ rolesFrom o n (maxEvents - n) → z ≡ eqb s 0
+      → (z && eqb t 0) ≡ fitChart (chartOf n a b d i x o)
   unfolding fitChart fitTables
-  chart-tested s t h l e f = simp (le-leb 1 n h, le-leb n maxEvents l, e, f)
+  chart-tested s t z h l e f g = simp (le-leb 1 n h, le-leb n maxEvents l, g, e, f)

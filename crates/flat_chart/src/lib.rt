@@ -1,80 +1,81 @@
 // The flat chart, the test that it is fit, and one event's own sets and roles.
 ghost use mathlib.Core.Path.{_≡_};
 ghost use Prim.Native.Nat.{_-_, _<_, _≤_};
+ghost use lib.ListN.{getD};
 ghost use Rattle.paper.specs.Limits.{maxEvents};
+ghost use Rattle.wide.specs.Number.{number, rowsOf};
+ghost use Rattle.flat_chart.specs.Numbers.{flatOf, rowNumbers};
 ghost use Rattle.flat_chart.specs.Chart.{chartOf, rowOf, emptyChart};
 ghost use Rattle.flat_chart.specs.Roles.{permits};
-ghost use Rattle.flat_chart.specs.Tests.{rowSpill, spillRows, spillOf, rolesFrom, fitChart};
+ghost use Rattle.flat_chart.specs.Tests.{rowHeld, spillRows, spillOf, rolesFrom, fitChart};
 use paper::MAX_EVENTS;
 use paper::MAX_ROLES;
+use wide::Set;
+use wide::TABLE;
 
-// One set for each event and kind. Entry e of conditions and milestones is who holds e back; of the others, what e reaches; of roles, who may
+// One set for each event and kind, row e of its table. Row e of conditions and milestones is who holds e back; of the others, what e reaches; of roles, who may
 // execute e, where none means everyone.
 #[repr(C)]
 pub struct FlatChart {
     pub count: u32,
-    pub conditions: [u64; MAX_EVENTS],
-    pub responses: [u64; MAX_EVENTS],
-    pub milestones: [u64; MAX_EVENTS],
-    pub includes: [u64; MAX_EVENTS],
-    pub excludes: [u64; MAX_EVENTS],
+    pub conditions: [u64; TABLE],
+    pub responses: [u64; TABLE],
+    pub milestones: [u64; TABLE],
+    pub includes: [u64; TABLE],
+    pub excludes: [u64; TABLE],
     pub roles: [u8; MAX_EVENTS],
 }
 
 // One event's own sets, and the roles that it names.
 pub struct Row {
-    pub conditions: u64,
-    pub responses: u64,
-    pub milestones: u64,
-    pub includes: u64,
-    pub excludes: u64,
+    pub conditions: Set,
+    pub responses: Set,
+    pub milestones: Set,
+    pub includes: Set,
+    pub excludes: Set,
     pub roles: u8,
 }
 
-// What one event's sets hold that they may not.
-fn row_spill(
-    allowed: u64,
-    conditions: u64,
-    responses: u64,
-    milestones: u64,
-    includes: u64,
-    excludes: u64,
-) -> u64
-    ensures { λ r. ⌜ r ≡ rowSpill allowed conditions responses milestones includes excludes ⌝ }
+// What event e's sets hold.
+fn row_held<'a>(
+    e: usize,
+    conditions: &'a [u64; TABLE],
+    responses: &'a [u64; TABLE],
+    milestones: &'a [u64; TABLE],
+    includes: &'a [u64; TABLE],
+    excludes: &'a [u64; TABLE],
+) -> Set
+    requires { ⌜ e < maxEvents ⌝ }
+    ensures { λ r. ⌜ number r ≡ rowHeld (getD (rowsOf (now (conditions .entry))) e 0) (getD (rowsOf (now (responses .entry))) e 0) (getD (rowsOf (now (milestones .entry))) e 0) (getD (rowsOf (now (includes .entry))) e 0) (getD (rowsOf (now (excludes .entry))) e 0) ⌝ }
 {
-    sets::less(
-        conditions | responses | milestones | includes | excludes,
-        allowed,
+    let some = wide::join(wide::row(conditions, e), wide::row(responses, e));
+    let more = wide::join(some, wide::row(milestones, e));
+    wide::join(
+        wide::join(more, wide::row(includes, e)),
+        wide::row(excludes, e),
     )
 }
 
 // What the rows from one to another add to a set, where each may hold what is allowed. The loop has no branch.
 fn spill_rows<'a>(
-    start: u64,
+    start: Set,
     from: usize,
     end: usize,
-    allowed: u64,
-    conditions: &'a [u64; MAX_EVENTS],
-    responses: &'a [u64; MAX_EVENTS],
-    milestones: &'a [u64; MAX_EVENTS],
-    includes: &'a [u64; MAX_EVENTS],
-    excludes: &'a [u64; MAX_EVENTS],
-) -> u64
+    allowed: Set,
+    conditions: &'a [u64; TABLE],
+    responses: &'a [u64; TABLE],
+    milestones: &'a [u64; TABLE],
+    includes: &'a [u64; TABLE],
+    excludes: &'a [u64; TABLE],
+) -> Set
     requires { ⌜ (from ≤ end) × (end ≤ maxEvents) ⌝ }
-    ensures { λ r. ⌜ r ≡ spillRows allowed start from (now (conditions .entry)) (now (responses .entry)) (now (milestones .entry)) (now (includes .entry)) (now (excludes .entry)) (end - from) ⌝ }
+    ensures { λ r. ⌜ number r ≡ spillRows (number allowed) (number start) from (rowsOf (now (conditions .entry))) (rowsOf (now (responses .entry))) (rowsOf (now (milestones .entry))) (rowsOf (now (includes .entry))) (rowsOf (now (excludes .entry))) (end - from) ⌝ }
 {
     let mut over = start;
     let mut e = from;
     while e < end {
-        let row = row_spill(
-            allowed,
-            conditions[e],
-            responses[e],
-            milestones[e],
-            includes[e],
-            excludes[e],
-        );
-        over = sets::join(over, row);
+        let held = row_held(e, conditions, responses, milestones, includes, excludes);
+        over = wide::join(over, wide::less(held, allowed));
         e += 1;
     }
     over
@@ -83,17 +84,17 @@ fn spill_rows<'a>(
 // Every row's spill in one set: an event's sets may hold all events, and past the count nothing.
 fn spill<'a>(
     n: usize,
-    conditions: &'a [u64; MAX_EVENTS],
-    responses: &'a [u64; MAX_EVENTS],
-    milestones: &'a [u64; MAX_EVENTS],
-    includes: &'a [u64; MAX_EVENTS],
-    excludes: &'a [u64; MAX_EVENTS],
-) -> u64
+    conditions: &'a [u64; TABLE],
+    responses: &'a [u64; TABLE],
+    milestones: &'a [u64; TABLE],
+    includes: &'a [u64; TABLE],
+    excludes: &'a [u64; TABLE],
+) -> Set
     requires { ⌜ n ≤ maxEvents ⌝ }
-    ensures { λ r. ⌜ r ≡ spillOf n (now (conditions .entry)) (now (responses .entry)) (now (milestones .entry)) (now (includes .entry)) (now (excludes .entry)) maxEvents ⌝ }
+    ensures { λ r. ⌜ number r ≡ spillOf n (rowsOf (now (conditions .entry))) (rowsOf (now (responses .entry))) (rowsOf (now (milestones .entry))) (rowsOf (now (includes .entry))) (rowsOf (now (excludes .entry))) maxEvents ⌝ }
 {
-    let all = sets::all_below(n);
-    let none: u64 = 0;
+    let all = wide::all_below(n);
+    let none = wide::empty();
     let over = spill_rows(
         none,
         0,
@@ -135,14 +136,14 @@ fn roles_past<'a>(n: usize, roles: &'a [u8; MAX_EVENTS]) -> u8
 // Whether the chart of this count and these tables is fit.
 pub fn tables_fit<'a>(
     count: u32,
-    conditions: &'a [u64; MAX_EVENTS],
-    responses: &'a [u64; MAX_EVENTS],
-    milestones: &'a [u64; MAX_EVENTS],
-    includes: &'a [u64; MAX_EVENTS],
-    excludes: &'a [u64; MAX_EVENTS],
+    conditions: &'a [u64; TABLE],
+    responses: &'a [u64; TABLE],
+    milestones: &'a [u64; TABLE],
+    includes: &'a [u64; TABLE],
+    excludes: &'a [u64; TABLE],
     roles: &'a [u8; MAX_EVENTS],
 ) -> bool
-    ensures { λ r. ⌜ r ≡ fitChart (chartOf count (now (conditions .entry)) (now (responses .entry)) (now (milestones .entry)) (now (includes .entry)) (now (excludes .entry)) (now (roles .entry))) ⌝ }
+    ensures { λ r. ⌜ r ≡ fitChart (chartOf count (rowsOf (now (conditions .entry))) (rowsOf (now (responses .entry))) (rowsOf (now (milestones .entry))) (rowsOf (now (includes .entry))) (rowsOf (now (excludes .entry))) (now (roles .entry))) ⌝ }
 {
     let n = count as usize;
     if n < 1 {
@@ -153,7 +154,7 @@ pub fn tables_fit<'a>(
     }
     let over = spill(n, conditions, responses, milestones, includes, excludes);
     let named = roles_past(n, roles);
-    (over == 0) & (named == 0)
+    wide::is_empty(over) & (named == 0)
 }
 
 // Whether a role may execute an event that names these; an event that names none is open to roles 0 to 7.
@@ -166,43 +167,43 @@ pub fn permits(roles: u8, role: u32) -> bool
 // The sets and the roles of event e, out of lent tables.
 pub fn row_at<'a>(
     e: usize,
-    conditions: &'a [u64; MAX_EVENTS],
-    responses: &'a [u64; MAX_EVENTS],
-    milestones: &'a [u64; MAX_EVENTS],
-    includes: &'a [u64; MAX_EVENTS],
-    excludes: &'a [u64; MAX_EVENTS],
+    conditions: &'a [u64; TABLE],
+    responses: &'a [u64; TABLE],
+    milestones: &'a [u64; TABLE],
+    includes: &'a [u64; TABLE],
+    excludes: &'a [u64; TABLE],
     roles: &'a [u8; MAX_EVENTS],
 ) -> Row
     requires { ⌜ e < maxEvents ⌝ }
-    ensures { λ r. ⌜ r ≡ rowOf (chartOf 0 (now (conditions .entry)) (now (responses .entry)) (now (milestones .entry)) (now (includes .entry)) (now (excludes .entry)) (now (roles .entry))) e ⌝ }
+    ensures { λ r. ⌜ rowNumbers r ≡ rowOf (chartOf 0 (rowsOf (now (conditions .entry))) (rowsOf (now (responses .entry))) (rowsOf (now (milestones .entry))) (rowsOf (now (includes .entry))) (rowsOf (now (excludes .entry))) (now (roles .entry))) e ⌝ }
 {
     Row {
-        conditions: conditions[e],
-        responses: responses[e],
-        milestones: milestones[e],
-        includes: includes[e],
-        excludes: excludes[e],
+        conditions: wide::row(conditions, e),
+        responses: wide::row(responses, e),
+        milestones: wide::row(milestones, e),
+        includes: wide::row(includes, e),
+        excludes: wide::row(excludes, e),
         roles: roles[e],
     }
 }
 
 impl FlatChart {
     pub fn empty() -> FlatChart
-        ensures { λ r. ⌜ r ≡ emptyChart ⌝ }
+        ensures { λ r. ⌜ flatOf r ≡ emptyChart ⌝ }
     {
         FlatChart {
             count: 0,
-            conditions: [0u64; MAX_EVENTS],
-            responses: [0u64; MAX_EVENTS],
-            milestones: [0u64; MAX_EVENTS],
-            includes: [0u64; MAX_EVENTS],
-            excludes: [0u64; MAX_EVENTS],
+            conditions: [0u64; TABLE],
+            responses: [0u64; TABLE],
+            milestones: [0u64; TABLE],
+            includes: [0u64; TABLE],
+            excludes: [0u64; TABLE],
             roles: [0u8; MAX_EVENTS],
         }
     }
 
     pub fn is_fit(self) -> bool
-        ensures { λ r. ⌜ r ≡ fitChart self ⌝ }
+        ensures { λ r. ⌜ r ≡ fitChart (flatOf self) ⌝ }
     {
         tables_fit(
             self.count,

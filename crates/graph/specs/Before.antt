@@ -14,8 +14,8 @@ use Rattle.sets.specs.Laws.{union-zero, apart-not, not-apart}
 use Rattle.flat_chart.specs.Chart.{include, exclude, setOf, In}
 use Rattle.flat_chart.specs.Tests.{allowedAt, rowSpill, spillAt, spillOf, rolesFrom, fitTables, fitChart}
 use Rattle.graph.specs.Fitness.{fitMarking, fit}
-use Rattle.flat_chart.specs.declared.FlatChart.{FlatChart}
-use Rattle.graph.specs.declared.Marking.{Marking}
+use Rattle.flat_chart.specs.Flat.{FlatChart}
+use Rattle.graph.specs.Flat.{Marking}
 
 -- "and no pair has both include and exclude", which fit means no more
 abbrev pub Apart : FlatChart → Type 0

@@ -11,8 +11,8 @@ use Rattle.flat_chart.specs.Roles.{permits}
 use Rattle.flat_chart.specs.Tests.{rowSpill, spillAt, spillOf, rolesFrom, fitTables, fitChart}
 use Rattle.graph.specs.Fitness.{fitMarking, fit}
 use Rattle.graph.specs.Steps.{unmetOf, awaitedOf, afterWith, granting, shut, testing, opening, stepping, steppingBy, executing}
-use Rattle.flat_chart.specs.declared.FlatChart.{FlatChart}
-use Rattle.graph.specs.declared.Marking.{Marking}
+use Rattle.flat_chart.specs.Flat.{FlatChart}
+use Rattle.graph.specs.Flat.{Marking}
 
 abbrev pub none : List ℕ
 none = replicate maxEvents 0

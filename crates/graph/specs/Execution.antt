@@ -20,9 +20,8 @@ use Rattle.flat_chart.specs.Roles.{Permits, permits, permits-so}
 use Rattle.graph.specs.Fitness.{fit-both, both-fit}
 use Rattle.graph.specs.Steps.{unmetOf, awaitedOf, openWith, isOpen, afterWith, after, refusing, granting, steppingBy, stepping-cases, executing}
 use Rattle.graph.specs.Steps.{openAmong, openSet, counting, finishing}
-use Rattle.flat_chart.specs.declared.FlatChart.{FlatChart}
-use Rattle.graph.specs.declared.Marking.{Marking}
-use Rattle.graph.specs.declared.steps.Step.{Step}
+use Rattle.flat_chart.specs.Flat.{FlatChart}
+use Rattle.graph.specs.Flat.{Marking, Step}
 use Rattle.graph.specs.declared.steps.OpenCount.{OpenCount}
 use Rattle.graph.specs.declared.steps.Finished.{Finished}
 

@@ -9,8 +9,8 @@ use Rattle.sets.specs.Laws.{has-union, within-lt, lt-within}
 use Rattle.flat_chart.specs.Chart.{In, Fit}
 use Rattle.flat_chart.specs.Tests.{fitChart}
 use Rattle.flat_chart.specs.Fitness.{tested-fit, fit-tested}
-use Rattle.flat_chart.specs.declared.FlatChart.{FlatChart}
-use Rattle.graph.specs.declared.Marking.{Marking}
+use Rattle.flat_chart.specs.Flat.{FlatChart}
+use Rattle.graph.specs.Flat.{Marking}
 
 -- "A marking is three sets: Ex, Re, In; it is fit if no bit stands outside the count."
 pub record FitMarking (n : ℕ) (m : Marking) : Type 0 where

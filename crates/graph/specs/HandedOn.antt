@@ -16,10 +16,8 @@ use Rattle.graph.specs.Fitness.{fit}
 use Rattle.graph.specs.Steps.{unmetOf, awaitedOf, afterWith, testing, opening, handedOn, stepping, stepping-cases, steppingBy, executing}
 use Rattle.graph.specs.Execution.{BothSets, Admitted, Executes, isUnfit, isGone, isForbidden, isExcluded, isWanting, isAwaiting, isDone, executes}
 use Rattle.graph.specs.Opening.{Blocks}
-use Rattle.flat_chart.specs.declared.FlatChart.{FlatChart}
-use Rattle.graph.specs.declared.Marking.{Marking}
-use Rattle.flat_chart.specs.declared.Row.{Row}
-use Rattle.graph.specs.declared.steps.Step.{Step}
+use Rattle.flat_chart.specs.Flat.{FlatChart, Row}
+use Rattle.graph.specs.Flat.{Marking, Step}
 
 -- ---- "The step hands both on with code 12 or 13"
 

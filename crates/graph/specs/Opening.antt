@@ -19,9 +19,8 @@ use Rattle.graph.specs.Fitness.{fit-both, both-fit}
 use Rattle.graph.specs.Steps.{unmetOf, awaitedOf, isOpen, shut, opened, testing, opening, counting}
 use Rattle.graph.specs.Execution.{Enabled, Wanting, Awaiting, BothSets, Stands}
 use Rattle.graph.specs.Execution.{open-enabled, whole, held-one, none-of, lowest-wanting, lowest-awaiting, some-in, frees, counts}
-use Rattle.flat_chart.specs.declared.FlatChart.{FlatChart}
-use Rattle.graph.specs.declared.Marking.{Marking}
-use Rattle.graph.specs.declared.steps.OpenTest.{OpenTest}
+use Rattle.flat_chart.specs.Flat.{FlatChart}
+use Rattle.graph.specs.Flat.{Marking, OpenTest}
 
 -- ---- the rows
 

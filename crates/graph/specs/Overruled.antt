@@ -15,8 +15,8 @@ use Rattle.flat_chart.specs.Chart.{Kind, condition, response, milestone, includ
 use Rattle.graph.specs.Before.{Apart}
 use Rattle.graph.specs.Steps.{afterWith, after}
 use Rattle.graph.specs.Execution.{Executed}
-use Rattle.flat_chart.specs.declared.FlatChart.{FlatChart}
-use Rattle.graph.specs.declared.Marking.{Marking}
+use Rattle.flat_chart.specs.Flat.{FlatChart}
+use Rattle.graph.specs.Flat.{Marking}
 
 -- ---- Definition 3, of a pair in both tables: In' = (In \ (e →%)) ∪ (e →+)
 

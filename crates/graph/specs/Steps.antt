@@ -19,12 +19,8 @@ use Rattle.flat_chart.specs.Chart.{setOf, condition, response, milestone, inclu
 use Rattle.flat_chart.specs.Roles.{permits}
 use Rattle.graph.specs.Fitness.{fit}
 use Rattle.graph.specs.Fitness.{fit-both}
-use Rattle.flat_chart.specs.declared.FlatChart.{FlatChart}
-use Rattle.graph.specs.declared.Marking.{Marking}
-use Rattle.flat_chart.specs.declared.Row.{Row}
-use Rattle.graph.specs.declared.steps.Blocking.{Blocking}
-use Rattle.graph.specs.declared.steps.OpenTest.{OpenTest}
-use Rattle.graph.specs.declared.steps.Step.{Step}
+use Rattle.flat_chart.specs.Flat.{FlatChart, Row}
+use Rattle.graph.specs.Flat.{Marking, Blocking, OpenTest, Step}
 use Rattle.graph.specs.declared.steps.OpenCount.{OpenCount}
 use Rattle.graph.specs.declared.steps.Finished.{Finished}
 
@@ -49,10 +45,10 @@ openWith m e conditions milestones = has (m .included) e && eqb (unmetOf m condi
 unfoldable pub freeWith : Marking → ℕ → ℕ → Bool
 freeWith m conditions milestones = eqb (unmetOf m conditions) 0 && eqb (awaitedOf m milestones) 0
 
-pub free-sets : (m : Marking) (conditions milestones : ℕ) (by : Blocking) → by ≡ blockingOf m conditions milestones
-    → (eqb (by .conditions) 0 && eqb (by .milestones) 0) ≡ freeWith m conditions milestones
+pub free-sets : (m : Marking) (conditions milestones : ℕ) (by : Blocking) (u w : Bool) → by ≡ blockingOf m conditions milestones → u ≡ eqb (by .conditions) 0 → w ≡ eqb (by .milestones) 0
+    → (u && w) ≡ freeWith m conditions milestones
 unfolding freeWith
-free-sets m conditions milestones by p = rw p
+free-sets m conditions milestones by u w p q r = rw (q, r, p)
 
 abbrev pub isOpen : FlatChart → Marking → ℕ → Bool
 isOpen c m e = openWith m e (setOf c condition e) (setOf c milestone e)
@@ -97,10 +93,10 @@ afterWith m e responses includes excludes =
       included = union (minus (m .included) excludes) includes;
     }
 
-pub after-made : (m : Marking) (e responses includes excludes : ℕ) {b p i : ℕ} → b ≡ only e → p ≡ minus (m .pending) b → i ≡ minus (m .included) excludes
-    → record { executed = union (m .executed) b; pending = union p responses; included = union i includes } ≡ afterWith m e responses includes excludes
+pub after-made : (m : Marking) (e responses includes excludes : ℕ) {b p i x y z : ℕ} → b ≡ only e → x ≡ union (m .executed) b → p ≡ minus (m .pending) b → y ≡ union p responses
+    → i ≡ minus (m .included) excludes → z ≡ union i includes → record { executed = x; pending = y; included = z } ≡ afterWith m e responses includes excludes
 unfolding afterWith
-after-made m e responses includes excludes h p i = rw (i, p, h)
+after-made m e responses includes excludes h x p y i z = rw (x, y, z, i, p, h)
 
 abbrev pub after : FlatChart → Marking → ℕ → Marking
 after c m e = afterWith m e (setOf c response e) (setOf c include e) (setOf c exclude e)
@@ -148,10 +144,6 @@ executing c m e r =
 
 -- ---- counting
 
--- the bit of e, doubled, is that of e + 1, as long as it lies in the word of w digits
-pub bit-more : (w e b r : ℕ) → e + 1 < w → b ≡ only e → r ≡ (b * 2 ^ 1) % 2 ^ w → r ≡ only (e + 1)
-bit-more w e b r h p q = q ∙ rw (p, ← pow-add 2 e 1) (rw one-mul at (one-bit w (e + 1) h))
-
 unfoldable pub openAmong : Marking → List ℕ → List ℕ → ℕ → ℕ
 openAmong m conditions milestones n = collect n (λ e. openWith m e (getD conditions e 0) (getD milestones e 0))
 
@@ -160,14 +152,10 @@ unfoldable pub freeAmong : Marking → List ℕ → List ℕ → ℕ → ℕ
 freeAmong m conditions milestones n = collect n (λ e. freeWith m (getD conditions e 0) (getD milestones e 0))
 
 module _ (m : Marking) (conditions milestones : List ℕ) where
-  pub free-more : (e : ℕ) {s t b : ℕ} (o : Bool) → b ≡ only e → s ≡ freeAmong m conditions milestones e
-      → o ≡ freeWith m (getD conditions e 0) (getD milestones e 0) → t ≡ cond o (union s b) s → t ≡ freeAmong m conditions milestones (e + 1)
+  pub free-more : (e : ℕ) {s t x y : ℕ} (o : Bool) → s ≡ freeAmong m conditions milestones e → x ≡ getD conditions e 0 → y ≡ getD milestones e 0 → o ≡ freeWith m x y
+      → t ≡ putIf s e o → t ≡ freeAmong m conditions milestones (e + 1)
   unfolding freeAmong
-  free-more e o d p q h = h ∙ rw (d, p, collect-step, ← q) (put o)
-    where
-      put : (o : Bool) → cond o (union (freeAmong m conditions milestones e) (only e)) (freeAmong m conditions milestones e) ≡ putIf (freeAmong m conditions milestones e) e o
-      put true = refl
-      put false = refl
+  free-more e o p i j q h = h ∙ rw (p, collect-step, ← i, ← j, ← q)
 
   -- what is open is what is free and included
   free-open : (n : ℕ) → inter (freeAmong m conditions milestones n) (m .included) ≡ openAmong m conditions milestones n
@@ -180,8 +168,8 @@ module _ (m : Marking) (conditions milestones : List ℕ) where
       turned true true a b = and-true (a && b)
       turned true false a b = and-false (a && b)
 
-  pub among-end : (e n s : ℕ) → e ≤ n → n ≤ e → s ≡ freeAmong m conditions milestones e → inter s (m .included) ≡ openAmong m conditions milestones n
-  among-end e n s h l p = let z : e ≡ n = omega arith in rw (p, z) (free-open n)
+  pub among-end : (e n s t : ℕ) → e ≤ n → n ≤ e → s ≡ freeAmong m conditions milestones e → t ≡ inter s (m .included) → t ≡ openAmong m conditions milestones n
+  among-end e n s t h l p q = let z : e ≡ n = omega arith in q ∙ rw (p, z) (free-open n)
 
 abbrev pub openSet : FlatChart → Marking → ℕ
 openSet c m = openAmong m (c .conditions) (c .milestones) (c .count)
@@ -257,18 +245,25 @@ module _ (m : Marking) (e : ℕ) (row : Row) (i : Bool) (pi : i ≡ has (m .incl
   test-excluded t qi z = z ∙ rw (← pi, not-true i qi)
 
   module _ (qi : not i ≡ false) (by : Blocking) (pb : by ≡ blockingOf m (row .conditions) (row .milestones)) where
-    pub test-unmet : (by .conditions ≡ 0 → ⊥) → (l : ℕ) (t : OpenTest) → l ≡ lowest maxEvents (by .conditions) → t ≡ blocked conditionWanting l by → t ≡ testing m e row
-    unfolding testing
-    test-unmet n l t pl z = z ∙ rw (← pi, not-false i qi, pl, pb, ne-eqb _ 0 (rw pb at n))
+    module _ (u : Bool) (pu : u ≡ eqb (by .conditions) 0) where
+      none-unmet : u ≡ eqb (unmetOf m (row .conditions)) 0
+      none-unmet = rw pb at pu
 
-    pub test-awaited : by .conditions ≡ 0 → (by .milestones ≡ 0 → ⊥) → (l : ℕ) (t : OpenTest) → l ≡ lowest maxEvents (by .milestones) → t ≡ blocked milestoneWanting l by
-        → t ≡ testing m e row
-    unfolding testing
-    test-awaited h n l t pl z = z ∙ rw (← pi, not-false i qi, pl, pb, eq-eqb _ 0 (rw pb at h), ne-eqb _ 0 (rw pb at n))
+      pub test-unmet : not u ≡ true → (l : ℕ) (t : OpenTest) → l ≡ lowest maxEvents (by .conditions) → t ≡ blocked conditionWanting l by → t ≡ testing m e row
+      unfolding testing
+      test-unmet qu l t pl z = z ∙ rw (← pi, not-false i qi, pl, pb, ← none-unmet, not-true u qu)
 
-    pub test-open : by .conditions ≡ 0 → by .milestones ≡ 0 → (a : Answer) → a ≡ granted → record { answer = a; conditions = 0; milestones = 0 } ≡ testing m e row
-    unfolding testing
-    test-open h k a z = rw (← pi, not-false i qi, z, eq-eqb _ 0 (rw pb at h), eq-eqb _ 0 (rw pb at k))
+      module _ (qu : not u ≡ false) (w : Bool) (pw : w ≡ eqb (by .milestones) 0) where
+        none-awaited : w ≡ eqb (awaitedOf m (row .milestones)) 0
+        none-awaited = rw pb at pw
+
+        pub test-awaited : not w ≡ true → (l : ℕ) (t : OpenTest) → l ≡ lowest maxEvents (by .milestones) → t ≡ blocked milestoneWanting l by → t ≡ testing m e row
+        unfolding testing
+        test-awaited qw l t pl z = z ∙ rw (← pi, not-false i qi, pl, pb, ← none-unmet, not-false u qu, ← none-awaited, not-true w qw)
+
+        pub test-open : not w ≡ false → (a : Answer) (x y : ℕ) → a ≡ granted → x ≡ 0 → y ≡ 0 → record { answer = a; conditions = x; milestones = y } ≡ testing m e row
+        unfolding testing
+        test-open qw a x y ha hx hy = rw (← pi, not-false i qi, ← none-unmet, not-false u qu, ← none-awaited, not-false w qw, ha, hx, hy)
 
 pub count-unfit : (c : FlatChart) (m : Marking) (r : Bool) (a : Answer) → r ≡ fit c m → not r ≡ true → a ≡ refusal unfit
     → record { answer = a; count = 0; lowest = maxEvents } ≡ counting c m
@@ -285,7 +280,7 @@ pub finish-unfit : (c : FlatChart) (m : Marking) (r : Bool) (a : Answer) → r �
 unfolding finishing
 finish-unfit c m r a p q z = rw (← p, not-true r q, z)
 
-pub finish-told : (c : FlatChart) (m : Marking) (r : Bool) (a : Answer) → r ≡ fit c m → not r ≡ false → a ≡ granted
-    → record { answer = a; yes = eqb (inter (m .included) (m .pending)) 0 } ≡ finishing c m
+pub finish-told : (c : FlatChart) (m : Marking) (r : Bool) (a : Answer) (s : ℕ) (y : Bool) → r ≡ fit c m → not r ≡ false → a ≡ granted → s ≡ inter (m .included) (m .pending)
+    → y ≡ eqb s 0 → record { answer = a; yes = y } ≡ finishing c m
 unfolding finishing
-finish-told c m r a p q z = rw (ok c m r p q, z)
+finish-told c m r a s y p q z hs hy = rw (ok c m r p q, z, hy, hs)

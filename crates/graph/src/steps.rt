@@ -1,10 +1,11 @@
 // Steps of a flat chart: the open rule, the open test, executing, counting what is open, the finished test.
 ghost use mathlib.Core.Path.{_≡_};
-ghost use mathlib.Core.Bool.{cond};
-ghost use Prim.Native.Nat.{_*_, _%_, _^_, _<_, _≤_};
+ghost use Prim.Native.Nat.{_<_, _≤_};
 ghost use Rattle.paper.specs.Limits.{maxEvents};
-ghost use Rattle.sets.specs.Set.{union};
+ghost use Rattle.wide.specs.Number.{number, rowsOf};
 ghost use Rattle.flat_chart.specs.Chart.{chartOf};
+ghost use Rattle.flat_chart.specs.Numbers.{flatOf, rowNumbers};
+ghost use Rattle.graph.specs.Numbers.{marksOf, blockingNumbers, testOf, stepOf};
 ghost use Rattle.graph.specs.Steps.{unmetOf, awaitedOf, blockingOf, shut, blocked, testing, opening};
 ghost use Rattle.graph.specs.Steps.{freeWith, afterWith, refusing, handedOn, steppingBy, openAmong, executing, counting, finishing};
 use crate::Marking;
@@ -14,19 +15,21 @@ use flat_chart::permits;
 use flat_chart::row_at;
 use paper::Answer;
 use paper::MAX_EVENTS;
+use wide::Set;
+use wide::TABLE;
 
 // What holds an event back: its included conditions that are not executed, and its included milestones that are pending.
 struct Blocking {
-    conditions: u64,
-    milestones: u64,
+    conditions: Set,
+    milestones: Set,
 }
 
 // What the open test gives: with 12 and 13 all that holds the event back, with every other code two empty sets.
 #[repr(C)]
 pub struct OpenTest {
     pub answer: Answer,
-    pub conditions: u64,
-    pub milestones: u64,
+    pub conditions: Set,
+    pub milestones: Set,
 }
 
 // What executing an event gives: the next marking, or the old one beside the refusal; and the sets of its open test.
@@ -34,8 +37,8 @@ pub struct OpenTest {
 pub struct Step {
     pub answer: Answer,
     pub marking: Marking,
-    pub conditions: u64,
-    pub milestones: u64,
+    pub conditions: Set,
+    pub milestones: Set,
 }
 
 // How many events are open and the lowest of them, MAX_EVENTS where there is none.
@@ -52,73 +55,61 @@ pub struct Finished {
     pub yes: bool,
 }
 
-// The bit of the next event; the last one falls out.
-fn next_bit(bit: u64) -> u64
-    ensures { λ r. ⌜ r ≡ (bit * 2 ^ 1) % 2 ^ 64 ⌝ }
-{
-    bit << 1
-}
-
-fn put_bit_if(s: u64, bit: u64, on: bool) -> u64
-    ensures { λ r. ⌜ r ≡ cond on (union s bit) s ⌝ }
-{
-    if on {
-        return s | bit;
-    }
-    s
-}
-
 fn shut(code: u32) -> OpenTest
-    ensures { λ r. ⌜ r ≡ shut code ⌝ }
+    ensures { λ r. ⌜ testOf r ≡ shut code ⌝ }
 {
     OpenTest {
         answer: paper::refused(code, 0, 0),
-        conditions: 0,
-        milestones: 0,
+        conditions: wide::empty(),
+        milestones: wide::empty(),
     }
 }
 
 fn blocked(code: u32, place: u32, by: Blocking) -> OpenTest
-    ensures { λ r. ⌜ r ≡ blocked code place by ⌝ }
+    ensures { λ r. ⌜ testOf r ≡ blocked code place (blockingNumbers by) ⌝ }
 {
+    let conditions = by.conditions;
+    let milestones = by.milestones;
     OpenTest {
         answer: paper::refused(code, place, 0),
-        conditions: by.conditions,
-        milestones: by.milestones,
+        conditions,
+        milestones,
     }
 }
 
 // A step with what the open test gave.
 fn handed_on(test: OpenTest, marking: Marking) -> Step
-    ensures { λ r. ⌜ r ≡ handedOn test marking ⌝ }
+    ensures { λ r. ⌜ stepOf r ≡ handedOn (testOf test) (marksOf marking) ⌝ }
 {
     let answer = test.answer;
+    let conditions = test.conditions;
+    let milestones = test.milestones;
     Step {
         answer,
         marking,
-        conditions: test.conditions,
-        milestones: test.milestones,
+        conditions,
+        milestones,
     }
 }
 
 impl Marking {
     // Which of an event's conditions are included and not executed.
-    fn unmet(self, conditions: u64) -> u64
-        ensures { λ r. ⌜ r ≡ unmetOf self conditions ⌝ }
+    fn unmet(self, conditions: Set) -> Set
+        ensures { λ r. ⌜ number r ≡ unmetOf (marksOf self) (number conditions) ⌝ }
     {
-        sets::less(self.included & conditions, self.executed)
+        wide::less(wide::meet(self.included, conditions), self.executed)
     }
 
     // Which of an event's milestones are included and pending.
-    fn awaited(self, milestones: u64) -> u64
-        ensures { λ r. ⌜ r ≡ awaitedOf self milestones ⌝ }
+    fn awaited(self, milestones: Set) -> Set
+        ensures { λ r. ⌜ number r ≡ awaitedOf (marksOf self) (number milestones) ⌝ }
     {
-        self.included & milestones & self.pending
+        wide::meet(wide::meet(self.included, milestones), self.pending)
     }
 
     // All that holds an event back.
-    fn blocking(self, conditions: u64, milestones: u64) -> Blocking
-        ensures { λ r. ⌜ r ≡ blockingOf self conditions milestones ⌝ }
+    fn blocking(self, conditions: Set, milestones: Set) -> Blocking
+        ensures { λ r. ⌜ blockingNumbers r ≡ blockingOf (marksOf self) (number conditions) (number milestones) ⌝ }
     {
         Blocking {
             conditions: self.unmet(conditions),
@@ -127,56 +118,56 @@ impl Marking {
     }
 
     // Whether nothing holds an event back: it is open if it is included too.
-    fn is_free(self, conditions: u64, milestones: u64) -> bool
-        ensures { λ r. ⌜ r ≡ freeWith self conditions milestones ⌝ }
+    fn is_free(self, conditions: Set, milestones: Set) -> bool
+        ensures { λ r. ⌜ r ≡ freeWith (marksOf self) (number conditions) (number milestones) ⌝ }
     {
         let by = self.blocking(conditions, milestones);
-        (by.conditions == 0) & (by.milestones == 0)
+        wide::is_empty(by.conditions) & wide::is_empty(by.milestones)
     }
 
     // The marking after e, which excludes before it includes.
-    fn after(self, e: usize, responses: u64, includes: u64, excludes: u64) -> Marking
+    fn after(self, e: usize, responses: Set, includes: Set, excludes: Set) -> Marking
         requires { ⌜ e < maxEvents ⌝ }
-        ensures { λ r. ⌜ r ≡ afterWith self e responses includes excludes ⌝ }
+        ensures { λ r. ⌜ marksOf r ≡ afterWith (marksOf self) e (number responses) (number includes) (number excludes) ⌝ }
     {
-        let bit = sets::one(e);
+        let own = wide::one(e);
         Marking {
-            executed: self.executed | bit,
-            pending: sets::less(self.pending, bit) | responses,
-            included: sets::less(self.included, excludes) | includes,
+            executed: wide::join(self.executed, own),
+            pending: wide::join(wide::less(self.pending, own), responses),
+            included: wide::join(wide::less(self.included, excludes), includes),
         }
     }
 
     fn refused(self, code: u32) -> Step
-        ensures { λ r. ⌜ r ≡ refusing code 0 self ⌝ }
+        ensures { λ r. ⌜ stepOf r ≡ refusing code 0 (marksOf self) ⌝ }
     {
         Step {
             answer: paper::refused(code, 0, 0),
             marking: self,
-            conditions: 0,
-            milestones: 0,
+            conditions: wide::empty(),
+            milestones: wide::empty(),
         }
     }
 
     // The open test of event e, of a chart and a marking that are known to be fit: 11, 12, 13, or open.
     pub fn test(self, e: usize, row: Row) -> OpenTest
         requires { ⌜ e < maxEvents ⌝ }
-        ensures { λ r. ⌜ r ≡ testing self e row ⌝ }
+        ensures { λ r. ⌜ testOf r ≡ testing (marksOf self) e (rowNumbers row) ⌝ }
     {
-        if !sets::member(self.included, e) {
+        if !wide::member(self.included, e) {
             return shut(paper::NOT_INCLUDED);
         }
         let by = self.blocking(row.conditions, row.milestones);
-        if by.conditions != 0 {
-            return blocked(paper::CONDITION_WANTING, sets::least(by.conditions), by);
+        if !wide::is_empty(by.conditions) {
+            return blocked(paper::CONDITION_WANTING, wide::least(by.conditions), by);
         }
-        if by.milestones != 0 {
-            return blocked(paper::MILESTONE_WANTING, sets::least(by.milestones), by);
+        if !wide::is_empty(by.milestones) {
+            return blocked(paper::MILESTONE_WANTING, wide::least(by.milestones), by);
         }
         OpenTest {
             answer: paper::granted(),
-            conditions: 0,
-            milestones: 0,
+            conditions: wide::empty(),
+            milestones: wide::empty(),
         }
     }
 
@@ -184,15 +175,15 @@ impl Marking {
     pub fn open_test_in<'a>(
         self,
         count: u32,
-        conditions: &'a [u64; MAX_EVENTS],
-        responses: &'a [u64; MAX_EVENTS],
-        milestones: &'a [u64; MAX_EVENTS],
-        includes: &'a [u64; MAX_EVENTS],
-        excludes: &'a [u64; MAX_EVENTS],
+        conditions: &'a [u64; TABLE],
+        responses: &'a [u64; TABLE],
+        milestones: &'a [u64; TABLE],
+        includes: &'a [u64; TABLE],
+        excludes: &'a [u64; TABLE],
         roles: &'a [u8; MAX_EVENTS],
         event: u32,
     ) -> OpenTest
-        ensures { λ r. ⌜ r ≡ opening (chartOf count (now (conditions .entry)) (now (responses .entry)) (now (milestones .entry)) (now (includes .entry)) (now (excludes .entry)) (now (roles .entry))) self event ⌝ }
+        ensures { λ r. ⌜ testOf r ≡ opening (chartOf count (rowsOf (now (conditions .entry))) (rowsOf (now (responses .entry))) (rowsOf (now (milestones .entry))) (rowsOf (now (includes .entry))) (rowsOf (now (excludes .entry))) (now (roles .entry))) (marksOf self) event ⌝ }
     {
         if !self.fits(
             count,
@@ -223,7 +214,7 @@ impl Marking {
 
     // Whether an event is open, and if not, all that holds it back.
     pub fn open_test(self, chart: FlatChart, event: u32) -> OpenTest
-        ensures { λ r. ⌜ r ≡ opening chart self event ⌝ }
+        ensures { λ r. ⌜ testOf r ≡ opening (flatOf chart) (marksOf self) event ⌝ }
     {
         self.open_test_in(
             chart.count,
@@ -240,7 +231,7 @@ impl Marking {
     // A step of event e by a role, of a chart and a marking that are known to be fit: 32, 11, 12, 13, or the next marking.
     pub fn step(self, e: usize, row: Row, role: u32) -> Step
         requires { ⌜ e < maxEvents ⌝ }
-        ensures { λ r. ⌜ r ≡ steppingBy self e row role ⌝ }
+        ensures { λ r. ⌜ stepOf r ≡ steppingBy (marksOf self) e (rowNumbers row) role ⌝ }
     {
         if !permits(row.roles, role) {
             return self.refused(paper::NOT_PERMITTED);
@@ -259,16 +250,16 @@ impl Marking {
     pub fn execute_in<'a>(
         self,
         count: u32,
-        conditions: &'a [u64; MAX_EVENTS],
-        responses: &'a [u64; MAX_EVENTS],
-        milestones: &'a [u64; MAX_EVENTS],
-        includes: &'a [u64; MAX_EVENTS],
-        excludes: &'a [u64; MAX_EVENTS],
+        conditions: &'a [u64; TABLE],
+        responses: &'a [u64; TABLE],
+        milestones: &'a [u64; TABLE],
+        includes: &'a [u64; TABLE],
+        excludes: &'a [u64; TABLE],
         roles: &'a [u8; MAX_EVENTS],
         event: u32,
         role: u32,
     ) -> Step
-        ensures { λ r. ⌜ r ≡ executing (chartOf count (now (conditions .entry)) (now (responses .entry)) (now (milestones .entry)) (now (includes .entry)) (now (excludes .entry)) (now (roles .entry))) self event role ⌝ }
+        ensures { λ r. ⌜ stepOf r ≡ executing (chartOf count (rowsOf (now (conditions .entry))) (rowsOf (now (responses .entry))) (rowsOf (now (milestones .entry))) (rowsOf (now (includes .entry))) (rowsOf (now (excludes .entry))) (now (roles .entry))) (marksOf self) event role ⌝ }
     {
         if !self.fits(
             count,
@@ -298,7 +289,7 @@ impl Marking {
     }
 
     pub fn execute(self, chart: FlatChart, event: u32, role: u32) -> Step
-        ensures { λ r. ⌜ r ≡ executing chart self event role ⌝ }
+        ensures { λ r. ⌜ stepOf r ≡ executing (flatOf chart) (marksOf self) event role ⌝ }
     {
         self.execute_in(
             chart.count,
@@ -313,39 +304,38 @@ impl Marking {
         )
     }
 
-    // The open events among the first n. The bit is carried along, since shifting it anew costs more than the test.
+    // The open events among the first n.
     pub fn open_among<'a>(
         self,
         n: usize,
-        conditions: &'a [u64; MAX_EVENTS],
-        milestones: &'a [u64; MAX_EVENTS],
-    ) -> u64
+        conditions: &'a [u64; TABLE],
+        milestones: &'a [u64; TABLE],
+    ) -> Set
         requires { ⌜ n ≤ maxEvents ⌝ }
-        ensures { λ r. ⌜ r ≡ openAmong self (now (conditions .entry)) (now (milestones .entry)) n ⌝ }
+        ensures { λ r. ⌜ number r ≡ openAmong (marksOf self) (rowsOf (now (conditions .entry))) (rowsOf (now (milestones .entry))) n ⌝ }
     {
-        let mut all: u64 = 0;
-        let mut bit: u64 = 1;
+        let mut all = wide::empty();
         let mut e = 0;
         while e < n {
-            all = put_bit_if(all, bit, self.is_free(conditions[e], milestones[e]));
-            bit = next_bit(bit);
+            let free = self.is_free(wide::row(conditions, e), wide::row(milestones, e));
+            all = wide::put_if(all, e, free);
             e += 1;
         }
-        all & self.included
+        wide::meet(all, self.included)
     }
 
     // Counting over lent tables.
     pub fn count_in<'a>(
         self,
         count: u32,
-        conditions: &'a [u64; MAX_EVENTS],
-        responses: &'a [u64; MAX_EVENTS],
-        milestones: &'a [u64; MAX_EVENTS],
-        includes: &'a [u64; MAX_EVENTS],
-        excludes: &'a [u64; MAX_EVENTS],
+        conditions: &'a [u64; TABLE],
+        responses: &'a [u64; TABLE],
+        milestones: &'a [u64; TABLE],
+        includes: &'a [u64; TABLE],
+        excludes: &'a [u64; TABLE],
         roles: &'a [u8; MAX_EVENTS],
     ) -> OpenCount
-        ensures { λ r. ⌜ r ≡ counting (chartOf count (now (conditions .entry)) (now (responses .entry)) (now (milestones .entry)) (now (includes .entry)) (now (excludes .entry)) (now (roles .entry))) self ⌝ }
+        ensures { λ r. ⌜ r ≡ counting (chartOf count (rowsOf (now (conditions .entry))) (rowsOf (now (responses .entry))) (rowsOf (now (milestones .entry))) (rowsOf (now (includes .entry))) (rowsOf (now (excludes .entry))) (now (roles .entry))) (marksOf self) ⌝ }
     {
         if !self.fits(
             count,
@@ -365,13 +355,13 @@ impl Marking {
         let open = self.open_among(count as usize, conditions, milestones);
         OpenCount {
             answer: paper::granted(),
-            count: sets::count(open),
-            lowest: sets::least(open),
+            count: wide::count(open),
+            lowest: wide::least(open),
         }
     }
 
     pub fn count_open(self, chart: FlatChart) -> OpenCount
-        ensures { λ r. ⌜ r ≡ counting chart self ⌝ }
+        ensures { λ r. ⌜ r ≡ counting (flatOf chart) (marksOf self) ⌝ }
     {
         self.count_in(
             chart.count,
@@ -388,14 +378,14 @@ impl Marking {
     pub fn finished_in<'a>(
         self,
         count: u32,
-        conditions: &'a [u64; MAX_EVENTS],
-        responses: &'a [u64; MAX_EVENTS],
-        milestones: &'a [u64; MAX_EVENTS],
-        includes: &'a [u64; MAX_EVENTS],
-        excludes: &'a [u64; MAX_EVENTS],
+        conditions: &'a [u64; TABLE],
+        responses: &'a [u64; TABLE],
+        milestones: &'a [u64; TABLE],
+        includes: &'a [u64; TABLE],
+        excludes: &'a [u64; TABLE],
         roles: &'a [u8; MAX_EVENTS],
     ) -> Finished
-        ensures { λ r. ⌜ r ≡ finishing (chartOf count (now (conditions .entry)) (now (responses .entry)) (now (milestones .entry)) (now (includes .entry)) (now (excludes .entry)) (now (roles .entry))) self ⌝ }
+        ensures { λ r. ⌜ r ≡ finishing (chartOf count (rowsOf (now (conditions .entry))) (rowsOf (now (responses .entry))) (rowsOf (now (milestones .entry))) (rowsOf (now (includes .entry))) (rowsOf (now (excludes .entry))) (now (roles .entry))) (marksOf self) ⌝ }
     {
         if !self.fits(
             count,
@@ -413,12 +403,12 @@ impl Marking {
         }
         Finished {
             answer: paper::granted(),
-            yes: self.included & self.pending == 0,
+            yes: wide::is_empty(wide::meet(self.included, self.pending)),
         }
     }
 
     pub fn finished(self, chart: FlatChart) -> Finished
-        ensures { λ r. ⌜ r ≡ finishing chart self ⌝ }
+        ensures { λ r. ⌜ r ≡ finishing (flatOf chart) (marksOf self) ⌝ }
     {
         self.finished_in(
             chart.count,

@@ -16,13 +16,12 @@ use Rattle.paper.specs.declared.Answer.{Answer}
 use Rattle.sets.specs.Set.{inter}
 use Rattle.graph.specs.Fitness.{fit}
 use Rattle.graph.specs.Steps.{finish-told}
-use Rattle.flat_chart.specs.declared.FlatChart.{FlatChart}
-use Rattle.graph.specs.declared.Marking.{Marking}
+use Rattle.flat_chart.specs.Flat.{FlatChart}
+use Rattle.graph.specs.Flat.{Marking}
 use Rattle.graph.specs.declared.steps.Finished.{Finished}
 use Rattle.replay.specs.Recorded.{Entry, recordOf, reaching, reach-fit, reach-whole, reach-short, reach-stopped, reach-append}
 use Rattle.replay.specs.Replaying.{replaying, without, oldPosition, notStruck, stoppedBy, struckBy, striking, walking, walkingWithout}
-use Rattle.replay.specs.declared.Struck.{Struck}
-use Rattle.replay.specs.declared.Walked.{Walked}
+use Rattle.replay.specs.Flat.{Struck, Walked}
 use Rattle.replay.proofs.Walks.{record-length}
 
 -- ---- replay
@@ -30,10 +29,10 @@ use Rattle.replay.proofs.Walks.{record-length}
 pub fit-known : (c : FlatChart) (m : Marking) (r : Bool) → r ≡ fit c m → not r ≡ false → fit c m ≡ true
 fit-known c m r p q = sym p ∙ not-false r q
 
-pub replay-unfit : (c : FlatChart) (m : Marking) (numbers : List ℕ) (r : Bool) (a : Answer) → r ≡ fit c m → not r ≡ true → a ≡ refusal unfit
-    → record { answer = a; code = 0; steps = 0; marking = m; finished = false; conditions = 0; milestones = 0 } ≡ replaying c m numbers
+pub replay-unfit : (c : FlatChart) (m : Marking) (numbers : List ℕ) (r : Bool) (a : Answer) (x y : ℕ) → r ≡ fit c m → not r ≡ true → a ≡ refusal unfit → x ≡ 0 → y ≡ 0
+    → record { answer = a; code = 0; steps = 0; marking = m; finished = false; conditions = x; milestones = y } ≡ replaying c m numbers
 unfolding replaying
-replay-unfit c m numbers r a p q z = rw (← p, not-true r q, z)
+replay-unfit c m numbers r a x y p q z i j = rw (← p, not-true r q, z, i, j)
 
 walk-whole : (c : FlatChart) (m : Marking) (numbers : List ℕ)
     → walking c m (recordOf numbers) 0 (length numbers / 2) ≡ record { at = reaching c m (recordOf numbers) .steps; stop = reaching c m (recordOf numbers) .stop }
@@ -54,7 +53,7 @@ pub replay-told : (c : FlatChart) (m : Marking) (numbers : List ℕ) (r : Bool) 
 unfolding replaying
 replay-told c m numbers r w a y p q h z e =
     let f : fit c m ≡ true = fit-known c m r p q in
-    let g = finish-told c (reaching c m (recordOf numbers) .stop .marking) true granted (sym (reach-fit c (recordOf numbers) m f)) refl refl in
+    let g = finish-told c (reaching c m (recordOf numbers) .stop .marking) true granted _ _ (sym (reach-fit c (recordOf numbers) m f)) refl refl refl refl in
     rw (f, z, e, h ∙ walk-whole c m numbers, ← ap (λ (t : Finished). t .yes) g)
 
 -- ---- strike
@@ -100,6 +99,7 @@ module _ (c : FlatChart) (m : Marking) (numbers : List ℕ) (p : ℕ) (r : Bool)
     unfolding striking struckBy walkingWithout
     strike-stopped s k n x z = z ∙ rw (fit-known c m r e q, record-length numbers, lt-leb _ _ l, ne-eqb _ 0 (rw h at n), x, h)
 
-    pub strike-done : (a : Answer) → w .stop .answer .code ≡ 0 → a ≡ granted → record { answer = a; marking = w .stop .marking; conditions = 0; milestones = 0 } ≡ striking c m numbers p
+    pub strike-done : (a : Answer) (x y : ℕ) → w .stop .answer .code ≡ 0 → a ≡ granted → x ≡ 0 → y ≡ 0
+        → record { answer = a; marking = w .stop .marking; conditions = x; milestones = y } ≡ striking c m numbers p
     unfolding striking struckBy walkingWithout
-    strike-done a n z = rw (fit-known c m r e q, record-length numbers, lt-leb _ _ l, eq-eqb _ 0 (rw h at n), z, h)
+    strike-done a x y n z i j = rw (i, j, fit-known c m r e q, record-length numbers, lt-leb _ _ l, eq-eqb _ 0 (rw h at n), z, h)

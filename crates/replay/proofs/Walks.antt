@@ -16,10 +16,8 @@ use Rattle.graph.specs.Fitness.{fit-both, both-fit}
 use Rattle.flat_chart.specs.Chart.{rowOf}
 use Rattle.graph.specs.Steps.{executing, refusing, steppingBy, fit-index, step-gone, step-taken}
 use Rattle.graph.specs.Execution.{step-fit}
-use Rattle.flat_chart.specs.declared.FlatChart.{FlatChart}
-use Rattle.graph.specs.declared.Marking.{Marking}
-use Rattle.flat_chart.specs.declared.Row.{Row}
-use Rattle.graph.specs.declared.steps.Step.{Step}
+use Rattle.flat_chart.specs.Flat.{FlatChart, Row}
+use Rattle.graph.specs.Flat.{Marking, Step}
 use Rattle.replay.specs.Recorded.{Entry, recordOf, taking, reaching, reach-then, reach-until}
 use Rattle.replay.specs.Replaying.{walking}
 
@@ -50,8 +48,8 @@ record-holds l k h = omega (arith, record-length l)
 -- ---- a step of a chart and a marking that are known to be fit
 
 module _ (c : FlatChart) (m : Marking) (e r : ℕ) (f : fit c m ≡ true) where
-  pub known-gone : (a : Answer) → c .count ≤ e → a ≡ refusal noSuchEvent → record { answer = a; marking = m; conditions = 0; milestones = 0 } ≡ executing c m e r
-  known-gone a h z = rw z (step-gone c m e r true (sym f) refl (refusing noSuchEvent 0 m) h refl)
+  pub known-gone : (a : Answer) (x y : ℕ) → c .count ≤ e → a ≡ refusal noSuchEvent → x ≡ 0 → y ≡ 0 → record { answer = a; marking = m; conditions = x; milestones = y } ≡ executing c m e r
+  known-gone a x y h z p q = rw (z, p, q) (step-gone c m e r true (sym f) refl (refusing noSuchEvent 0 m) h refl)
 
   pub known-index : e < c .count → e < maxEvents
   known-index h = fit-index c m true (sym f) refl e h
@@ -95,6 +93,6 @@ module _ (c : FlatChart) (numbers : List ℕ) (start : Marking) (from end : ℕ)
     pub going-stop : (s .answer .code ≡ 0 → ⊥) → record { at = i; stop = s } ≡ walking c start (recordOf numbers) from end
     going-stop n = rw p (sym (ended (λ e. n (ap (λ (t : Step). t .answer .code) p ∙ e))) ∙ g .same)
 
-  pub going-end : end ≤ i → (a : Answer) → a ≡ granted → record { at = end; stop = record { answer = a; marking = m; conditions = 0; milestones = 0 } } ≡ walking c start (recordOf numbers) from end
+  pub going-end : end ≤ i → (a : Answer) (x y : ℕ) → a ≡ granted → x ≡ 0 → y ≡ 0 → record { at = end; stop = record { answer = a; marking = m; conditions = x; milestones = y } } ≡ walking c start (recordOf numbers) from end
   unfolding walking reaching
-  going-end h a e = let z : i ≡ end = (let k : i ≤ end = g .near in omega arith) in rw e (sym (rw (z, slice-empty end (recordOf numbers), add-zero)) ∙ g .same)
+  going-end h a x y e p q = let z : i ≡ end = (let k : i ≤ end = g .near in omega arith) in rw (e, p, q) (sym (rw (z, slice-empty end (recordOf numbers), add-zero)) ∙ g .same)

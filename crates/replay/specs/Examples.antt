@@ -13,7 +13,7 @@ use Rattle.flat_chart.specs.Tests.{rowSpill, spillAt, spillOf, rolesFrom, fitTa
 use Rattle.graph.specs.Fitness.{fitMarking, fit}
 use Rattle.graph.specs.Steps.{unmetOf, awaitedOf, afterWith, testing, stepping, steppingBy, executing, finishing}
 use Rattle.graph.specs.Examples.{none, pair, marking}
-use Rattle.flat_chart.specs.declared.FlatChart.{FlatChart}
+use Rattle.flat_chart.specs.Flat.{FlatChart}
 use Rattle.replay.specs.Recorded.{recordOf, reaching}
 use Rattle.replay.specs.Replaying.{replaying, without, oldPosition, notStruck, struck, struckBy, striking}
 

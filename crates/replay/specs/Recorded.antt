@@ -13,9 +13,8 @@ use Rattle.graph.specs.Fitness.{fit}
 use Rattle.graph.specs.Fitness.{fit-both, both-fit}
 use Rattle.graph.specs.Steps.{granting, executing}
 use Rattle.graph.specs.Execution.{isDone, executes-only, after-executed, granted-enabled, refused-kept, step-fit}
-use Rattle.flat_chart.specs.declared.FlatChart.{FlatChart}
-use Rattle.graph.specs.declared.Marking.{Marking}
-use Rattle.graph.specs.declared.steps.Step.{Step}
+use Rattle.flat_chart.specs.Flat.{FlatChart}
+use Rattle.graph.specs.Flat.{Marking, Step}
 
 -- "Its record is a list of (event, role) pairs from the chart's start marking."
 pub record Entry : Type 0 where

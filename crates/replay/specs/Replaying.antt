@@ -9,13 +9,10 @@ use Rattle.paper.specs.Limits.{unfit, noSuchPosition}
 use Rattle.paper.specs.Answers.{answer, granted, refusal, placeOf}
 use Rattle.graph.specs.Fitness.{fit}
 use Rattle.graph.specs.Steps.{finishing}
-use Rattle.flat_chart.specs.declared.FlatChart.{FlatChart}
-use Rattle.graph.specs.declared.Marking.{Marking}
-use Rattle.graph.specs.declared.steps.Step.{Step}
+use Rattle.flat_chart.specs.Flat.{FlatChart}
+use Rattle.graph.specs.Flat.{Marking, Step}
 use Rattle.replay.specs.Recorded.{Entry, recordOf, Reached, reaching}
-use Rattle.replay.specs.declared.Replayed.{Replayed}
-use Rattle.replay.specs.declared.Struck.{Struck}
-use Rattle.replay.specs.declared.Walked.{Walked}
+use Rattle.replay.specs.Flat.{Replayed, Struck, Walked}
 
 -- ---- replay
 

@@ -20,13 +20,11 @@ use Rattle.graph.specs.Steps.{finishing}
 use Rattle.graph.specs.Execution.{BothSets, refused-kept}
 use Rattle.graph.specs.Opening.{Blocks}
 use Rattle.graph.specs.HandedOn.{step-exact, step-others-empty}
-use Rattle.flat_chart.specs.declared.FlatChart.{FlatChart}
-use Rattle.graph.specs.declared.Marking.{Marking}
-use Rattle.graph.specs.declared.steps.Step.{Step}
+use Rattle.flat_chart.specs.Flat.{FlatChart}
+use Rattle.graph.specs.Flat.{Marking, Step}
 use Rattle.replay.specs.Recorded.{Entry, recordOf, Allowed, HowFar, whole, until, Reached, reached, reaching, how-far, how-far-only, reach-whole, allowed-reached}
 use Rattle.replay.specs.Replaying.{told, untold, replaying, without, oldPosition, notStruck, stoppedBy, struck, struckBy, striking}
-use Rattle.replay.specs.declared.Replayed.{Replayed}
-use Rattle.replay.specs.declared.Struck.{Struck}
+use Rattle.replay.specs.Flat.{Replayed, Struck}
 
 -- ---- the rows
 

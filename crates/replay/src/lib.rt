@@ -5,9 +5,13 @@ ghost use Prim.Native.Nat.{_≤_, _<_, _*_, _/_};
 ghost use lib.ListN.{length};
 ghost use lib.Dec.{eqb};
 ghost use Rattle.sets.specs.Set.{inter};
+ghost use Rattle.wide.specs.Number.{number, rowsOf};
 ghost use Rattle.flat_chart.specs.Chart.{chartOf};
+ghost use Rattle.flat_chart.specs.Numbers.{flatOf};
 ghost use Rattle.graph.specs.Fitness.{fit};
+ghost use Rattle.graph.specs.Numbers.{marksOf, stepOf};
 ghost use Rattle.graph.specs.Steps.{executing};
+ghost use Rattle.replay.specs.Numbers.{replayedOf, struckOf, walkedOf};
 ghost use Rattle.replay.specs.Recorded.{recordOf};
 ghost use Rattle.replay.specs.Replaying.{walking, walkingWithout, replaying, notStruck, stoppedBy, striking};
 use flat_chart::FlatChart;
@@ -16,6 +20,8 @@ use graph::Marking;
 use graph::steps::Step;
 use paper::Answer;
 use paper::MAX_EVENTS;
+use wide::Set;
+use wide::TABLE;
 
 // What a replay gives: how many steps of the record are allowed, the code of the next one, 0 where there is none, the marking there, and all that
 // blocks that step.
@@ -26,8 +32,8 @@ pub struct Replayed {
     pub steps: u64,
     pub marking: Marking,
     pub finished: bool,
-    pub conditions: u64,
-    pub milestones: u64,
+    pub conditions: Set,
+    pub milestones: Set,
 }
 
 // What a strike gives: the marking of the record without the step, or the start marking beside the refusal and all that blocks the step that fails.
@@ -35,8 +41,8 @@ pub struct Replayed {
 pub struct Struck {
     pub answer: Answer,
     pub marking: Marking,
-    pub conditions: u64,
-    pub milestones: u64,
+    pub conditions: Set,
+    pub milestones: Set,
 }
 
 // The position at which a walk over the record stopped, and what the step there gave. At the end there is none: code 0 and the marking reached.
@@ -49,24 +55,24 @@ struct Walked {
 fn step_in<'a>(
     marking: Marking,
     count: u32,
-    conditions: &'a [u64; MAX_EVENTS],
-    responses: &'a [u64; MAX_EVENTS],
-    milestones: &'a [u64; MAX_EVENTS],
-    includes: &'a [u64; MAX_EVENTS],
-    excludes: &'a [u64; MAX_EVENTS],
+    conditions: &'a [u64; TABLE],
+    responses: &'a [u64; TABLE],
+    milestones: &'a [u64; TABLE],
+    includes: &'a [u64; TABLE],
+    excludes: &'a [u64; TABLE],
     roles: &'a [u8; MAX_EVENTS],
     event: u32,
     role: u32,
 ) -> Step
-    requires { ⌜ fit (chartOf count (now conditions) (now responses) (now milestones) (now includes) (now excludes) (now roles)) marking ≡ true ⌝ }
-    ensures { λ r. ⌜ r ≡ executing (chartOf count (now (conditions .entry)) (now (responses .entry)) (now (milestones .entry)) (now (includes .entry)) (now (excludes .entry)) (now (roles .entry))) marking event role ⌝ }
+    requires { ⌜ fit (chartOf count (rowsOf (now conditions)) (rowsOf (now responses)) (rowsOf (now milestones)) (rowsOf (now includes)) (rowsOf (now excludes)) (now roles)) (marksOf marking) ≡ true ⌝ }
+    ensures { λ r. ⌜ stepOf r ≡ executing (chartOf count (rowsOf (now (conditions .entry))) (rowsOf (now (responses .entry))) (rowsOf (now (milestones .entry))) (rowsOf (now (includes .entry))) (rowsOf (now (excludes .entry))) (now (roles .entry))) (marksOf marking) event role ⌝ }
 {
     if count <= event {
         return Step {
             answer: paper::refused(paper::NO_SUCH_EVENT, 0, 0),
             marking,
-            conditions: 0,
-            milestones: 0,
+            conditions: wide::empty(),
+            milestones: wide::empty(),
         };
     }
     let e = event as usize;
@@ -86,18 +92,18 @@ fn step_in<'a>(
 fn walk<'a>(
     marking: Marking,
     count: u32,
-    conditions: &'a [u64; MAX_EVENTS],
-    responses: &'a [u64; MAX_EVENTS],
-    milestones: &'a [u64; MAX_EVENTS],
-    includes: &'a [u64; MAX_EVENTS],
-    excludes: &'a [u64; MAX_EVENTS],
+    conditions: &'a [u64; TABLE],
+    responses: &'a [u64; TABLE],
+    milestones: &'a [u64; TABLE],
+    includes: &'a [u64; TABLE],
+    excludes: &'a [u64; TABLE],
     roles: &'a [u8; MAX_EVENTS],
     recorded: &'a [u32],
     from: usize,
     end: usize,
 ) -> Walked
-    requires { ⌜ (fit (chartOf count (now conditions) (now responses) (now milestones) (now includes) (now excludes) (now roles)) marking ≡ true) × (from ≤ end) × (end * 2 ≤ length (now recorded)) ⌝ }
-    ensures { λ r. ⌜ r ≡ walking (chartOf count (now (conditions .entry)) (now (responses .entry)) (now (milestones .entry)) (now (includes .entry)) (now (excludes .entry)) (now (roles .entry))) marking (recordOf (now (recorded .entry))) from end ⌝ }
+    requires { ⌜ (fit (chartOf count (rowsOf (now conditions)) (rowsOf (now responses)) (rowsOf (now milestones)) (rowsOf (now includes)) (rowsOf (now excludes)) (now roles)) (marksOf marking) ≡ true) × (from ≤ end) × (end * 2 ≤ length (now recorded)) ⌝ }
+    ensures { λ r. ⌜ walkedOf r ≡ walking (chartOf count (rowsOf (now (conditions .entry))) (rowsOf (now (responses .entry))) (rowsOf (now (milestones .entry))) (rowsOf (now (includes .entry))) (rowsOf (now (excludes .entry))) (now (roles .entry))) (marksOf marking) (recordOf (now (recorded .entry))) from end ⌝ }
 {
     let mut reached = marking;
     let mut at = from;
@@ -125,32 +131,32 @@ fn walk<'a>(
         stop: Step {
             answer: paper::granted(),
             marking: reached,
-            conditions: 0,
-            milestones: 0,
+            conditions: wide::empty(),
+            milestones: wide::empty(),
         },
     }
 }
 
 // "A marking is finished if no event is both in In and in Re."
 fn is_finished(marking: Marking) -> bool
-    ensures { λ r. ⌜ r ≡ eqb (inter (marking .included) (marking .pending)) 0 ⌝ }
+    ensures { λ r. ⌜ r ≡ eqb (inter (number (marking .included)) (number (marking .pending))) 0 ⌝ }
 {
-    marking.included & marking.pending == 0
+    wide::is_empty(wide::meet(marking.included, marking.pending))
 }
 
 // Replay over lent tables: what `replay` does, with no copy of the chart.
 pub fn replay_in<'a>(
     count: u32,
-    conditions: &'a [u64; MAX_EVENTS],
-    responses: &'a [u64; MAX_EVENTS],
-    milestones: &'a [u64; MAX_EVENTS],
-    includes: &'a [u64; MAX_EVENTS],
-    excludes: &'a [u64; MAX_EVENTS],
+    conditions: &'a [u64; TABLE],
+    responses: &'a [u64; TABLE],
+    milestones: &'a [u64; TABLE],
+    includes: &'a [u64; TABLE],
+    excludes: &'a [u64; TABLE],
     roles: &'a [u8; MAX_EVENTS],
     marking: Marking,
     recorded: &'a [u32],
 ) -> Replayed
-    ensures { λ r. ⌜ r ≡ replaying (chartOf count (now (conditions .entry)) (now (responses .entry)) (now (milestones .entry)) (now (includes .entry)) (now (excludes .entry)) (now (roles .entry))) marking (now (recorded .entry)) ⌝ }
+    ensures { λ r. ⌜ replayedOf r ≡ replaying (chartOf count (rowsOf (now (conditions .entry))) (rowsOf (now (responses .entry))) (rowsOf (now (milestones .entry))) (rowsOf (now (includes .entry))) (rowsOf (now (excludes .entry))) (now (roles .entry))) (marksOf marking) (now (recorded .entry)) ⌝ }
 {
     if !marking.fits(
         count,
@@ -167,8 +173,8 @@ pub fn replay_in<'a>(
             steps: 0,
             marking,
             finished: false,
-            conditions: 0,
-            milestones: 0,
+            conditions: wide::empty(),
+            milestones: wide::empty(),
         };
     }
     let walked = walk(
@@ -184,15 +190,18 @@ pub fn replay_in<'a>(
         0,
         recorded.len() / 2,
     );
-    let there = walked.stop.marking;
+    let stop = walked.stop;
+    let there = stop.marking;
+    let unexecuted = stop.conditions;
+    let awaited = stop.milestones;
     Replayed {
         answer: paper::granted(),
-        code: walked.stop.answer.code,
+        code: stop.answer.code,
         steps: walked.at as u64,
         marking: there,
         finished: is_finished(there),
-        conditions: walked.stop.conditions,
-        milestones: walked.stop.milestones,
+        conditions: unexecuted,
+        milestones: awaited,
     }
 }
 
@@ -200,18 +209,18 @@ pub fn replay_in<'a>(
 fn walk_without<'a>(
     marking: Marking,
     count: u32,
-    conditions: &'a [u64; MAX_EVENTS],
-    responses: &'a [u64; MAX_EVENTS],
-    milestones: &'a [u64; MAX_EVENTS],
-    includes: &'a [u64; MAX_EVENTS],
-    excludes: &'a [u64; MAX_EVENTS],
+    conditions: &'a [u64; TABLE],
+    responses: &'a [u64; TABLE],
+    milestones: &'a [u64; TABLE],
+    includes: &'a [u64; TABLE],
+    excludes: &'a [u64; TABLE],
     roles: &'a [u8; MAX_EVENTS],
     recorded: &'a [u32],
     struck: usize,
     steps: usize,
 ) -> Walked
-    requires { ⌜ (fit (chartOf count (now conditions) (now responses) (now milestones) (now includes) (now excludes) (now roles)) marking ≡ true) × (struck < steps) × (steps ≡ length (now recorded) / 2) ⌝ }
-    ensures { λ r. ⌜ r ≡ walkingWithout (chartOf count (now (conditions .entry)) (now (responses .entry)) (now (milestones .entry)) (now (includes .entry)) (now (excludes .entry)) (now (roles .entry))) marking (recordOf (now (recorded .entry))) struck ⌝ }
+    requires { ⌜ (fit (chartOf count (rowsOf (now conditions)) (rowsOf (now responses)) (rowsOf (now milestones)) (rowsOf (now includes)) (rowsOf (now excludes)) (now roles)) (marksOf marking) ≡ true) × (struck < steps) × (steps ≡ length (now recorded) / 2) ⌝ }
+    ensures { λ r. ⌜ walkedOf r ≡ walkingWithout (chartOf count (rowsOf (now (conditions .entry))) (rowsOf (now (responses .entry))) (rowsOf (now (milestones .entry))) (rowsOf (now (includes .entry))) (rowsOf (now (excludes .entry))) (now (roles .entry))) (marksOf marking) (recordOf (now (recorded .entry))) struck ⌝ }
 {
     let before = walk(
         marking,
@@ -245,42 +254,44 @@ fn walk_without<'a>(
 }
 
 fn not_struck(marking: Marking, code: u32, place: u32) -> Struck
-    ensures { λ r. ⌜ r ≡ notStruck code place marking ⌝ }
+    ensures { λ r. ⌜ struckOf r ≡ notStruck code place (marksOf marking) ⌝ }
 {
     Struck {
         answer: paper::refused(code, place, 0),
         marking,
-        conditions: 0,
-        milestones: 0,
+        conditions: wide::empty(),
+        milestones: wide::empty(),
     }
 }
 
 // The step that fails, by its code, its place in the old record and all that blocks it.
 fn stopped_by(marking: Marking, stop: Step, place: u32) -> Struck
-    ensures { λ r. ⌜ r ≡ stoppedBy stop place marking ⌝ }
+    ensures { λ r. ⌜ struckOf r ≡ stoppedBy (stepOf stop) place (marksOf marking) ⌝ }
 {
+    let conditions = stop.conditions;
+    let milestones = stop.milestones;
     Struck {
         answer: paper::refused(stop.answer.code, place, 0),
         marking,
-        conditions: stop.conditions,
-        milestones: stop.milestones,
+        conditions,
+        milestones,
     }
 }
 
 // Strike over lent tables: what `strike` does, with no copy of the chart.
 pub fn strike_in<'a>(
     count: u32,
-    conditions: &'a [u64; MAX_EVENTS],
-    responses: &'a [u64; MAX_EVENTS],
-    milestones: &'a [u64; MAX_EVENTS],
-    includes: &'a [u64; MAX_EVENTS],
-    excludes: &'a [u64; MAX_EVENTS],
+    conditions: &'a [u64; TABLE],
+    responses: &'a [u64; TABLE],
+    milestones: &'a [u64; TABLE],
+    includes: &'a [u64; TABLE],
+    excludes: &'a [u64; TABLE],
     roles: &'a [u8; MAX_EVENTS],
     marking: Marking,
     recorded: &'a [u32],
     position: u32,
 ) -> Struck
-    ensures { λ r. ⌜ r ≡ striking (chartOf count (now (conditions .entry)) (now (responses .entry)) (now (milestones .entry)) (now (includes .entry)) (now (excludes .entry)) (now (roles .entry))) marking (now (recorded .entry)) position ⌝ }
+    ensures { λ r. ⌜ struckOf r ≡ striking (chartOf count (rowsOf (now (conditions .entry))) (rowsOf (now (responses .entry))) (rowsOf (now (milestones .entry))) (rowsOf (now (includes .entry))) (rowsOf (now (excludes .entry))) (now (roles .entry))) (marksOf marking) (now (recorded .entry)) position ⌝ }
 {
     if !marking.fits(
         count,
@@ -319,13 +330,13 @@ pub fn strike_in<'a>(
     Struck {
         answer: paper::granted(),
         marking: shortened,
-        conditions: 0,
-        milestones: 0,
+        conditions: wide::empty(),
+        milestones: wide::empty(),
     }
 }
 
 pub fn replay(chart: FlatChart, marking: Marking, recorded: &[u32]) -> Replayed
-    ensures { λ r. ⌜ r ≡ replaying chart marking (now (recorded .entry)) ⌝ }
+    ensures { λ r. ⌜ replayedOf r ≡ replaying (flatOf chart) (marksOf marking) (now (recorded .entry)) ⌝ }
 {
     replay_in(
         chart.count,
@@ -341,7 +352,7 @@ pub fn replay(chart: FlatChart, marking: Marking, recorded: &[u32]) -> Replayed
 }
 
 pub fn strike(chart: FlatChart, marking: Marking, recorded: &[u32], position: u32) -> Struck
-    ensures { λ r. ⌜ r ≡ striking chart marking (now (recorded .entry)) position ⌝ }
+    ensures { λ r. ⌜ struckOf r ≡ striking (flatOf chart) (marksOf marking) (now (recorded .entry)) position ⌝ }
 {
     strike_in(
         chart.count,

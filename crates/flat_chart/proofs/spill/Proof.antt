@@ -8,5 +8,5 @@ pub spill-spec : {M : Type 1} → statement M
 spill-spec =
     tie.close
     (tie.spec
-    (λ c κs. search needs) (λ c κs. search needs) (λ c κs. search needs)
+    (λ c κs. search needs) (λ c κs. search needs) (λ c κs. search needs) (λ c κs. search needs)
     (λ c. search spill-whole))

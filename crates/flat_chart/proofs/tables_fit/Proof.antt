@@ -10,5 +10,5 @@ tables-fit-spec =
     (tie.spec
     (λ c. chart-few _ _ _ _ _ _ _ (c .if1 .taken))
     (λ c. chart-many _ _ _ _ _ _ _ (c .if2 .taken))
-    (λ c κs. search needs) (λ c κs. search needs)
-    (λ c. chart-tested _ _ _ _ _ _ _ _ _ (search needs) (search needs) (c .before .spill .ensures) (c .roles-past .ensures)))
+    (λ c κs. search needs) (λ c κs. search needs) (λ c κs. search needs)
+    (λ c. chart-tested _ _ _ _ _ _ _ _ _ _ (search needs) (search needs) (c .before .before .spill .ensures) (c .before .roles-past .ensures) (c .is-empty .ensures)))

@@ -9,8 +9,8 @@ pub step-in-spec : {M : Type 1} → statement M
 step-in-spec =
     tie.close
     (tie.spec
-    (λ c κs. search needs)
-    (λ c. known-gone _ _ _ _ (c .before .before .pre) _ (omega arith) (c .refused .ensures))
+    (λ c κs. search needs) (λ c κs. search needs) (λ c κs. search needs)
+    (λ c. known-gone _ _ _ _ (c .before .before .before .before .pre) _ _ _ (omega arith) (c .before .before .refused .ensures) (c .before .empty .ensures) (c .empty2 .ensures))
     (λ c κs. known-index _ _ _ (c .before .args .role) (c .before .pre) (omega arith))
     (λ c κs. known-index _ _ _ (c .before .before .args .role) (c .before .before .pre) (omega arith))
     (λ c. search known-taken))

@@ -8,4 +8,4 @@ stopped-by-spec =
     tie.close
     (tie.spec
     (λ c κs. search needs)
-    (λ c. rw (c .refused .ensures)))
+    (λ c. cc))

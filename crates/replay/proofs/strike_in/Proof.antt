@@ -17,5 +17,5 @@ strike-in-spec =
     (λ c κs. (fit-known _ _ _ (c .before .before .fits2 .ensures) (c .before .if1 .left), omega arith, refl))
     (λ c κs. search needs) (λ c κs. search needs)
     (λ c. search strike-stopped)
-    (λ c κs. search needs)
-    (λ c. search strike-done))
+    (λ c κs. search needs) (λ c κs. search needs) (λ c κs. search needs)
+    (λ c. strike-done _ _ _ _ _ (c .before .before .before .before .before .before .before .before .before .before .fits2 .ensures) (c .before .before .before .before .before .before .before .before .before .if1 .left) (omega arith) _ (c .before .before .before .before .before .before .before .walk-without .ensures) _ _ _ (omega arith) (c .before .before .granted .ensures) (c .before .empty .ensures) (c .empty2 .ensures)))

@@ -1,6 +1,8 @@
 -- `replay::walk` meets its contract. Assumes nothing.
 use Prim.Native.Nat.{_-_}
+use Rattle.wide.specs.Number.{rowsOf}
 use Rattle.flat_chart.specs.Chart.{chartOf}
+use Rattle.graph.specs.Numbers.{marksOf}
 use Rattle.replay.proofs.Walks.{Going, going-start, going-more, going-stop, going-end}
 use borrow.Author.Needs.{needs}
 use native.Mathlib.Omega.{arith}
@@ -9,7 +11,7 @@ use Rattle.replay.proofs.walk.Tie as tie
 
 abbrev Inv-loop : tie.InvT-loop
 Inv-loop count conditions responses milestones includes excludes roles recorded from end reached₀ at₀ reached at =
-    Going (chartOf count conditions responses milestones includes excludes roles) recorded reached₀ from end reached at
+    Going (chartOf count (rowsOf conditions) (rowsOf responses) (rowsOf milestones) (rowsOf includes) (rowsOf excludes) roles) recorded (marksOf reached₀) from end (marksOf reached) at
 
 abbrev μ-loop : tie.MeasureT-loop
 μ-loop count conditions responses milestones includes excludes roles recorded from end reached₀ at₀ reached at = end - at
@@ -26,5 +28,5 @@ walk-spec =
     (λ c. going-stop _ _ _ _ _ _ _ (c .before .before .before .before .before .before .loop .inv) (omega arith) (omega arith) _ (c .before .before .step-in .ensures) (λ z. omega arith))
     (λ c. search needs) (λ c. search needs)
     (λ c. going-more _ _ _ _ _ _ _ (c .before .before .before .before .before .before .before .loop .inv) (omega arith) (omega arith) _ (c .before .before .before .step-in .ensures) (omega arith))
-    (λ c κs. search needs)
-    (λ c. going-end _ _ _ _ _ _ _ (c .before .before .loop .inv) (omega arith) _ (c .granted .ensures)))
+    (λ c κs. search needs) (λ c κs. search needs) (λ c κs. search needs)
+    (λ c. going-end _ _ _ _ _ _ _ (c .before .before .before .before .loop .inv) (omega arith) _ _ _ (c .before .before .granted .ensures) (c .before .empty .ensures) (c .empty2 .ensures)))

@@ -8,4 +8,4 @@ blocking-spec =
     tie.close
     (tie.spec
     (λ c κs. search needs) (λ c κs. search needs)
-    (λ c. rw (c .before .unmet .ensures, c .awaited .ensures)))
+    (λ c. cc))

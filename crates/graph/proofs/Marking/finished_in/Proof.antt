@@ -10,5 +10,5 @@ finished-in-spec =
     (tie.spec
     (λ c κs. search needs) (λ c κs. search needs)
     (λ c. search finish-unfit)
-    (λ c κs. search needs)
+    (λ c κs. search needs) (λ c κs. search needs) (λ c κs. search needs)
     (λ c. search finish-told))

@@ -8,5 +8,5 @@ pub is-fit-spec : {M : Type 1} → statement M
 is-fit-spec =
     tie.close
     (tie.spec
-    (λ c κs. search needs)
-    (λ c. unfold fitMarking in c .inside .ensures))
+    (λ c κs. search needs) (λ c κs. search needs) (λ c κs. search needs)
+    (λ c. unfold fitMarking in cc))

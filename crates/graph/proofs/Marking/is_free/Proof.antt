@@ -5,4 +5,8 @@ use Rattle.graph.proofs.Marking.is_free.Statement.{statement}
 use Rattle.graph.proofs.Marking.is_free.Tie as tie
 
 pub is-free-spec : {M : Type 1} → statement M
-is-free-spec = tie.close (tie.spec (λ c κs. search needs) (λ c. search free-sets))
+is-free-spec =
+    tie.close
+    (tie.spec
+    (λ c κs. search needs) (λ c κs. search needs) (λ c κs. search needs)
+    (λ c. search free-sets))

@@ -8,5 +8,5 @@ pub unmet-spec : {M : Type 1} → statement M
 unmet-spec =
     tie.close
     (tie.spec
-    (λ c κs. search needs)
-    (λ c. unfold unmetOf in c .less .ensures))
+    (λ c κs. search needs) (λ c κs. search needs)
+    (λ c. unfold unmetOf in cc))

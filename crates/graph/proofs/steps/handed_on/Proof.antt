@@ -1,5 +1,4 @@
 -- `graph::steps::handed_on` meets its contract. Assumes nothing.
-use mathlib.Core.Path.{refl}
 use Rattle.graph.proofs.steps.handed_on.Statement.{statement}
 use Rattle.graph.proofs.steps.handed_on.Tie as tie
 
@@ -7,4 +6,4 @@ pub handed-on-spec : {M : Type 1} → statement M
 handed-on-spec =
     tie.close
     (tie.spec
-    (λ c. refl))
+    (λ c. cc))

@@ -7,5 +7,5 @@ pub shut-spec : {M : Type 1} → statement M
 shut-spec =
     tie.close
     (tie.spec
-    (λ c κs. search needs)
-    (λ c. rw (c .refused .ensures)))
+    (λ c κs. search needs) (λ c κs. search needs) (λ c κs. search needs)
+    (λ c. cc))
