@@ -1,5 +1,5 @@
--- The reading as it was until request (xii), in the words of then: it refused an event that both includes and excludes one, with 9. Every other answer is given still, and
--- where 9 was given the chart is accepted. Assumes nothing.
+-- The reading as it was until request (xii), in the words of then but with the limits of now (Larger has those of then): it refused an event that both includes and excludes
+-- one, with 9. Every other answer is given still, and where 9 was given the chart is accepted. Assumes nothing.
 use Prim.Native.Nat.{ℕ, _≤_}
 use mathlib.Core.Path.{_≡_, refl, ap, _∙_}
 use mathlib.Core.Bool.{Bool, true, false, _&&_}
@@ -18,7 +18,7 @@ use Rattle.sets.specs.Set.{has}
 use Rattle.sets.specs.Laws.{has-empty}
 use Rattle.flat_chart.specs.Chart.{include, exclude, emptyChart}
 use Rattle.graph.specs.Before.{Apart}
-use Rattle.chart.specs.declared.Reading.{Reading}
+use Rattle.chart.specs.Flat.{Reading}
 use Rattle.records.specs.Image.{nodes, relations, outOfRange, misplaced, badNodeAt, badRelationAt}
 use Rattle.nesting.specs.Nesting.{onLoopAt, flaggedGroupAt, eventCount}
 use Rattle.flattening.specs.Flattening.{kindNumber, related, flatChart}

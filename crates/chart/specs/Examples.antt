@@ -1,16 +1,16 @@
 -- The paper's whole chart byte for byte, its settled examples P7 and P8 (as request (xii) has it), and charts with roles, by computation. Assumes nothing.
-use Prim.Native.Nat.{ℕ}
+use Prim.Native.Nat.{ℕ, _-_}
 use mathlib.Core.Path.{_≡_, refl}
 use mathlib.Core.List.{List, [], _∷_}
 use lib.ListN.{replicate}
-use Rattle.paper.specs.Limits.{badNode, groupFlags}
+use Rattle.paper.specs.Limits.{maxEvents, badNode, groupFlags}
 use Rattle.paper.specs.Answers.{answer, granted}
 use Rattle.sets.specs.Set.{has, collect}
 use Rattle.general.specs.Below.{some, first, tally}
 use Rattle.general.specs.Tables.{tabulate}
 use Rattle.wire.specs.Wire.{u16At}
 use Rattle.closure.specs.Closure.{within}
-use Rattle.chart.specs.declared.Reading.{Reading}
+use Rattle.chart.specs.Flat.{Reading}
 use Rattle.records.specs.Image.{outOfRange, misplaced, badNodeAt, badRelationAt}
 use Rattle.nesting.specs.Nesting.{parent, nested, atOrAbove, onLoopAt, isGroup, eventNode, flaggedGroupAt}
 use Rattle.flattening.specs.Flattening.{leads, related, entered, flatSet, flatTable, namesAt, named, flatRoles, roleTable, flatChart, flagged, startMarking}
@@ -31,12 +31,12 @@ wholeReading =
       answer = granted;
       chart = record {
         count = 2;
-        conditions = 0 ∷ 1 ∷ replicate 62 0;
-        responses = 2 ∷ replicate 63 0;
-        milestones = replicate 64 0;
-        includes = replicate 64 0;
-        excludes = 0 ∷ 1 ∷ replicate 62 0;
-        roles = replicate 64 0;
+        conditions = 0 ∷ 1 ∷ replicate (maxEvents - 2) 0;
+        responses = 2 ∷ replicate (maxEvents - 1) 0;
+        milestones = replicate maxEvents 0;
+        includes = replicate maxEvents 0;
+        excludes = 0 ∷ 1 ∷ replicate (maxEvents - 2) 0;
+        roles = replicate maxEvents 0;
       };
       marking = record { executed = 0; pending = 2; included = 3 };
     }
@@ -63,12 +63,12 @@ bothReading =
       answer = granted;
       chart = record {
         count = 3;
-        conditions = replicate 64 0;
-        responses = replicate 64 0;
-        milestones = replicate 64 0;
-        includes = 0 ∷ 0 ∷ 3 ∷ replicate 61 0;
-        excludes = 0 ∷ 0 ∷ 1 ∷ replicate 61 0;
-        roles = replicate 64 0;
+        conditions = replicate maxEvents 0;
+        responses = replicate maxEvents 0;
+        milestones = replicate maxEvents 0;
+        includes = 0 ∷ 0 ∷ 3 ∷ replicate (maxEvents - 3) 0;
+        excludes = 0 ∷ 0 ∷ 1 ∷ replicate (maxEvents - 3) 0;
+        roles = replicate maxEvents 0;
       };
       marking = record { executed = 0; pending = 0; included = 7 };
     }
@@ -95,11 +95,11 @@ pub record Examples : Type 0 where
   pub whole : reading wholeChart ≡ wholeReading
   pub p7-granted : reading groupChart .answer ≡ granted
   -- events 0 and 1 are conditions of 2
-  pub p7-conditions : reading groupChart .chart .conditions ≡ 0 ∷ 0 ∷ 3 ∷ replicate 61 0
+  pub p7-conditions : reading groupChart .chart .conditions ≡ 0 ∷ 0 ∷ 3 ∷ replicate (maxEvents - 3) 0
   pub p8 : reading bothChart ≡ bothReading
   -- upper bits are no bad record, on a group either: events 0 and 1 have the group's role, event 0 its own too, event 2 is open to everyone
   pub roles-granted : reading roleChart .answer ≡ granted
-  pub roles : reading roleChart .chart .roles ≡ 9 ∷ 8 ∷ replicate 62 0
+  pub roles : reading roleChart .chart .roles ≡ 9 ∷ 8 ∷ replicate (maxEvents - 2) 0
   -- the lower byte is judged as before
   pub flagged-group : reading flaggedRoleChart ≡ refused (answer groupFlags 0 0)
   pub bad-state : reading badRoleChart ≡ refused (answer badNode 1 0)

@@ -13,7 +13,7 @@ use Rattle.paper.specs.Answers.{answer, granted, refusal}
 use Rattle.paper.specs.declared.Answer.{Answer}
 use Rattle.general.specs.Cases.{contra, cases}
 use Rattle.general.specs.Below.{some, first, Lowest}
-use Rattle.chart.specs.declared.Reading.{Reading}
+use Rattle.chart.specs.Flat.{Reading}
 use Rattle.records.specs.Image.{nodes, relations, outOfRange, misplaced, badNodeAt, badRelationAt}
 use Rattle.nesting.specs.Nesting.{OnLoop, onLoopAt, flaggedGroupAt, eventCount}
 use Rattle.chart.specs.Reading.{refused, grantedReading, readingRelations, readingNodes, reading}

@@ -10,7 +10,7 @@ use Rattle.paper.specs.declared.Answer.{Answer}
 use Rattle.general.specs.Below.{some, first}
 use Rattle.flat_chart.specs.Chart.{emptyChart}
 use Rattle.graph.specs.Fitness.{emptyMarking}
-use Rattle.chart.specs.declared.Reading.{Reading}
+use Rattle.chart.specs.Flat.{Reading}
 use Rattle.records.specs.Image.{nodes, relations, outOfRange, misplaced, badNodeAt, badRelationAt}
 use Rattle.nesting.specs.Nesting.{onLoopAt, flaggedGroupAt, eventCount}
 use Rattle.flattening.specs.Flattening.{flatChart, startMarking}

@@ -20,7 +20,7 @@ use Rattle.general.specs.Tables.{tabulate, length-tabulate, getD-tabulate}
 use Rattle.closure.specs.Closure.{hop, join}
 use Rattle.flat_chart.specs.Chart.{Kind, condition, response, milestone, include, exclude, table, setOf, rolesOf, In, Fit}
 use Rattle.graph.specs.Fitness.{FitMarking}
-use Rattle.chart.specs.declared.Reading.{Reading}
+use Rattle.chart.specs.Flat.{Reading}
 use Rattle.general.specs.Numbering.{tally-lt, tally-find, first-numbered, tally-grows}
 use Rattle.records.specs.Image.{nodes, flagsOf, rolesAt}
 use Rattle.nesting.specs.Nesting.{parent, AtOrAbove, OnLoop, nested, isGroup, isEvent, number, eventCount, eventNode, nested-so}

@@ -18,7 +18,7 @@ use Rattle.nesting.specs.Nesting.{parent, nested, atOrAbove, onLoopAt, isGroup,
 use Rattle.flattening.specs.Flattening.{kindNumber, holdsBack, leads, related, entered, flatSet, flatTable, flatChart, flagged, startMarking}
 use Rattle.flattening.specs.Flattening.{namesAt, named, flatRoles, roleTable}
 use Rattle.paper.specs.Limits.{maxEvents, maxRoles, flagsByte, badNode, parentsLoop, groupFlags}
-use Rattle.chart.specs.declared.Reading.{Reading}
+use Rattle.chart.specs.Flat.{Reading}
 use Rattle.chart.specs.Reading.{refuseFirst, readingRelations, readingNodes, reading}
 use Rattle.chart.specs.Conditions.{Never, BadRelation, relation-bad, never-none}
 use Rattle.chart.specs.Outcome.{HeaderRight, header-on}

@@ -14,8 +14,8 @@ use Rattle.general.specs.Cases.{cases}
 use Rattle.general.specs.Below.{some, some-same, first-same}
 use Rattle.general.specs.Tables.{tabulate}
 use Rattle.flat_chart.specs.Chart.{condition, response, milestone, include, exclude, emptyChart}
-use Rattle.flat_chart.specs.declared.FlatChart.{FlatChart}
-use Rattle.chart.specs.declared.Reading.{Reading}
+use Rattle.flat_chart.specs.Flat.{FlatChart}
+use Rattle.chart.specs.Flat.{Reading}
 use Rattle.records.specs.Image.{nodes, relations, parentOf, flagsOf, stateOf, rolesAt, outOfRange, misplaced, badNodeAt, badRelationAt}
 use Rattle.nesting.specs.Nesting.{isGroup, onLoopAt, flaggedGroupAt, eventCount}
 use Rattle.flattening.specs.Flattening.{flatTable, flatRoles, roleTable, flatChart, startMarking}

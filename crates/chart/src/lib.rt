@@ -1,21 +1,23 @@
 // Reading a chart image: the flat chart and the start marking, or a refusal.
 ghost use mathlib.Core.Path.{_≡_};
-ghost use Prim.Native.Nat.{ℕ, _+_, _≤_, _<_};
-ghost use lib.ListN.{length, getD};
-ghost use Rattle.paper.specs.Limits.{maxEvents, nodeSize};
-ghost use Rattle.paper.specs.Answers.{answer};
-ghost use Rattle.records.specs.Image.{nodeAt, Whole};
-ghost use Rattle.flattening.specs.Cells.{chartFrom, markingBy};
+ghost use lib.ListN.{replicate};
+ghost use Rattle.paper.specs.Limits.{maxEvents};
+ghost use Rattle.wide.specs.Number.{rowsOf};
+ghost use Rattle.records.specs.Image.{Whole};
+ghost use Rattle.flat_chart.specs.Chart.{condition, response, milestone, include, exclude, chartOf};
+ghost use Rattle.graph.specs.Numbers.{marksOf};
+ghost use Rattle.flattening.specs.Flattening.{flatTable, startMarking};
 ghost use Rattle.flattening.specs.Meaning.{Ground};
-ghost use Rattle.chart.specs.Reading.{refused, readingRelations, readingNodes, reading};
+ghost use Rattle.chart.specs.Numbers.{readingOf};
+ghost use Rattle.chart.specs.Reading.{readingRelations, readingNodes, reading};
 use flat_chart::FlatChart;
-use flattening::CELLS;
 use flattening::CONDITION;
 use flattening::EXCLUDE;
-use flattening::GATHERED;
 use flattening::INCLUDE;
 use flattening::MILESTONE;
+use flattening::NODE_TABLE;
 use flattening::RESPONSE;
+use flattening::Size;
 use graph::Marking;
 use paper::Answer;
 use paper::BAD_NODE;
@@ -27,8 +29,8 @@ use paper::CHART_SHORT;
 use paper::GROUP_FLAGS;
 use paper::MANY_EVENTS;
 use paper::MAX_EVENTS;
-use paper::MAX_NODES;
 use paper::PARENTS_LOOP;
+use wide::TABLE;
 
 #[repr(C)]
 pub struct Reading {
@@ -37,34 +39,97 @@ pub struct Reading {
     pub marking: Marking,
 }
 
-fn refuse(code: u32, place: u32, other: u32) -> Reading
-    ensures { λ r. ⌜ r ≡ refused (answer code place other) ⌝ }
+// 8, or granted.
+fn judge_relations(image: &[u8], n: usize, k: usize) -> Answer
+    requires { ⌜ Whole (now image) n k ⌝ }
+    ensures { λ r. ⌜ r ≡ readingRelations (now (image .entry)) .answer ⌝ }
 {
-    Reading {
-        answer: paper::refused(code, place, other),
-        chart: FlatChart::empty(),
-        marking: Marking::empty(),
+    let bad = flattening::first_bad_relation(image, n, k);
+    if bad < k {
+        return paper::refused(BAD_RELATION, bad as u32, 0);
     }
+    paper::granted()
 }
 
-fn flat_chart(events: usize, tables: &[u64; CELLS], roles: &[u8; MAX_EVENTS]) -> FlatChart
-    requires { ⌜ events ≤ maxEvents ⌝ }
-    ensures { λ r. ⌜ r ≡ chartFrom events (now (tables .entry)) (now (roles .entry)) ⌝ }
+// 4 to 7, and what follows.
+fn judge_nodes(image: &[u8], n: usize, k: usize) -> Answer
+    requires { ⌜ Whole (now image) n k ⌝ }
+    ensures { λ r. ⌜ r ≡ readingNodes (now (image .entry)) .answer ⌝ }
 {
-    FlatChart {
-        count: events as u32,
-        conditions: flattening::table(tables, CONDITION),
-        responses: flattening::table(tables, RESPONSE),
-        milestones: flattening::table(tables, MILESTONE),
-        includes: flattening::table(tables, INCLUDE),
-        excludes: flattening::table(tables, EXCLUDE),
-        roles: *roles,
+    let bad = records::first_bad_node(image, n, k);
+    if bad < n {
+        return paper::refused(BAD_NODE, bad as u32, 0);
     }
+    let looped = nesting::lowest_on_loop(image, n, k);
+    if looped < n {
+        return paper::refused(PARENTS_LOOP, looped as u32, 0);
+    }
+    let groups = nesting::groups_of(image, n, k);
+    let flags = nesting::first_flagged_group(image, n, k, &groups);
+    if flags < n {
+        return paper::refused(GROUP_FLAGS, flags as u32, 0);
+    }
+    let events = nesting::count_events(&groups, n);
+    if MAX_EVENTS < events {
+        return paper::refused(MANY_EVENTS, events as u32, 0);
+    }
+    judge_relations(image, n, k)
 }
 
-fn start_marking(image: &[u8], nodes: &[usize; MAX_EVENTS], events: usize) -> Marking
-    requires { ⌜ (events ≤ maxEvents) × ((e : ℕ) → e < events → nodeAt (getD (now nodes) e 0) + nodeSize ≤ length (now image)) ⌝ }
-    ensures { λ r. ⌜ r ≡ markingBy (now (image .entry)) (now (nodes .entry)) events ⌝ }
+// What reading answers: the refusal that comes first, or granted.
+fn judge(image: &[u8]) -> Answer
+    ensures { λ r. ⌜ r ≡ reading (now (image .entry)) .answer ⌝ }
+{
+    if image.len() < CHART_HEADER {
+        return paper::refused(CHART_SHORT, 0, 0);
+    }
+    let n = records::node_count(image);
+    let k = records::relation_count(image);
+    if records::out_of_range(image) {
+        return paper::refused(CHART_COUNT, 0, 0);
+    }
+    if records::misplaced(image, n, k) {
+        return paper::refused(CHART_LENGTH, 0, 0);
+    }
+    judge_nodes(image, n, k)
+}
+
+// The five tables, one after another, each into room of zeros. The two tables of a set for each node are made once and lent.
+fn put_tables(
+    image: &[u8],
+    n: usize,
+    k: usize,
+    nodes: &[usize; MAX_EVENTS],
+    events: usize,
+    conditions: &mut [u64; TABLE],
+    responses: &mut [u64; TABLE],
+    milestones: &mut [u64; TABLE],
+    includes: &mut [u64; TABLE],
+    excludes: &mut [u64; TABLE],
+)
+    requires { ⌜ (Ground (now image) n k (now nodes) events) × (rowsOf (now conditions) ≡ replicate maxEvents 0) × (rowsOf (now responses) ≡ replicate maxEvents 0) × (rowsOf (now milestones) ≡ replicate maxEvents 0) × (rowsOf (now includes) ≡ replicate maxEvents 0) × (rowsOf (now excludes) ≡ replicate maxEvents 0) ⌝ }
+    ensures { λ _. ⌜ (rowsOf (now (conditions .exit)) ≡ flatTable (now (image .entry)) condition) × (rowsOf (now (responses .exit)) ≡ flatTable (now (image .entry)) response) × (rowsOf (now (milestones .exit)) ≡ flatTable (now (image .entry)) milestone) × (rowsOf (now (includes .exit)) ≡ flatTable (now (image .entry)) include) × (rowsOf (now (excludes .exit)) ≡ flatTable (now (image .entry)) exclude) ⌝ }
+{
+    let mut below = [0u64; NODE_TABLE];
+    flattening::put_members(image, n, k, nodes, events, &mut below);
+    let mut room = [0u64; NODE_TABLE];
+    let size = Size { n, k, events };
+    flattening::put_table(image, size, nodes, &below, &mut room, CONDITION, conditions);
+    flattening::put_table(image, size, nodes, &below, &mut room, RESPONSE, responses);
+    flattening::put_table(image, size, nodes, &below, &mut room, MILESTONE, milestones);
+    flattening::put_table(image, size, nodes, &below, &mut room, INCLUDE, includes);
+    flattening::put_table(image, size, nodes, &below, &mut room, EXCLUDE, excludes);
+}
+
+fn start_marking(
+    image: &[u8],
+    n: usize,
+    k: usize,
+    nodes: &[usize; MAX_EVENTS],
+    events: usize,
+) -> Marking
+    requires { ⌜ Ground (now image) n k (now nodes) events ⌝ }
+    ensures { λ r. ⌜ marksOf r ≡ startMarking (now (image .entry)) ⌝ }
 {
     Marking {
         executed: flattening::flagged(image, nodes, events, 0),
@@ -73,76 +138,92 @@ fn start_marking(image: &[u8], nodes: &[usize; MAX_EVENTS], events: usize) -> Ma
     }
 }
 
-// 8, and what is granted.
-fn read_relations(
+// What a reading has beside its answer and its tables.
+struct Start {
+    count: u32,
+    marking: Marking,
+}
+
+// The tables and the role bytes of an image that gets this code, into room of zeros; with a refusal they stay so.
+fn put_chart(
     image: &[u8],
-    n: usize,
-    k: usize,
-    events: usize,
-    groups: &[bool; MAX_NODES],
-) -> Reading
-    requires { ⌜ Ground (now image) n k (now groups) events ⌝ }
-    ensures { λ r. ⌜ r ≡ readingRelations (now (image .entry)) ⌝ }
+    code: u32,
+    conditions: &mut [u64; TABLE],
+    responses: &mut [u64; TABLE],
+    milestones: &mut [u64; TABLE],
+    includes: &mut [u64; TABLE],
+    excludes: &mut [u64; TABLE],
+    roles: &mut [u8; MAX_EVENTS],
+) -> Start
+    requires { ⌜ (code ≡ reading (now image) .answer .code) × (rowsOf (now conditions) ≡ replicate maxEvents 0) × (rowsOf (now responses) ≡ replicate maxEvents 0) × (rowsOf (now milestones) ≡ replicate maxEvents 0) × (rowsOf (now includes) ≡ replicate maxEvents 0) × (rowsOf (now excludes) ≡ replicate maxEvents 0) × (now roles ≡ replicate maxEvents 0) ⌝ }
+    ensures { λ r. ⌜ (chartOf (r .count) (rowsOf (now (conditions .exit))) (rowsOf (now (responses .exit))) (rowsOf (now (milestones .exit))) (rowsOf (now (includes .exit))) (rowsOf (now (excludes .exit))) (now (roles .exit)) ≡ reading (now (image .entry)) .chart) × (marksOf (r .marking) ≡ reading (now (image .entry)) .marking) ⌝ }
 {
-    let nodes = nesting::event_nodes(groups, n);
-    let members = flattening::members(image, n, k, &nodes, events);
-    let mut gathered = [0u64; GATHERED];
-    let bad = flattening::gather(image, n, k, &members, &mut gathered);
-    if bad < k {
-        return refuse(BAD_RELATION, bad as u32, 0);
-    }
-    let mut roles = [0u8; MAX_EVENTS];
-    let tables = flattening::flatten(image, n, k, &gathered, &nodes, events, &mut roles);
-    // Made before the chart: its loops would keep a second copy of the tables on the stack.
-    let marking = start_marking(image, &nodes, events);
-    Reading {
-        answer: paper::granted(),
-        chart: flat_chart(events, &tables, &roles),
-        marking: marking,
-    }
-}
-
-// 4 to 7, and what follows.
-fn read_nodes(image: &[u8], n: usize, k: usize) -> Reading
-    requires { ⌜ Whole (now image) n k ⌝ }
-    ensures { λ r. ⌜ r ≡ readingNodes (now (image .entry)) ⌝ }
-{
-    let bad = records::first_bad_node(image, n, k);
-    if bad < n {
-        return refuse(BAD_NODE, bad as u32, 0);
-    }
-    let looped = nesting::lowest_on_loop(image, n, k);
-    if looped < n {
-        return refuse(PARENTS_LOOP, looped as u32, 0);
-    }
-    let groups = nesting::groups_of(image, n, k);
-    let flags = nesting::first_flagged_group(image, n, k, &groups);
-    if flags < n {
-        return refuse(GROUP_FLAGS, flags as u32, 0);
-    }
-    let events = nesting::count_events(&groups, n);
-    if MAX_EVENTS < events {
-        return refuse(MANY_EVENTS, events as u32, 0);
-    }
-    read_relations(image, n, k, events, &groups)
-}
-
-// The flat chart and the start marking of an image, or the refusal that comes first.
-// Cost: some passes over the nodes, one over the relations, and for each event two climbs over the groups above it.
-// Stack: about 15 KiB, of which what the relations gather takes 5, the tables 3 and the reading 3.
-pub fn read(image: &[u8]) -> Reading
-    ensures { λ r. ⌜ r ≡ reading (now (image .entry)) ⌝ }
-{
-    if image.len() < CHART_HEADER {
-        return refuse(CHART_SHORT, 0, 0);
+    if code != 0 {
+        return Start {
+            count: 0,
+            marking: Marking::empty(),
+        };
     }
     let n = records::node_count(image);
     let k = records::relation_count(image);
-    if records::out_of_range(image) {
-        return refuse(CHART_COUNT, 0, 0);
+    let groups = nesting::groups_of(image, n, k);
+    let events = nesting::count_events(&groups, n);
+    let nodes = nesting::event_nodes(&groups, n);
+    put_tables(
+        image,
+        n,
+        k,
+        &nodes,
+        events,
+        conditions,
+        responses,
+        milestones,
+        includes,
+        excludes,
+    );
+    flattening::put_roles(image, n, k, &nodes, events, roles);
+    Start {
+        count: events as u32,
+        marking: start_marking(image, n, k, &nodes, events),
     }
-    if records::misplaced(image, n, k) {
-        return refuse(CHART_LENGTH, 0, 0);
+}
+
+// The flat chart and the start marking of an image, or the refusal that comes first.
+// Cost: some passes over the nodes, six over the relations, and for each event seven climbs over the groups above it.
+// Stack: about 84 KiB, of which the tables take 40 and the two tables of a set for each node 32. One reading is made, whatever the answer: each further one would add 41.
+pub fn read(image: &[u8]) -> Reading
+    ensures { λ r. ⌜ readingOf r ≡ reading (now (image .entry)) ⌝ }
+{
+    let answer = judge(image);
+    let mut conditions = [0u64; TABLE];
+    let mut responses = [0u64; TABLE];
+    let mut milestones = [0u64; TABLE];
+    let mut includes = [0u64; TABLE];
+    let mut excludes = [0u64; TABLE];
+    let mut roles = [0u8; MAX_EVENTS];
+    let start = put_chart(
+        image,
+        answer.code,
+        &mut conditions,
+        &mut responses,
+        &mut milestones,
+        &mut includes,
+        &mut excludes,
+        &mut roles,
+    );
+    let count = start.count;
+    let marking = start.marking;
+    Reading {
+        answer,
+        chart: FlatChart {
+            count,
+            conditions,
+            responses,
+            milestones,
+            includes,
+            excludes,
+            roles,
+        },
+        marking,
     }
-    read_nodes(image, n, k)
 }

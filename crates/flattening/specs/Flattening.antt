@@ -10,8 +10,8 @@ use Rattle.sets.specs.Set.{has, collect}
 use Rattle.general.specs.Below.{some}
 use Rattle.general.specs.Tables.{tabulate}
 use Rattle.flat_chart.specs.Chart.{Kind, condition, response, milestone, include, exclude}
-use Rattle.flat_chart.specs.declared.FlatChart.{FlatChart}
-use Rattle.graph.specs.declared.Marking.{Marking}
+use Rattle.flat_chart.specs.Flat.{FlatChart}
+use Rattle.graph.specs.Flat.{Marking}
 use Rattle.records.specs.Image.{nodes, relations, fromOf, toOf, kindOf, flagsOf, rolesAt}
 use Rattle.nesting.specs.Nesting.{AtOrAbove, atOrAbove, eventCount, eventNode}
 

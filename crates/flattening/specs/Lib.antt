@@ -1,4 +1,4 @@
 -- The root of the crate's specs.
 pub mod Flattening
-pub mod Cells
+pub mod Rows
 pub mod Meaning

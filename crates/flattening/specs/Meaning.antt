@@ -8,25 +8,21 @@ use lib.ListN.{length, getD}
 use lib.Seq.{ext-getD}
 use lib.Dec.{eqb, ltb}
 use borrow.Author.Tests.{lt-ltb, ltb-true, eq-eqb, eqb-true}
-use Rattle.paper.specs.Limits.{maxEvents, maxRoles, kinds}
+use Rattle.paper.specs.Limits.{maxEvents, maxRoles}
 use Rattle.general.specs.Cases.{cases, both, same-test}
 use Rattle.sets.specs.Set.{has, collect}
 use Rattle.sets.specs.Laws.{ext, has-collect, has-empty}
 use Rattle.general.specs.Below.{some, some-of, some-at, some-none, some-same, first, first-same, tally, tally-same}
-use Rattle.general.specs.Tables.{tabulate, tabulate-same, length-tabulate, getD-tabulate}
-use Rattle.flat_chart.specs.Chart.{Kind, condition, response, milestone, include, exclude}
-use Rattle.flat_chart.specs.declared.FlatChart.{FlatChart}
-use Rattle.graph.specs.declared.Marking.{Marking}
+use Rattle.general.specs.Tables.{tabulate, length-tabulate, getD-tabulate}
 use Rattle.sets.specs.Collecting.{collect-same}
 use Rattle.general.specs.Numbering.{tally-find, first-numbered}
 use Rattle.records.specs.Image.{nodes as nodes-of, relations, fromOf, toOf, kindOf, flagsOf, rolesAt, nodeAt, Whole}
 use Rattle.nesting.specs.Nesting.{parent, atOrAbove, isGroup, isEvent, number, eventCount, eventNode, flaggedGroupAt}
 use Rattle.nesting.specs.Climbing.{Straight, fromUp}
 use Rattle.nesting.specs.Tables.{Groups, isEventIn, flaggedIn, EventNodes}
-use Rattle.flattening.specs.Flattening.{kindNumber, holdsBack, leads, related, entered, flatSet, flatTable, flatChart, flagged, startMarking}
+use Rattle.flattening.specs.Flattening.{holdsBack, leads, related, entered, flatSet, flagged}
 use Rattle.flattening.specs.Flattening.{namesAt, named, flatRoles, roleTable}
-use Rattle.flattening.specs.Cells.{cell, holds, Members, near, nearOf, farOf, near-fits, Good, entersAt, Gathered, aboveHas, Flat, flaggedBy, chartFrom, markingBy}
-use Rattle.flattening.specs.Cells.{someAbove, aboveNames, FlatRoles}
+use Rattle.flattening.specs.Rows.{Members, near, nearOf, farOf, near-fits, Good, entersAt, Gathered, inRow, someAbove, namesRole, Flat, flaggedBy}
 
 -- ---- nodes
 
@@ -97,138 +93,114 @@ pub roles-has : (image : List ℕ) (e r : ℕ) → has (flatRoles image e) r ≡
 unfolding flatRoles
 roles-has image e r = cases (ltb e (eventCount image)) (λ t. rw t (has-collect maxRoles (named image e) r)) (λ t. rw t (has-empty r))
 
-kind-fits : (κ : Kind) → kindNumber κ < kinds
-kind-fits condition = omega arith
-kind-fits response = omega arith
-kind-fits milestone = omega arith
-kind-fits include = omega arith
-kind-fits exclude = omega arith
+-- ---- what the reader has when it flattens
 
--- ---- what the reader has when it comes to the relations
-
-pub record Ground (image : List ℕ) (n k : ℕ) (groups : List Bool) (events : ℕ) : Type 0 where
+pub record Ground (image : List ℕ) (n k : ℕ) (nodes : List ℕ) (events : ℕ) : Type 0 where
   pub whole : Whole image n k
   pub straight : Straight image
-  pub marked : Groups image n groups
+  pub goods : (r : ℕ) → r < k → Good image n r
   pub count : events ≡ eventCount image
   pub few : events ≤ maxEvents
+  pub placed : (e : ℕ) → e < events → (getD nodes e 0 ≡ eventNode image e) × (getD nodes e 0 < n)
 
-module _ {image : List ℕ} {n k : ℕ} {groups : List Bool} {events : ℕ} (g : Ground image n k groups events) where
-  -- so many events have room
-  pub room-for : tally n (isEventIn groups) ≤ maxEvents
-  room-for = let e = count-is (g .whole) (g .marked) refl in let c = g .count in let f = g .few in omega arith
+module _ {image : List ℕ} {n k : ℕ} {nodes : List ℕ} {events : ℕ} (g : Ground image n k nodes events) where
+  pub flags-in : (e : ℕ) → e < events → nodeAt (getD nodes e 0) + 4 ≤ length image
+  flags-in e h = let l = g .placed e h .1 in let f = g .whole .whole in omega arith
 
-  module _ {nodes : List ℕ} (v : EventNodes groups n nodes) where
-    node-at : (e : ℕ) → e < events → (getD nodes e 0 ≡ eventNode image e) × (getD nodes e 0 < n)
-    node-at e h = nodes-are (g .whole) (g .marked) v e (let c = g .count in omega arith)
+  pub flagged-is : (digit s : ℕ) → s ≡ flaggedBy image nodes digit events → s ≡ flagged image digit
+  unfolding flagged
+  flagged-is digit s e =
+      e ∙ collect-same events (λ x. has (flagsOf image (getD nodes x 0)) digit) (λ x. has (flagsOf image (eventNode image x)) digit) (λ x h. rw (g .placed x h .0))
+      ∙ ap (λ (m : ℕ). collect m (λ x. has (flagsOf image (eventNode image x)) digit)) (g .count)
 
-    pub flags-in : (e : ℕ) → e < events → nodeAt (getD nodes e 0) + 4 ≤ length image
-    flags-in e h = let l = node-at e h .1 in let f = g .whole .whole in omega arith
+  -- a node is at or above the node of e exactly if the climb from there comes to it
+  up-is : (e x : ℕ) → e < events → fromUp image (getD nodes e 0) x ≡ atOrAbove image (eventNode image e) x
+  unfolding fromUp
+  up-is e x h = let v = g .placed e h in let l = v .1 in let w = g .whole .nodes in rw (lt-ltb (getD nodes e 0) (nodes-of image) (omega arith), v .0)
 
-    pub flagged-is : (digit s : ℕ) → s ≡ flaggedBy image nodes digit events → s ≡ flagged image digit
-    unfolding flagged
-    flagged-is digit s e =
-        e ∙ collect-same events (λ x. has (flagsOf image (getD nodes x 0)) digit) (λ x. has (flagsOf image (eventNode image x)) digit) (λ x h. rw (node-at x h .0))
-        ∙ ap (λ (m : ℕ). collect m (λ x. has (flagsOf image (eventNode image x)) digit)) (g .count)
+  -- the role bytes are those of the definition
+  names-is : (e r : ℕ) → e < events → someAbove image (namesRole image r) (getD nodes e 0) ≡ (ltb r maxRoles && named image e r)
+  unfolding someAbove named namesAt
+  names-is e r h =
+      some-same (nodes-of image) _ (λ x. ltb r maxRoles && namesAt image e r x)
+      (λ x l. rw (up-is e x h) (inward (atOrAbove image (eventNode image e) x) (ltb r maxRoles) (has (rolesAt image x) r)))
+      ∙ guarded (nodes-of image) (ltb r maxRoles) (namesAt image e r)
+    where
+      inward : (a b c : Bool) → (a && (b && c)) ≡ (b && (a && c))
+      inward true b c = refl
+      inward false b c = sym (and-false b)
 
-    pub marking-is : {mark : Marking} → mark ≡ markingBy image nodes events → mark ≡ startMarking image
-    unfolding markingBy startMarking
-    marking-is e = e ∙ rw (flagged-is 0 _ refl, flagged-is 1 _ refl, flagged-is 2 _ refl)
+  pub roles-are : {roles : List ℕ} → Flat image (namesRole image) nodes events roles → roles ≡ roleTable image
+  unfolding roleTable
+  roles-are {roles} m =
+      ext-getD 0 roles (tabulate maxEvents (flatRoles image)) (m .size ∙ sym (length-tabulate maxEvents (flatRoles image)))
+      (λ e h. byte e ∙ sym (getD-tabulate maxEvents (flatRoles image) e 0 (let l = m .size in omega arith)))
+    where
+      byte : (e : ℕ) → getD roles e 0 ≡ flatRoles image e
+      byte e =
+          ext (getD roles e 0) (flatRoles image e)
+          (λ r. m .each e r
+          ∙ cases (ltb e events) (λ i. rw i (names-is e r (ltb-true e events i))) (λ i. rw i)
+          ∙ ap (λ (x : ℕ). ltb e x && (ltb r maxRoles && named image e r)) (g .count)
+          ∙ sym (roles-has image e r))
 
-    -- a node is at or above the node of e exactly if the climb from there comes to it
-    up-is : (e x : ℕ) → e < events → fromUp image (getD nodes e 0) x ≡ atOrAbove image (eventNode image e) x
-    unfolding fromUp
-    up-is e x h = let v = node-at e h in let l = v .1 in let w = g .whole .nodes in rw (lt-ltb (getD nodes e 0) (nodes-of image) (omega arith), v .0)
+  module _ {members gathered : List ℕ} {κ : ℕ} (m : Members image nodes events members) (a : Gathered image members κ k gathered) where
+    -- relation r is gathered at or above the node of e, and gives it f
+    abbrev gives : ℕ → ℕ → ℕ → Bool
+    gives e f r = eqb (kindOf image r) κ && (fromUp image (getD nodes e 0) (nearOf image r) && has (getD members (farOf image r) 0) f)
 
-    -- the role bytes are those of the definition
-    names-is : (e r : ℕ) → e < events → aboveNames image (getD nodes e 0) r ≡ (ltb r maxRoles && named image e r)
-    unfolding someAbove named namesAt
-    names-is e r h =
-        some-same (nodes-of image) _ (λ x. ltb r maxRoles && namesAt image e r x)
-        (λ x l. rw (up-is e x h) (inward (atOrAbove image (eventNode image e) x) (ltb r maxRoles) (has (rolesAt image x) r)))
-        ∙ guarded (nodes-of image) (ltb r maxRoles) (namesAt image e r)
+    -- so it leads to or from the event f
+    leads-is : (e f r : ℕ) → e < events → gives e f r ≡ (ltb f events && cond (holdsBack κ) (leads image κ f e r) (leads image κ e f r))
+    unfolding leads
+    leads-is e f r h =
+        rw (up-is e (nearOf image r) h, m .each (farOf image r) f) (cases (eqb (kindOf image r) κ)
+        (λ t. rw (t, eqb-true (kindOf image r) κ t) (cases (ltb f events)
+        (λ i. rw (i, up-is f _ (ltb-true f events i))
+        (cases (holdsBack κ) (λ b. rw b (and-comm (atOrAbove image (eventNode image e) (toOf image r)) (atOrAbove image (eventNode image f) (fromOf image r)))) (λ b. rw b)))
+        (λ i. rw i (and-false (atOrAbove image (eventNode image e) (near κ (fromOf image r) (toOf image r)))))))
+        (λ t. rw t (sym (nothing (holdsBack κ) (ltb f events)))))
       where
-        inward : (a b c : Bool) → (a && (b && c)) ≡ (b && (a && c))
-        inward true b c = refl
-        inward false b c = sym (and-false b)
+        nothing : (h x : Bool) → (x && cond h false false) ≡ false
+        nothing true x = and-false x
+        nothing false x = and-false x
 
-    pub roles-are : {roles : List ℕ} → FlatRoles image nodes events roles → roles ≡ roleTable image
-    unfolding roleTable
-    roles-are {roles} m =
-        ext-getD 0 roles (tabulate maxEvents (flatRoles image)) (m .size ∙ sym (length-tabulate maxEvents (flatRoles image)))
-        (λ e h. byte e ∙ sym (getD-tabulate maxEvents (flatRoles image) e 0 (let l = m .size in omega arith)))
+    -- what is gathered at or above the node of e is what the relations lead to
+    above-is : (e f : ℕ) → e < events → someAbove image (inRow gathered f) (getD nodes e 0) ≡ some k (gives e f)
+    unfolding someAbove
+    above-is e f h =
+        same-test _ _
+        (λ t.
+        let (x, i, y) = some-at (nodes-of image) (λ x. fromUp image (getD nodes e 0) x && inRow gathered f x) t in
+        let z = both (fromUp image (getD nodes e 0) x) (inRow gathered f x) y in
+        let (r, j, u) = some-at k (entersAt image members κ x f) (sym (a .each x f) ∙ z .1) in
+        let v = both (eqb (kindOf image r) κ) (eqb (nearOf image r) x && has (getD members (farOf image r) 0) f) u in
+        let w = both (eqb (nearOf image r) x) (has (getD members (farOf image r) 0) f) (v .1) in
+        some-of k (gives e f) r j (rw (v .0, w .1, eqb-true (nearOf image r) x (w .0), z .0)))
+        (λ t.
+        let (r, j, u) = some-at k (gives e f) t in
+        let v = both (eqb (kindOf image r) κ) _ u in
+        let w = both (fromUp image (getD nodes e 0) (nearOf image r)) _ (v .1) in
+        some-of (nodes-of image) (λ x. fromUp image (getD nodes e 0) x && inRow gathered f x) (nearOf image r)
+        (let o = near-fits (g .goods r j) in let q = g .whole .nodes in omega arith)
+        (rw (w .0, a .each (nearOf image r) f) (some-of k (entersAt image members κ (nearOf image r) f) r j (rw (v .0, eq-eqb (nearOf image r) (nearOf image r) refl, w .1)))))
+
+    pub table-is : {table : List ℕ} → Flat image (inRow gathered) nodes events table → table ≡ tabulate maxEvents (flatSet image κ)
+    unfolding entered related
+    table-is {table} t =
+        ext-getD 0 table (tabulate maxEvents (flatSet image κ)) (t .size ∙ sym (length-tabulate maxEvents (flatSet image κ)))
+        (λ e h. set-is e ∙ sym (getD-tabulate maxEvents (flatSet image κ) e 0 (let l = t .size in omega arith)))
       where
-        byte : (e : ℕ) → getD roles e 0 ≡ flatRoles image e
-        byte e =
-            ext (getD roles e 0) (flatRoles image e)
-            (λ r. m .each e r
-            ∙ cases (ltb e events) (λ i. rw i (names-is e r (ltb-true e events i))) (λ i. rw i)
-            ∙ ap (λ (x : ℕ). ltb e x && (ltb r maxRoles && named image e r)) (g .count)
-            ∙ sym (roles-has image e r))
-
-    module _ {members : List ℕ} (m : Members image nodes events members) (s : (r : ℕ) → r < k → Good image n r) where
-      -- relation r is gathered at or above the node of e, and gives it f
-      abbrev gives : ℕ → ℕ → ℕ → ℕ → Bool
-      gives κ e f r = eqb (kindOf image r) κ && (fromUp image (getD nodes e 0) (nearOf image r) && has (getD members (farOf image r) 0) f)
-
-      -- so it leads to or from the event f
-      leads-is : (κ e f r : ℕ) → e < events → gives κ e f r ≡ (ltb f events && cond (holdsBack κ) (leads image κ f e r) (leads image κ e f r))
-      unfolding leads
-      leads-is κ e f r h =
-          rw (up-is e (nearOf image r) h, m .each (farOf image r) f) (cases (eqb (kindOf image r) κ)
-          (λ t. rw (t, eqb-true (kindOf image r) κ t) (cases (ltb f events)
-          (λ i. rw (i, up-is f _ (ltb-true f events i))
-          (cases (holdsBack κ) (λ b. rw b (and-comm (atOrAbove image (eventNode image e) (toOf image r)) (atOrAbove image (eventNode image f) (fromOf image r)))) (λ b. rw b)))
-          (λ i. rw i (and-false (atOrAbove image (eventNode image e) (near κ (fromOf image r) (toOf image r)))))))
-          (λ t. rw t (sym (nothing (holdsBack κ) (ltb f events)))))
-        where
-          nothing : (h x : Bool) → (x && cond h false false) ≡ false
-          nothing true x = and-false x
-          nothing false x = and-false x
-
-      module _ {gathered : List ℕ} (a : Gathered image members k gathered) where
-        -- what is gathered at or above the node of e is what the relations lead to
-        above-is : (κ e f : ℕ) → κ < kinds → e < events
-            → aboveHas image gathered (getD nodes e 0) κ f ≡ some k (gives κ e f)
-        unfolding someAbove
-        above-is κ e f l h =
-            same-test _ _
-            (λ t.
-            let (x, i, y) = some-at (nodes-of image) (λ x. fromUp image (getD nodes e 0) x && holds gathered κ x f) t in
-            let z = both (fromUp image (getD nodes e 0) x) (holds gathered κ x f) y in
-            let (r, j, u) = some-at k (entersAt image members κ x f) (sym (a .each κ x f l) ∙ z .1) in
-            let v = both (eqb (kindOf image r) κ) (eqb (nearOf image r) x && has (getD members (farOf image r) 0) f) u in
-            let w = both (eqb (nearOf image r) x) (has (getD members (farOf image r) 0) f) (v .1) in
-            some-of k (gives κ e f) r j (rw (v .0, w .1, eqb-true (nearOf image r) x (w .0), z .0)))
-            (λ t.
-            let (r, j, u) = some-at k (gives κ e f) t in
-            let v = both (eqb (kindOf image r) κ) _ u in
-            let w = both (fromUp image (getD nodes e 0) (nearOf image r)) _ (v .1) in
-            some-of (nodes-of image) (λ x. fromUp image (getD nodes e 0) x && holds gathered κ x f) (nearOf image r) (let o = near-fits (s r j) in let q = g .whole .nodes in omega arith)
-            (rw (w .0, a .each κ (nearOf image r) f l) (some-of k (entersAt image members κ (nearOf image r) f) r j (rw (v .0, eq-eqb (nearOf image r) (nearOf image r) refl, w .1)))))
-
-        module _ {tables : List ℕ} (t : Flat image gathered nodes events tables) where
-          pub cell-is : (κ e : ℕ) → κ < kinds → cell tables κ e ≡ flatSet image κ e
-          unfolding entered related
-          cell-is κ e l =
-              ext (cell tables κ e) (flatSet image κ e)
-              (λ f.
-              let lead : ℕ → Bool = λ r. cond (holdsBack κ) (leads image κ f e r) (leads image κ e f r) in
-              t .each κ e f l
-              ∙ cases (ltb e events)
-              (λ i. rw i (above-is κ e f l (ltb-true e events i)
-              ∙ some-same k (gives κ e f) (λ r. ltb f events && lead r) (λ r j. leads-is κ e f r (ltb-true e events i))
-              ∙ guarded k (ltb f events) lead
-              ∙ ap (λ (b : Bool). ltb f events && b) (either-way k (holdsBack κ) (leads image κ f e) (leads image κ e f))))
-              (λ i. rw i)
-              ∙ ap₂ (λ (x y : ℕ). (ltb e x && ltb f x) && cond (holdsBack κ) (some y (leads image κ f e)) (some y (leads image κ e f))) (g .count) (g .whole .relations)
-              ∙ sym (flat-has image κ e f))
-
-          pub table-is : (κ : Kind) (out : List ℕ) → out ≡ tabulate maxEvents (cell tables (kindNumber κ)) → out ≡ flatTable image κ
-          unfolding flatTable
-          table-is κ out e = e ∙ tabulate-same maxEvents (cell tables (kindNumber κ)) (flatSet image (kindNumber κ)) (λ x h. cell-is (kindNumber κ) x (kind-fits κ))
-
-          pub chart-is : {roles : List ℕ} {c : FlatChart} → FlatRoles image nodes events roles → c ≡ chartFrom events tables roles → c ≡ flatChart image
-          unfolding chartFrom flatChart
-          chart-is o e =
-              e ∙ rw (g .count, roles-are o, table-is condition _ refl, table-is response _ refl, table-is milestone _ refl, table-is include _ refl, table-is exclude _ refl)
+        set-is : (e : ℕ) → getD table e 0 ≡ flatSet image κ e
+        set-is e =
+            ext (getD table e 0) (flatSet image κ e)
+            (λ f.
+            let lead : ℕ → Bool = λ r. cond (holdsBack κ) (leads image κ f e r) (leads image κ e f r) in
+            t .each e f
+            ∙ cases (ltb e events)
+            (λ i. rw i (above-is e f (ltb-true e events i)
+            ∙ some-same k (gives e f) (λ r. ltb f events && lead r) (λ r j. leads-is e f r (ltb-true e events i))
+            ∙ guarded k (ltb f events) lead
+            ∙ ap (λ (b : Bool). ltb f events && b) (either-way k (holdsBack κ) (leads image κ f e) (leads image κ e f))))
+            (λ i. rw i)
+            ∙ ap₂ (λ (x y : ℕ). (ltb e x && ltb f x) && cond (holdsBack κ) (some y (leads image κ f e)) (some y (leads image κ e f))) (g .count) (g .whole .relations)
+            ∙ sym (flat-has image κ e f))

@@ -1,18 +1,23 @@
-// Flattening: the events at or below each node, what the relations gather at each node, and the five sets that each event takes from its
-// node and the groups above it.
+// Flattening, one kind at a time: the events at or below each node, what the relations of a kind gather at each node, and the set that each event takes from its node
+// and the groups above it; and the roles that it takes from them.
 ghost use mathlib.Core.Path.{_≡_};
-ghost use Prim.Native.Nat.{ℕ, _+_, _*_, _≤_, _<_};
-ghost use lib.ListN.{length, getD, set, replicate};
+ghost use Prim.Native.Nat.{ℕ, _+_, _≤_, _<_};
+ghost use lib.ListN.{length, getD, replicate};
 ghost use Rattle.paper.specs.Limits.{maxNodes, maxEvents, kinds, nodeSize};
 ghost use Rattle.sets.specs.Set.{union};
+ghost use Rattle.wide.specs.Number.{number, rowsOf};
 ghost use Rattle.general.specs.Below.{first};
 ghost use Rattle.general.specs.Tables.{tabulate};
 ghost use Rattle.records.specs.Image.{nodeAt, badRelationAt, Whole};
 ghost use Rattle.nesting.specs.Climbing.{Straight};
-ghost use Rattle.flattening.specs.Cells.{cell, putIn, addTo, TakenIn, Members, Gathered, Taken, Flat, Roles, FlatRoles, flaggedBy};
-use paper::KINDS;
+ghost use Rattle.flattening.specs.Flattening.{flatSet, roleTable};
+ghost use Rattle.flattening.specs.Rows.{nodeRows, takeIn, TakenIn, Members, Good, addTo, Gathered, Taken, inRow, namesRole, Flat, flaggedBy};
+ghost use Rattle.flattening.specs.Meaning.{Ground};
 use paper::MAX_EVENTS;
 use paper::MAX_NODES;
+use wide::SET_WORDS;
+use wide::Set;
+use wide::TABLE;
 
 pub const CONDITION: usize = 0;
 
@@ -24,93 +29,158 @@ pub const INCLUDE: usize = 3;
 
 pub const EXCLUDE: usize = 4;
 
-// A set for each kind, side by side.
-pub const SETS: usize = KINDS as usize;
+// Words of a table with a set for each node: row i stands at 4i.
+pub const NODE_TABLE: usize = MAX_NODES * SET_WORDS;
 
-// What the relations gather at each node: the set of node g for a kind stands at g * 5 + kind.
-pub const GATHERED: usize = MAX_NODES * SETS;
-
-// The five tables in one run: the set of event e for a kind stands at e * 5 + kind.
-pub const CELLS: usize = MAX_EVENTS * SETS;
+// Node i's row takes in s.
+fn take_in(table: &mut [u64; NODE_TABLE], i: usize, s: Set)
+    requires { ⌜ i < maxNodes ⌝ }
+    ensures { λ _. ⌜ nodeRows (now (table .exit)) ≡ takeIn (nodeRows (now (table .entry))) i (number s) ⌝ }
+{
+    let all = wide::join(wide::row_in(table, i), s);
+    wide::put_row(table, i, all);
+}
 
 // Node i and each group above it take in event e.
-fn enter(image: &[u8], n: usize, k: usize, all: &mut [u64; MAX_NODES], e: usize, i: usize)
-    requires { ⌜ (Whole (now image) n k) × (Straight (now image)) × (e < maxEvents) × (length (now all) ≡ maxNodes) ⌝ }
-    ensures { λ _. ⌜ TakenIn (now (image .entry)) e i (now (all .entry)) (now (all .exit)) ⌝ }
+fn enter(image: &[u8], n: usize, k: usize, all: &mut [u64; NODE_TABLE], e: usize, i: usize)
+    requires { ⌜ (Whole (now image) n k) × (Straight (now image)) × (e < maxEvents) ⌝ }
+    ensures { λ _. ⌜ TakenIn (now (image .entry)) e i (nodeRows (now (all .entry))) (nodeRows (now (all .exit))) ⌝ }
 {
+    let one = wide::one(e);
     let mut c = i;
     while c < n {
-        all[c] = sets::join(all[c], sets::one(e));
+        take_in(all, c, one);
         c = records::parent_of(image, c) as usize;
     }
 }
 
-// The events at or below each node.
-pub fn members(
+// The events at or below each node, into a table of empty rows.
+pub fn put_members(
     image: &[u8],
     n: usize,
     k: usize,
     nodes: &[usize; MAX_EVENTS],
     events: usize,
-) -> [u64; MAX_NODES]
-    requires { ⌜ (Whole (now image) n k) × (Straight (now image)) × (events ≤ maxEvents) ⌝ }
-    ensures { λ r. ⌜ Members (now (image .entry)) (now (nodes .entry)) events r ⌝ }
-{
-    let mut all = [0u64; MAX_NODES];
-    for e in 0..events {
-        enter(image, n, k, &mut all, e, nodes[e]);
-    }
-    all
-}
-
-fn put_in(gathered: &mut [u64; GATHERED], kind: usize, g: usize, to: u64)
-    requires { ⌜ (kind < kinds) × (g < maxNodes) ⌝ }
-    ensures { λ _. ⌜ now (gathered .exit) ≡ putIn (now (gathered .entry)) kind g to ⌝ }
-{
-    let at = g * SETS + kind;
-    gathered[at] = sets::join(gathered[at], to);
-}
-
-// One relation. A condition or a milestone is gathered at the node that it holds back.
-fn add(
-    gathered: &mut [u64; GATHERED],
-    members: &[u64; MAX_NODES],
-    kind: usize,
-    from: usize,
-    to: usize,
+    all: &mut [u64; NODE_TABLE],
 )
-    requires { ⌜ (kind < kinds) × (from < maxNodes) × (to < maxNodes) ⌝ }
-    ensures { λ _. ⌜ now (gathered .exit) ≡ addTo (now (gathered .entry)) (now (members .entry)) kind from to ⌝ }
+    requires { ⌜ (Ground (now image) n k (now nodes) events) × (nodeRows (now all) ≡ replicate maxNodes 0) ⌝ }
+    ensures { λ _. ⌜ Members (now (image .entry)) (now (nodes .entry)) events (nodeRows (now (all .exit))) ⌝ }
 {
-    if (kind == CONDITION) | (kind == MILESTONE) {
-        put_in(gathered, kind, to, members[from]);
-    } else {
-        put_in(gathered, kind, from, members[to]);
+    for e in 0..events {
+        enter(image, n, k, all, e, nodes[e]);
     }
 }
 
-// Every relation up to the lowest whose record is bad, or k: one pass.
-pub fn gather(
-    image: &[u8],
-    n: usize,
-    k: usize,
-    members: &[u64; MAX_NODES],
-    gathered: &mut [u64; GATHERED],
-) -> usize
-    requires { ⌜ (Whole (now image) n k) × (now gathered ≡ replicate (maxNodes * kinds) 0) ⌝ }
+// The lowest relation whose record is bad, or k.
+pub fn first_bad_relation(image: &[u8], n: usize, k: usize) -> usize
+    requires { ⌜ Whole (now image) n k ⌝ }
     ensures { λ r. ⌜ r ≡ first k (badRelationAt (now (image .entry))) ⌝ }
-    ensures { λ r. ⌜ (k ≤ r → Gathered (now (image .entry)) (now (members .entry)) k (now (gathered .exit))) ⌝ }
 {
     for r in 0..k {
         if records::bad_relation_at(image, n, r) {
             return r;
         }
-        let from = records::from_of(image, n, r) as usize;
-        let to = records::to_of(image, n, r) as usize;
-        let kind = records::kind_of(image, n, r) as usize;
-        add(gathered, members, kind, from, to);
     }
     k
+}
+
+// Relation r, where it is of the kind. A condition or a milestone is gathered at the node that it holds back, another at the node that reaches.
+fn add(
+    image: &[u8],
+    n: usize,
+    k: usize,
+    members: &[u64; NODE_TABLE],
+    kind: usize,
+    gathered: &mut [u64; NODE_TABLE],
+    r: usize,
+)
+    requires { ⌜ (Whole (now image) n k) × (r < k) × (Good (now image) n r) ⌝ }
+    ensures { λ _. ⌜ nodeRows (now (gathered .exit)) ≡ addTo (now (image .entry)) (nodeRows (now (members .entry))) kind (nodeRows (now (gathered .entry))) r ⌝ }
+{
+    if records::kind_of(image, n, r) as usize != kind {
+        return;
+    }
+    let from = records::from_of(image, n, r) as usize;
+    let to = records::to_of(image, n, r) as usize;
+    if (kind == CONDITION) | (kind == MILESTONE) {
+        take_in(gathered, to, wide::row_in(members, from));
+    } else {
+        take_in(gathered, from, wide::row_in(members, to));
+    }
+}
+
+// What the relations of one kind gather at each node: one pass over the relations.
+fn gather(
+    image: &[u8],
+    n: usize,
+    k: usize,
+    members: &[u64; NODE_TABLE],
+    kind: usize,
+    gathered: &mut [u64; NODE_TABLE],
+)
+    requires { ⌜ (Whole (now image) n k) × ((r : ℕ) → r < k → Good (now image) n r) ⌝ }
+    ensures { λ _. ⌜ Gathered (now (image .entry)) (nodeRows (now (members .entry))) kind k (nodeRows (now (gathered .exit))) ⌝ }
+{
+    *gathered = [0u64; NODE_TABLE];
+    for r in 0..k {
+        add(image, n, k, members, kind, gathered, r);
+    }
+}
+
+// What is gathered at node i and at each group above it.
+fn gathered_above(image: &[u8], n: usize, k: usize, gathered: &[u64; NODE_TABLE], i: usize) -> Set
+    requires { ⌜ (Whole (now image) n k) × (Straight (now image)) ⌝ }
+    ensures { λ r. ⌜ Taken (now (image .entry)) (inRow (nodeRows (now (gathered .entry)))) i (number r) ⌝ }
+{
+    let mut all = wide::empty();
+    let mut c = i;
+    while c < n {
+        all = wide::join(all, wide::row_in(gathered, c));
+        c = records::parent_of(image, c) as usize;
+    }
+    all
+}
+
+// The set of each event, into a table of empty rows.
+fn flatten(
+    image: &[u8],
+    n: usize,
+    k: usize,
+    gathered: &[u64; NODE_TABLE],
+    nodes: &[usize; MAX_EVENTS],
+    events: usize,
+    table: &mut [u64; TABLE],
+)
+    requires { ⌜ (Whole (now image) n k) × (Straight (now image)) × (events ≤ maxEvents) × (rowsOf (now table) ≡ replicate maxEvents 0) ⌝ }
+    ensures { λ _. ⌜ Flat (now (image .entry)) (inRow (nodeRows (now (gathered .entry)))) (now (nodes .entry)) events (rowsOf (now (table .exit))) ⌝ }
+{
+    for e in 0..events {
+        wide::put_row(table, e, gathered_above(image, n, k, gathered, nodes[e]));
+    }
+}
+
+// How many nodes, relations and events an image has.
+pub struct Size {
+    pub n: usize,
+    pub k: usize,
+    pub events: usize,
+}
+
+// One kind's table, into a table of empty rows; `gathered` is room for what its relations gather.
+pub fn put_table(
+    image: &[u8],
+    size: Size,
+    nodes: &[usize; MAX_EVENTS],
+    members: &[u64; NODE_TABLE],
+    gathered: &mut [u64; NODE_TABLE],
+    kind: usize,
+    table: &mut [u64; TABLE],
+)
+    requires { ⌜ (Ground (now image) (size .n) (size .k) (now nodes) (size .events)) × (Members (now image) (now nodes) (size .events) (nodeRows (now members))) × (rowsOf (now table) ≡ replicate maxEvents 0) ⌝ }
+    ensures { λ _. ⌜ rowsOf (now (table .exit)) ≡ tabulate maxEvents (flatSet (now (image .entry)) kind) ⌝ }
+{
+    gather(image, size.n, size.k, members, kind, gathered);
+    flatten(image, size.n, size.k, gathered, nodes, size.events, table);
 }
 
 fn add_roles(roles: u8, own: u8) -> u8
@@ -119,70 +189,46 @@ fn add_roles(roles: u8, own: u8) -> u8
     roles | own
 }
 
-// Event e takes in what is gathered at node i and at each group above it. Gives the roles that these nodes name.
-fn take_above(
-    image: &[u8],
-    n: usize,
-    k: usize,
-    gathered: &[u64; GATHERED],
-    tables: &mut [u64; CELLS],
-    e: usize,
-    i: usize,
-) -> u8
-    requires { ⌜ (Whole (now image) n k) × (Straight (now image)) × (e < maxEvents) × (length (now tables) ≡ maxEvents * kinds) × (length (now gathered) ≡ maxNodes * kinds) ⌝ }
-    ensures { λ r. ⌜ (Taken (now (image .entry)) (now (gathered .entry)) e i (now (tables .entry)) (now (tables .exit))) × (Roles (now (image .entry)) i r) ⌝ }
+// The roles that node i and the groups above it name.
+fn roles_above(image: &[u8], n: usize, k: usize, i: usize) -> u8
+    requires { ⌜ (Whole (now image) n k) × (Straight (now image)) ⌝ }
+    ensures { λ r. ⌜ Taken (now (image .entry)) (namesRole (now (image .entry))) i r ⌝ }
 {
     let mut roles: u8 = 0;
     let mut c = i;
     while c < n {
-        closure::take_row(tables, SETS, e, gathered, c);
         roles = add_roles(roles, records::roles_of(image, c));
         c = records::parent_of(image, c) as usize;
     }
     roles
 }
 
-// The five tables, and the role byte of each event.
-pub fn flatten(
+// The role byte of each event, into bytes of 0.
+pub fn put_roles(
     image: &[u8],
     n: usize,
     k: usize,
-    gathered: &[u64; GATHERED],
     nodes: &[usize; MAX_EVENTS],
     events: usize,
     roles: &mut [u8; MAX_EVENTS],
-) -> [u64; CELLS]
-    requires { ⌜ (Whole (now image) n k) × (Straight (now image)) × (events ≤ maxEvents) × (length (now gathered) ≡ maxNodes * kinds) × (now roles ≡ replicate maxEvents 0) ⌝ }
-    ensures { λ r. ⌜ (Flat (now (image .entry)) (now (gathered .entry)) (now (nodes .entry)) events r) × (FlatRoles (now (image .entry)) (now (nodes .entry)) events (now (roles .exit))) ⌝ }
+)
+    requires { ⌜ (Ground (now image) n k (now nodes) events) × (now roles ≡ replicate maxEvents 0) ⌝ }
+    ensures { λ _. ⌜ now (roles .exit) ≡ roleTable (now (image .entry)) ⌝ }
 {
-    let mut tables = [0u64; CELLS];
     for e in 0..events {
-        roles[e] = take_above(image, n, k, gathered, &mut tables, e, nodes[e]);
+        roles[e] = roles_above(image, n, k, nodes[e]);
     }
-    tables
-}
-
-// One kind's table.
-pub fn table(tables: &[u64; CELLS], kind: usize) -> [u64; MAX_EVENTS]
-    requires { ⌜ kind < kinds ⌝ }
-    ensures { λ r. ⌜ r ≡ tabulate maxEvents (cell (now (tables .entry)) kind) ⌝ }
-{
-    let mut out = [0u64; MAX_EVENTS];
-    for e in 0..MAX_EVENTS {
-        out[e] = tables[e * SETS + kind];
-    }
-    out
 }
 
 // The events whose flags have a digit.
-pub fn flagged(image: &[u8], nodes: &[usize; MAX_EVENTS], events: usize, digit: usize) -> u64
+pub fn flagged(image: &[u8], nodes: &[usize; MAX_EVENTS], events: usize, digit: usize) -> Set
     requires { ⌜ (events ≤ maxEvents) × ((e : ℕ) → e < events → nodeAt (getD (now nodes) e 0) + nodeSize ≤ length (now image)) ⌝ }
-    ensures { λ r. ⌜ r ≡ flaggedBy (now (image .entry)) (now (nodes .entry)) digit events ⌝ }
+    ensures { λ r. ⌜ number r ≡ flaggedBy (now (image .entry)) (now (nodes .entry)) digit events ⌝ }
 {
-    let mut set: u64 = 0;
+    let mut set = wide::empty();
     for e in 0..events {
         let flags = records::flags_of(image, nodes[e]) as u64;
-        set = sets::put_if(set, e, sets::member(flags, digit));
+        set = wide::put_if(set, e, sets::member(flags, digit));
     }
     set
 }

@@ -15,10 +15,12 @@ use Rattle.general.specs.Below.{tally, tally-less}
 use Rattle.closure.specs.Closure.{Way, hop, via, join}
 use Rattle.records.specs.Image.{nodes, parentOf, Whole}
 use Rattle.nesting.specs.Nesting.{parent, Nested, OnLoop}
+use Rattle.nesting.specs.Climbing.{parent-is, is-parent}
+use Rattle.nesting.specs.Loops.{loop-back, loop-on}
+use Rattle.nesting.specs.Ahead.{one-parent, first-link}
 use Rattle.mending.specs.Mending.{lowestOfLoop}
-use Rattle.mending.specs.Loops.{loop-back, loop-on}
-use Rattle.mending.specs.Cutting.{one-parent, start-in, LowestOfLoop, lowest-so, one-a-loop}
-use Rattle.loop_cuts.specs.Round.{LowestRound, parent-is, is-parent, first-link}
+use Rattle.mending.specs.Cutting.{start-in, LowestOfLoop, lowest-so, one-a-loop}
+use Rattle.loop_cuts.specs.Round.{LowestRound}
 
 abbrev pub stampOf : List ℕ → ℕ → ℕ
 stampOf stamps x = getD stamps x 0

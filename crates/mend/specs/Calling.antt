@@ -30,7 +30,7 @@ module _ (image : List ℕ) where
   unfoldable pub roomAnswer : ℕ → ℕ → Answer
   roomAnswer chart list = cond (ltb chart (length mendedImage) || ltb list (length listBytes)) (answer mendRoom (length mendedImage) (length listBytes)) granted
 
-  -- "1, 2, 3 as before; 7 if over 64 events remain after mending", for rooms of so many bytes
+  -- "1, 2, 3 as before; 7 if over 64 events remain after mending", over 256 by request (xiv), for rooms of so many bytes
   unfoldable pub mendAnswer : ℕ → ℕ → Answer
   mendAnswer chart list =
       cond (ltb (length image) chartHeader) (refusal chartShort)

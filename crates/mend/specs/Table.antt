@@ -20,7 +20,7 @@ use Rattle.chart.specs.Outcome.{HeaderRight}
 use Rattle.mend.specs.Calling.{mendedImage, changesOf, listBytes, roomAnswer, mendAnswer, mending, mendedRoom, changesRoom}
 use Rattle.mend.specs.declared.Mended.{Mended}
 
--- "a chart whose header passes", with at most 64 events after mending
+-- "a chart whose header passes", with at most 256 events after mending
 pub record Mendable (image : List ℕ) : Type 0 where
   pub header : HeaderRight image
   pub few : eventCount (mendedImage image) ≤ maxEvents

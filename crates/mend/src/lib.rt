@@ -79,7 +79,7 @@ fn mend_nodes(image: &[u8], n: usize, k: usize, chart: &mut [u8], list: &mut [u8
 }
 
 // Mends the chart into one room and writes each change into the other, or refuses and writes nothing.
-// Cost: one walk over the nodes for the loops, some passes over the nodes, three over the relations. Stack: under 1 KiB.
+// Cost: one walk over the nodes for the loops, some passes over the nodes, three over the relations. Stack: about 2 KiB.
 pub fn mend(image: &[u8], chart: &mut [u8], list: &mut [u8]) -> Mended
     ensures { λ r. ⌜ (r ≡ mending (now (image .entry)) (length (now (chart .entry))) (length (now (list .entry)))) × (now (chart .exit) ≡ mendedRoom (now (image .entry)) (now (chart .entry)) (now (list .entry))) × (now (list .exit) ≡ changesRoom (now (image .entry)) (now (chart .entry)) (now (list .entry))) ⌝ }
 {

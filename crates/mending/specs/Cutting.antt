@@ -10,34 +10,27 @@ use native.Mathlib.Omega.{arith}
 use lib.Dec.{eqb, ltb}
 use borrow.Author.Tests.{lt-ltb, le-ltb, ltb-true, ltb-false, ne-eqb, eqb-true, eqb-false, not-true}
 use Rattle.paper.specs.Limits.{noParent}
-use Rattle.general.specs.Cases.{contra, cases, both, all3, not-so}
+use Rattle.general.specs.Cases.{contra, cases, both, not-so}
 use Rattle.general.specs.Below.{some, some-of, some-none, first, first-is, Lowest, lowest-one}
 use Rattle.general.specs.Lists.{flat}
 use Rattle.general.specs.Scan.{ltb-more}
 use Rattle.closure.specs.Closure.{Way, hop, via, join}
-use Rattle.records.specs.Image.{nodes, parentOf}
+use Rattle.records.specs.Image.{nodes}
 use Rattle.nesting.specs.Nesting.{parent, nested, Nested, OnLoop, onLoopAt, nested-so}
+use Rattle.nesting.specs.Climbing.{parent-is}
+use Rattle.nesting.specs.Loops.{loop-back, loop-on, left-was, left-whole, whole-left}
+use Rattle.nesting.specs.Ahead.{one-parent}
 use Rattle.mending.specs.Records.{Records, count, nodeIn, chartImage}
 use Rattle.mending.specs.Mending.{alter, cutBy, cutAt, Cuts, done, cut, lowestOfLoop, loopMended, step3}
 use Rattle.mending.specs.Images.{image-nodes}
 use Rattle.mending.specs.Altering.{alter-count, alter-node, alter-same, alter-none, alter-twice, parent-of}
-use Rattle.mending.specs.Loops.{loop-back, loop-on, left-was, left-whole, whole-left}
 
 -- ---- the parents of an image
 
-pub parent-parts : (s : List ℕ) (a b : ℕ) → parent s a b ≡ true → (a < nodes s) × (b < nodes s) × (parentOf s a ≡ b)
-unfolding parent
-parent-parts s a b e =
-    let t = all3 (ltb a (nodes s)) (ltb b (nodes s)) (eqb (parentOf s a) b) e in
-    (ltb-true a (nodes s) (t .0), ltb-true b (nodes s) (t .1), eqb-true (parentOf s a) b (t .2))
-
-pub one-parent : (s : List ℕ) (a b c : ℕ) → parent s a b ≡ true → parent s a c ≡ true → b ≡ c
-one-parent s a b c e f = sym (parent-parts s a b e .2) ∙ parent-parts s a c f .2
-
 -- a way starts at a node
 pub start-in : (s : List ℕ) {a b : ℕ} → Way (parent s) a b → a < nodes s
-start-in s (hop {a} {b} e) = parent-parts s a b e .0
-start-in s (via {a} {c} e w) = parent-parts s a c e .0
+start-in s (hop {a} {b} e) = parent-is s a b e .0
+start-in s (via {a} {c} e w) = parent-is s a c e .0
 
 -- the lowest of its loop
 pub record LowestOfLoop (s : List ℕ) (i : ℕ) : Type 0 where

@@ -5,7 +5,6 @@ pub mod OfImage
 pub mod Images
 pub mod Altering
 pub mod StepByStep
-pub mod Loops
 pub mod Cutting
 pub mod Sound
 pub mod Undoing

@@ -17,12 +17,13 @@ use Rattle.closure.specs.Closure.{Way, hop, via}
 use Rattle.wire.specs.Wire.{bytes16}
 use Rattle.records.specs.Image.{nodes, relations, nodeAt, relationAt, parentOf, flagsOf, fromOf, toOf, kindOf, badRelationAt, Whole}
 use Rattle.nesting.specs.Nesting.{parent, nested, onLoopAt, isGroup, eventCount, nested-so}
+use Rattle.nesting.specs.Climbing.{parent-is}
 use Rattle.mending.specs.Records.{Relation, Records, count, relationCount, nodeIn, relationIn, noNode, noRelation, nodeFrom, relationFrom, recordsOf, nodeBytes, relationBytes, chartImage}
 use Rattle.mending.specs.Mending.{Change, changeBytes, alter, differs, alterationAt, alterations, missing, parentMended, stateFlags, knownFlags, flagsMended, cutBy, lowestOfLoop}
 use Rattle.mending.specs.Mending.{loopMended, groupMended, badNumber, keptAt, droppedAt, step5, drops, parentsMended, nodesKnown, loopsMended, groupsMended, mended, changes}
 use Rattle.mending.specs.Images.{image-nodes, image-length}
 use Rattle.mending.specs.Altering.{alter-node, counted1, counted2, counted3, counted4, kept-count, parents-stay, nodes-stay, parent-of, lowest-same, group-same}
-use Rattle.mending.specs.Cutting.{parent-parts, parents-cut}
+use Rattle.mending.specs.Cutting.{parents-cut}
 use Rattle.mending.specs.OfImage.{missingAt, existingParent, unknownAt, lastParent, groupLeft, flaggedAt, lastFlags, node, nodePart, relationPart, relationsLeft}
 use Rattle.mending.specs.OfImage.{mendedRuns, entryAt1, entryAt2, entryAt3, entryAt4, entryAt5, entries}
 
@@ -32,8 +33,8 @@ unfolding lowestOfLoop onLoopAt
 lowest-has s i h = go (nested-so s i i .0 (both (nested s i i) _ h .0))
   where
     go : {a b : ℕ} → Way (parent s) a b → parentOf s a < nodes s
-    go (hop {a} {b} e) = let t = parent-parts s a b e in let q = t .2 in let l = t .1 in omega arith
-    go (via {a} {c} {b} e w) = let t = parent-parts s a c e in let q = t .2 in let l = t .1 in omega arith
+    go (hop {a} {b} e) = let t = parent-is s a b e in let q = t .2 in let l = t .1 in omega arith
+    go (via {a} {c} {b} e w) = let t = parent-is s a c e in let q = t .2 in let l = t .1 in omega arith
 
 module _ (s : List ℕ) {n k : ℕ} (w : Whole s n k) where
   abbrev r0 : Records

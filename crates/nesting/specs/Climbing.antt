@@ -11,12 +11,10 @@ use lib.Dec.{eqb, ltb}
 use borrow.Author.Tests.{lt-ltb, le-ltb, ltb-true, ltb-false, eq-eqb, ne-eqb, eqb-true, eqb-false, not-true, not-false}
 use Rattle.paper.specs.Limits.{maxNodes}
 use Rattle.general.specs.Cases.{contra, cases, both, all3, either, or-right, not-so, same-test}
-use Rattle.general.specs.Below.{some, some-of, some-none, first, first-is, first-same, first-none, tally, tally-less}
+use Rattle.general.specs.Below.{some, some-of, some-none, first, first-is, first-none, tally, tally-less}
 use Rattle.closure.specs.Closure.{Way, hop, via, trans, wider}
-use Rattle.closure.specs.BitRows.{bit}
 use Rattle.records.specs.Image.{nodes, parentOf, Whole}
 use Rattle.nesting.specs.Nesting.{parent, nested, atOrAbove, onLoopAt, nested-so}
-use Rattle.nesting.specs.Tables.{rowWidth, Nestings}
 
 -- c is a node, and g is c or lies above it
 unfoldable pub fromUp : List ℕ → ℕ → ℕ → Bool
@@ -36,13 +34,13 @@ module _ (image : List ℕ) where
     top : {a : ℕ} → nodes image ≤ a → Free a
     up : {a : ℕ} → a < nodes image → Free (parentOf image a) → Free a
 
-  parent-is : (a b : ℕ) → parent image a b ≡ true → (a < nodes image) × (b < nodes image) × (parentOf image a ≡ b)
+  pub parent-is : (a b : ℕ) → parent image a b ≡ true → (a < nodes image) × (b < nodes image) × (parentOf image a ≡ b)
   unfolding parent
   parent-is a b e =
       let t = all3 (ltb a (nodes image)) (ltb b (nodes image)) (eqb (parentOf image a) b) e in
       (ltb-true a (nodes image) (t .0), ltb-true b (nodes image) (t .1), eqb-true (parentOf image a) b (t .2))
 
-  is-parent : (a p : ℕ) → a < nodes image → p < nodes image → p ≡ parentOf image a → parent image a p ≡ true
+  pub is-parent : (a p : ℕ) → a < nodes image → p < nodes image → p ≡ parentOf image a → parent image a p ≡ true
   unfolding parent
   is-parent a p h l q = rw (lt-ltb a (nodes image) h, lt-ltb p (nodes image) l, eq-eqb (parentOf image a) p (sym q))
 
@@ -61,7 +59,7 @@ module _ (image : List ℕ) where
   onward (via {a} {c} {b} e w) = let t = parent-is a c e in rw (t .2, lt-ltb c (nodes image) (t .1)) (or-right (eqb c b) (nested image c b) (nested-so image c b .1 w))
 
   -- what lies above a node is its parent, or lies above that
-  nested-step : (a g : ℕ) → a < nodes image → nested image a g ≡ fromUp image (parentOf image a) g
+  pub nested-step : (a g : ℕ) → a < nodes image → nested image a g ≡ fromUp image (parentOf image a) g
   unfolding fromUp atOrAbove
   nested-step a g h =
       let p : ℕ = parentOf image a in
@@ -241,12 +239,8 @@ walk-more {r} m t = m .on (not-false r t)
 pub walk-end : {image stamps : List ℕ} {n a : ℕ} → Stamps image n a stamps → n ≤ a → true ≡ not (some n (onLoopAt image))
 walk-end {image} {n} m h = rw (some-none n (onLoopAt image) (λ x i. free-straight image x (m .free x i (m .done x (omega arith)))))
 
--- no loop, or the lowest node whose row has itself
+-- no loop, and so no lowest node on one
 pub lowest-none : (image : List ℕ) (n : ℕ) {r : Bool} → r ≡ not (some n (onLoopAt image)) → r ≡ true → n ≡ first n (onLoopAt image)
 lowest-none image n e t =
     let no = not-true (some n (onLoopAt image)) (sym e ∙ t) in
     first-none n (onLoopAt image) (λ x h. not-so (λ o. contra (some-of n (onLoopAt image) x h o) no))
-
-pub lowest-is : {image rows : List ℕ} {n r : ℕ} → Nestings image n rows → r ≡ first n (λ a. bit rows rowWidth a a) → r ≡ first n (onLoopAt image)
-unfolding onLoopAt
-lowest-is {image} {rows} {n} m e = e ∙ first-same n (λ a. bit rows rowWidth a a) (onLoopAt image) (λ a h. m .each a a h h)

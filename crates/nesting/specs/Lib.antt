@@ -2,3 +2,5 @@
 pub mod Nesting
 pub mod Tables
 pub mod Climbing
+pub mod Loops
+pub mod Ahead

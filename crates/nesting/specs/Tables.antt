@@ -1,24 +1,21 @@
--- What the tables hold that the reader fills on its way: the groups, the events' nodes, the rows of parents and of all that lies above. Assumes nothing.
-use Prim.Native.Nat.{ℕ, _+_, _*_, _≤_, _<_}
-use mathlib.Core.Path.{_≡_, refl, sym, ap, _∙_}
-use mathlib.Core.Bool.{Bool, true, false, not, cond, _&&_, _||_, and-false, or-false}
+-- What the tables hold that the reader fills on its way: the groups and the events' nodes. Assumes nothing.
+use Prim.Native.Nat.{ℕ, _+_, _≤_, _<_}
+use mathlib.Core.Path.{_≡_, refl, sym, _∙_}
+use mathlib.Core.Bool.{Bool, true, false, not, cond, _&&_, _||_, or-false}
 use mathlib.Core.List.{List}
 use native.Mathlib.Numerals.{add-one}
 use native.Mathlib.Omega.{arith}
 use lib.ListN.{length, getD, set, replicate, length-set, length-replicate, getD-replicate}
 use lib.Seq.{getD-set-same, getD-set-other}
 use lib.Dec.{eqb, ltb}
-use borrow.Author.Tests.{lt-ltb, le-ltb, ltb-true, ltb-false, eq-eqb, ne-eqb, eqb-true, eqb-false, not-true, not-false}
+use borrow.Author.Tests.{lt-ltb, le-ltb, ltb-true, ltb-false, ne-eqb, eqb-true, eqb-false, not-true, not-false}
 use Rattle.paper.specs.Limits.{maxNodes, maxEvents}
 use Rattle.general.specs.Cases.{contra, cases, lt-suc}
 use Rattle.general.specs.Below.{some, some-step, tally}
-use Rattle.closure.specs.Closure.{within, within-same}
-use Rattle.closure.specs.BitRows.{bit, putBit, closed}
-use Rattle.closure.specs.Reached.{put-bit, bit-zeros, length-putBit, length-closed, closed-bit}
-use Rattle.general.specs.Scan.{at-end, ltb-more}
+use Rattle.general.specs.Scan.{at-end}
 use Rattle.general.specs.Numbering.{tally-lt}
 use Rattle.records.specs.Image.{nodes, parentOf, stateOf, Whole}
-use Rattle.nesting.specs.Nesting.{parent, nested}
+use Rattle.nesting.specs.Nesting.{parent}
 
 -- ---- which nodes are groups
 
@@ -113,69 +110,3 @@ numbered-more {groups} {nodes} {next} {n} {i} {e} m q h l p =
 
 pub numbered-end : {groups : List Bool} {nodes : List ℕ} {n i : ℕ} → i ≤ n → n ≤ i → EventNodes groups i nodes → EventNodes groups n nodes
 numbered-end {groups} {nodes} = at-end (λ (i : ℕ). EventNodes groups i nodes)
-
--- ---- rows: who lies above whom
-
--- two words a node
-abbrev pub rowWidth : ℕ
-rowWidth = 2
-
-unfoldable pub linkAt : List ℕ → ℕ → ℕ → ℕ → List ℕ
-linkAt rows n a p = cond (ltb p n) (putBit rows rowWidth a p) rows
-
-pub link-on : (rows next : List ℕ) (n a p : ℕ) → p < n → next ≡ putBit rows rowWidth a p → next ≡ linkAt rows n a p
-unfolding linkAt
-link-on rows next n a p h e = rw (e, lt-ltb p n h)
-
-pub link-off : (rows : List ℕ) (n a p : ℕ) → n ≤ p → rows ≡ linkAt rows n a p
-unfolding linkAt
-link-off rows n a p h = rw (le-ltb p n h)
-
--- the rows of the first a nodes have their parents
-pub record Parents (image : List ℕ) (n a : ℕ) (rows : List ℕ) : Type 0 where
-  pub size : length rows ≡ maxNodes * rowWidth
-  pub each : (x y : ℕ) → x < n → y < n → bit rows rowWidth x y ≡ (ltb x a && parent image x y)
-
-pub parents-none : (image : List ℕ) (n : ℕ) → Parents image n 0 (replicate (maxNodes * rowWidth) 0)
-parents-none image n =
-    record { size = length-replicate {A = ℕ} (maxNodes * rowWidth) 0; each = λ x y h l. bit-zeros (maxNodes * rowWidth) rowWidth x y ∙ rw (le-ltb x 0 (omega arith)) }
-
-pub parents-more : {image rows next : List ℕ} {n k a p : ℕ} → Whole image n k → Parents image n a rows → a < n
-    → p ≡ parentOf image a → next ≡ linkAt rows n a p → Parents image n (a + 1) next
-unfolding linkAt
-parents-more {image} {rows} {next} {n} {k} {a} {p} w m h q e =
-    rw e (record {
-      size = cases (ltb p n) (λ t. rw t (length-putBit rows rowWidth a p ∙ m .size)) (λ t. rw t (m .size));
-      each = λ x y i j.
-          let f = w .few in
-          let old = m .each x y i j in
-          let new : bit (cond (ltb p n) (putBit rows rowWidth a p) rows) rowWidth x y ≡ (bit rows rowWidth x y || (eqb a x && eqb p y)) =
-          cases (ltb p n)
-          (λ t. rw t (let o = ltb-true p n t in let s = m .size in put-bit rows rowWidth a p x y (omega arith) (omega arith) (omega arith)))
-          (λ t. rw (t, ne-eqb p y (λ z. let o = ltb-false p n t in omega arith), and-false (eqb a x)) (sym (or-false (bit rows rowWidth x y)))) in
-          new
-          ∙ rw old (cases (eqb a x)
-          (λ t. let z = eqb-true a x t in rw (t, ← z, le-ltb a a (omega arith), lt-ltb a (a + 1) (omega arith)) (sym (parent-of image n a y p (w .nodes) q h j)))
-          (λ t. rw (t, ltb-more x a (λ z. contra (eq-eqb a x (sym z)) t)) (or-false (ltb x a && parent image x y))));
-    })
-
-pub parents-end : {image rows : List ℕ} {n a : ℕ} → a ≤ n → n ≤ a → Parents image n a rows → Parents image n n rows
-parents-end {image} {rows} {n} = at-end (λ (a : ℕ). Parents image n a rows)
-
--- each row has all that lies above its node
-pub record Nestings (image : List ℕ) (n : ℕ) (rows : List ℕ) : Type 0 where
-  pub size : length rows ≡ maxNodes * rowWidth
-  pub each : (a b : ℕ) → a < n → b < n → bit rows rowWidth a b ≡ nested image a b
-
-pub nestings-closed : {image rows next : List ℕ} {n k : ℕ} → Whole image n k → Parents image n n rows → next ≡ closed n rowWidth rows → Nestings image n next
-unfolding nested
-nestings-closed {image} {rows} {next} {n} {k} w m e =
-    let s = m .size in
-    let f = w .few in
-    rw e (record {
-      size = length-closed n rowWidth rows ∙ s;
-      each = λ a b h l.
-          closed-bit n rowWidth rows (omega arith) (omega arith) a b h (omega arith)
-          ∙ within-same (bit rows rowWidth) (parent image) n (λ x y i j. m .each x y i j ∙ rw (lt-ltb x n i)) n a b (omega arith) h l
-          ∙ ap (λ (m : ℕ). within (parent image) m a b) (w .nodes);
-    })

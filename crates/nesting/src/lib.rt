@@ -1,21 +1,16 @@
 // Parents, groups and events: who lies above whom, which nodes are events, and what numbers they get.
 ghost use mathlib.Core.Path.{_≡_};
 ghost use mathlib.Core.Bool.{true, false, not, cond};
-ghost use Prim.Native.Nat.{_+_, _*_, _≤_, _<_};
+ghost use Prim.Native.Nat.{_+_, _≤_, _<_};
 ghost use lib.ListN.{length, set};
 ghost use Rattle.paper.specs.Limits.{maxNodes, maxEvents, nodeSize};
 ghost use Rattle.general.specs.Below.{some, first, tally};
 ghost use Rattle.records.specs.Image.{nodes, nodeAt, Whole};
 ghost use Rattle.nesting.specs.Nesting.{onLoopAt};
 ghost use Rattle.nesting.specs.Climbing.{Climbed, Stamps};
-ghost use Rattle.nesting.specs.Tables.{markAt, Groups, EventNodes, isEventIn, flaggedIn, linkAt, Parents, Nestings};
+ghost use Rattle.nesting.specs.Tables.{markAt, Groups, EventNodes, isEventIn, flaggedIn};
 use paper::MAX_EVENTS;
 use paper::MAX_NODES;
-
-// Two words a node, a bit for each node above it.
-pub const WIDTH: usize = 2;
-
-pub const ROWS: usize = MAX_NODES * WIDTH;
 
 fn mark(groups: &mut [bool; MAX_NODES], n: usize, p: usize)
     requires { ⌜ n ≤ maxNodes ⌝ }
@@ -94,37 +89,6 @@ pub fn event_nodes(groups: &[bool; MAX_NODES], n: usize) -> [usize; MAX_EVENTS]
     nodes
 }
 
-fn link(rows: &mut [u64; ROWS], n: usize, a: usize, parent: usize)
-    requires { ⌜ (n ≤ maxNodes) × (a < n) ⌝ }
-    ensures { λ _. ⌜ now (rows .exit) ≡ linkAt (now (rows .entry)) n a parent ⌝ }
-{
-    if parent < n {
-        closure::put_bit(rows, WIDTH, a, parent);
-    }
-}
-
-// Row a has the parent of node a.
-fn parents_of(image: &[u8], n: usize, k: usize) -> [u64; ROWS]
-    requires { ⌜ Whole (now image) n k ⌝ }
-    ensures { λ r. ⌜ Parents (now (image .entry)) n n r ⌝ }
-{
-    let mut rows = [0u64; ROWS];
-    for a in 0..n {
-        link(&mut rows, n, a, records::parent_of(image, a) as usize);
-    }
-    rows
-}
-
-// Row a has every node above node a.
-pub fn nesting_of(image: &[u8], n: usize, k: usize) -> [u64; ROWS]
-    requires { ⌜ Whole (now image) n k ⌝ }
-    ensures { λ r. ⌜ Nestings (now (image .entry)) n r ⌝ }
-{
-    let mut rows = parents_of(image, n, k);
-    closure::close(&mut rows, n, WIDTH);
-    rows
-}
-
 // Stamps the nodes from a upwards that have no stamp yet; whether that ends above a root or at an older stamp, and not at its own.
 fn climb(image: &[u8], n: usize, k: usize, stamps: &mut [u16; MAX_NODES], a: usize) -> bool
     requires { ⌜ Whole (now image) n k × (a < n) × Stamps (now image) n a (now stamps) ⌝ }
@@ -156,7 +120,25 @@ fn all_free(image: &[u8], n: usize, k: usize) -> bool
     true
 }
 
-// The lowest node on a loop of parents, or n. The closure over all pairs of nodes is made only for a chart that is refused.
+// Whether climbing from a comes back to a: what is not back after n nodes never is.
+fn returns(image: &[u8], n: usize, k: usize, a: usize) -> bool
+    requires { ⌜ Whole (now image) n k × (a < n) ⌝ }
+    ensures { λ r. ⌜ r ≡ onLoopAt (now (image .entry)) a ⌝ }
+{
+    let mut c = records::parent_of(image, a) as usize;
+    for passed in 0..n {
+        if c == a {
+            return true;
+        }
+        if n <= c {
+            return false;
+        }
+        c = records::parent_of(image, c) as usize;
+    }
+    false
+}
+
+// The lowest node on a loop of parents, or n. Each node is climbed from by itself only in a chart that is refused.
 pub fn lowest_on_loop(image: &[u8], n: usize, k: usize) -> usize
     requires { ⌜ Whole (now image) n k ⌝ }
     ensures { λ r. ⌜ r ≡ first n (onLoopAt (now (image .entry))) ⌝ }
@@ -164,6 +146,10 @@ pub fn lowest_on_loop(image: &[u8], n: usize, k: usize) -> usize
     if all_free(image, n, k) {
         return n;
     }
-    let rows = nesting_of(image, n, k);
-    closure::lowest_on_diagonal(&rows, n, WIDTH)
+    for node in 0..n {
+        if returns(image, n, k, node) {
+            return node;
+        }
+    }
+    n
 }

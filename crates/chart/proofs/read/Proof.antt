@@ -1,5 +1,8 @@
 -- `chart::read` meets its contract. Assumes nothing.
-use Rattle.chart.proofs.Returns.{counts-are, whole-is, read-short, read-range, read-misplaced, read-on}
+use mathlib.Core.Path.{refl, ap}
+use Rattle.paper.specs.declared.Answer.{Answer}
+use Rattle.wide.specs.Number.{rows-none}
+use Rattle.chart.proofs.Returns.{reading-is}
 use borrow.Author.Needs.{needs}
 use Rattle.chart.proofs.read.Statement.{statement}
 use Rattle.chart.proofs.read.Tie as tie
@@ -9,16 +12,5 @@ read-spec =
     tie.close
     (tie.spec
     (λ c κs. search needs)
-    (λ c. read-short _ (c .refuse .ensures) (c .before .if1 .taken))
-    (λ c κs. search needs) (λ c κs. search needs) (λ c κs. search needs) (λ c κs. search needs)
-    (λ c. read-range _ (c .before .before .before .before .before .if1 .left) (c .before .before .out-of-range .ensures) (c .refuse2 .ensures) (c .before .if2 .taken))
-    (λ c κs. let h = counts-are (c .before .before .before .node-count .ensures) (c .before .before .relation-count .ensures) (c .before .out-of-range .ensures) (c .if2 .left) in
-    (search needs, search needs, search needs, h .few, h .fewRelations))
-    (λ c κs. search needs)
-    (λ c. read-misplaced _ (c .before .before .before .before .before .before .before .if1 .left) (c .before .before .before .before .out-of-range .ensures)
-    (c .before .before .before .if2 .left) (c .before .before .misplaced .ensures) (c .refuse3 .ensures) (c .before .if3 .taken))
-    (λ c κs. whole-is
-    (counts-are (c .before .before .before .before .before .node-count .ensures) (c .before .before .before .before .relation-count .ensures)
-    (c .before .before .before .out-of-range .ensures) (c .before .before .if2 .left)) (c .before .misplaced .ensures) (c .if3 .left))
-    (λ c. read-on _ (c .before .before .before .before .before .before .before .if1 .left) (c .before .before .before .before .out-of-range .ensures)
-    (c .before .before .before .if2 .left) (c .before .before .misplaced .ensures) (c .before .if3 .left) (c .read-nodes .ensures)))
+    (λ c κs. (ap (λ (a : Answer). a .code) (c .before .before .before .before .before .before .judge .ensures), rows-none, rows-none, rows-none, rows-none, rows-none, refl))
+    (λ c. reading-is _ (c .before .before .before .before .before .before .before .before .judge .ensures) (c .before .put-chart .ensures .0) (c .before .put-chart .ensures .1)))

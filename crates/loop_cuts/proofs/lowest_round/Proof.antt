@@ -1,5 +1,6 @@
 -- `loop_cuts::lowest_round` meets its contract: each turn is one node nearer to the node met. Assumes nothing.
-use Rattle.loop_cuts.specs.Round.{Round, ahead, loop-room, round-start, round-on, round-more, round-less, round-end}
+use Rattle.nesting.specs.Ahead.{ahead}
+use Rattle.loop_cuts.specs.Round.{Round, loop-room, round-start, round-on, round-more, round-less, round-end}
 use mathlib.Core.Logic.{inl, inr, ⊎-elim}
 use native.Mathlib.Omega.{arith}
 use borrow.Author.Needs.{needs}
