@@ -1,6 +1,6 @@
 -- A `Snapshot`'s relation to a machine value is its one field's: what a walk needs to take the field out of the struct and to put another in.
---     marks-of     of what the struct owns at its lowered value: the marks are an array of 256, at their machine value
---     marks-in     an array of 256 at the machine value w makes a `Snapshot` at the struct of w
+--     marks-of     of what the struct owns at its lowered value: the marks are an array of `maxMarks`, at their machine value
+--     marks-in     an array of `maxMarks` at the machine value w makes a `Snapshot` at the struct of w
 -- A struct's row has an array field under `map (λ x. x)`, so each goes by `map-id`.
 -- Assumes nothing.
 use mathlib.Core.Path.{refl, sym, subst}
@@ -12,12 +12,13 @@ use denote.Laws.{Is}
 use denote.Builtin.{bool}
 use denote.Array.{Array, arrayVal}
 use denote.Struct.Laws as LL
+use Rattle.paper.specs.Limits.{maxMarks}
 use Rattle.book.specs.declared.Snapshot.{Snapshot}
 use Rattle.book.proofs.Snapshot as T
 use Rattle.book.proofs.Snapshot.Laws as T′
 
 abbrev pub Marks : RattleType
-Marks = Array bool 256
+Marks = Array bool maxMarks
 
 abbrev pub marks-val : List Bool → Val
 marks-val l = arrayVal (map vbool l)

@@ -18,7 +18,7 @@ use Rattle.book.specs.declared.Counts.{Counts}
 abbrev pub countsOf : List ℕ → Counts
 countsOf s = record { stages = stagesIn s; marks = marksIn s; rules = rulesIn s; conditions = conditionsIn s; words = wordsIn s }
 
--- "stages S (0 to 64), marks M (S to 256), rules R (0 to 8,384), conditions Q (0 to 256), words W (0 to 41,024)"
+-- "stages S (0 to 256), marks M (S to 1,024), rules R (0 to 131,840), conditions Q (0 to 1,024), words W (0 to 655,616)"
 unfoldable pub countsFit : Counts → Bool
 countsFit h =
     leb (h .stages) maxEvents && leb (h .stages) (h .marks) && leb (h .marks) maxMarks && leb (h .rules) maxRules

@@ -22,7 +22,7 @@ use Rattle.book.specs.declared.Counts.{Counts}
 
 -- ---- the header
 
--- "stages S (0 to 64), marks M (S to 256), rules R (0 to 8,384), conditions Q (0 to 256), words W (0 to 41,024)"
+-- "stages S (0 to 256), marks M (S to 1,024), rules R (0 to 131,840), conditions Q (0 to 1,024), words W (0 to 655,616)"
 pub record Counted (h : Counts) : Type 0 where
   pub stages : h .stages ≤ maxEvents
   pub least : h .stages ≤ h .marks

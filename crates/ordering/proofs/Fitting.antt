@@ -52,19 +52,19 @@ module _ (s : List ℕ) (stage : ℕ) (order : List ℕ) where
         rw z (sym (and-false (eqb (length order) (countedRules (rulesOf s stage)))))
 
     -- an entry that is no rule
-    pub fitting-past : (n r : ℕ) → n ≡ rulesIn s → j < length order → r ≡ getD order j 0 → n ≤ r → false ≡ fitPass (rulesOf s stage) order
+    pub fitting-past : (counted n r : ℕ) → length order ≡ counted → j < counted → n ≡ rulesIn s → r ≡ getD order j 0 → n ≤ r → false ≡ fitPass (rulesOf s stage) order
     unfolding fine
-    fitting-past n r e h q l = stops h (rw (← q, le-ltb r (rulesOf s stage .count) (past-count s stage n r e l)))
+    fitting-past counted n r z h e q l = stops (omega arith) (rw (← q, le-ltb r (rulesOf s stage .count) (past-count s stage n r e l)))
 
     -- what the code tests is "ready"
     as-tested : (g : WellFormed s) (r : ℕ) (b : Bool) → b ≡ mayStand (bookOf s) (flagged written) waits r → b ≡ ready (rulesOf s stage) (flagged written) r
     as-tested g r b e = e ∙ stand-ready s stage (flagged written) waits r g (f .skips) (f .counters .rest)
 
     -- an entry that may not stand next
-    pub fitting-unready : (r : ℕ) (b : Bool) → WellFormed s → j < length order → r ≡ getD order j 0 → b ≡ mayStand (bookOf s) (flagged written) waits r → not b ≡ true
+    pub fitting-unready : (counted r : ℕ) (b : Bool) → length order ≡ counted → j < counted → WellFormed s → r ≡ getD order j 0 → b ≡ mayStand (bookOf s) (flagged written) waits r → not b ≡ true
         → false ≡ fitPass (rulesOf s stage) order
     unfolding fine
-    fitting-unready r b g h q e t = stops h (rw (← q, ← as-tested g r b e, not-true b t) (and-false (ltb r (rulesOf s stage .count))))
+    fitting-unready counted r b z h g q e t = stops (omega arith) (rw (← q, ← as-tested g r b e, not-true b t) (and-false (ltb r (rulesOf s stage .count))))
 
     pub fitting-last : (n : ℕ) → n ≡ countedRules (rulesOf s stage) → length order ≡ n → n ≤ j → true ≡ fitPass (rulesOf s stage) order
     unfolding fitPass
@@ -87,10 +87,11 @@ module _ (s : List ℕ) (stage : ℕ) (order : List ℕ) where
         p : t ≡ rulesOf s stage .target r
         p = target-in s stage r t p′
 
-        pub fitting-more : (counts′ waits′ written′ : List ℕ) (done : Bool) → j < length order → r ≡ getD order j 0 → written′ ≡ marked written r → Struck t counts waits counts′ waits′ done
+        pub fitting-more : (counted : ℕ) (counts′ waits′ written′ : List ℕ) (done : Bool) → length order ≡ counted → j < counted → r ≡ getD order j 0 → written′ ≡ marked written r → Struck t counts waits counts′ waits′ done
             → Fitting s stage order written′ counts′ waits′ (j + 1)
         unfolding fine
-        fitting-more counts′ waits′ written′ done h q m a =
+        fitting-more counted counts′ waits′ written′ done x′ h′ q m a =
+            let h : j < length order = omega arith in
             let z : r / wordBits < length written = (let u = f .size in let v = rules-few s g in omega arith) in
             let w : fine (rulesOf s stage) (flagged written) (getD order j 0) ≡ true = rw (← q, lt-ltb r (rulesOf s stage .count) (below-count s stage n r e i), is-next) in
             rw m (record {

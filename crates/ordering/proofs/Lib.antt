@@ -2,3 +2,4 @@
 pub mod Fitting
 pub mod Stepping
 pub mod Listing
+pub mod Through

@@ -1,7 +1,7 @@
 -- The running order in the room, entry by entry, as `running_order` writes it. Assumes nothing.
 use mathlib.Core.Path.{_≡_, refl, sym, ap, _∙_}
 use mathlib.Core.List.{List, [], _∷_, _++_, append-assoc}
-use Prim.Native.Nat.{ℕ, suc, _+_, _≤_, _<_}
+use Prim.Native.Nat.{ℕ, suc, _+_, _^_, _≤_, _<_}
 use native.Mathlib.Numerals.{add-one}
 use native.Mathlib.Omega.{arith}
 use lib.ListN.{length, getD, set, take, drop, length-append, length-drop}
@@ -10,9 +10,9 @@ use borrow.Author.Tests.{le-leb, lt-leb}
 use Rattle.paper.specs.Limits.{maxMarks, maxRules}
 use Rattle.book.specs.Image.{rulesIn}
 use Rattle.book.specs.WellFormed.{WellFormed}
-use Rattle.order_theory.specs.Order.{NoLoop, countedRules}
+use Rattle.order_theory.specs.Order.{NoLoop, countedRules, counted-few}
 use Rattle.order_theory.specs.Running.{runningOrder, running-length}
-use Rattle.rule_order.specs.Nets.{rulesOf, targets-small, rules-few}
+use Rattle.rule_order.specs.Nets.{rulesOf, targets-small, rules-few, few-count}
 use Rattle.unwritten.specs.Counters.{Begun}
 use Rattle.ordering.specs.Scanning.{Scanned, Turn, orderedRoom, scanned-first, order-few}
 
@@ -21,6 +21,7 @@ pub record Listed (s : List ℕ) (stage : ℕ) (lent room : List ℕ) (counted a
   pub scanned : Scanned s stage j at passed counts waits written
   pub many : counted ≡ countedRules (rulesOf s stage)
   pub whole : length (runningOrder (rulesOf s stage)) ≡ counted
+  pub few : counted ≤ maxRules
   pub fits : counted ≤ length lent
   pub holds : room ≡ take j (runningOrder (rulesOf s stage)) ++ drop j lent
 
@@ -37,6 +38,7 @@ module _ (s : List ℕ) (stage : ℕ) (lent : List ℕ) (counted : ℕ) where
         scanned = scanned-first s stage passed counts waits written b;
         many = e;
         whole = running-length (rulesOf s stage) maxMarks (targets-small s stage g) n ∙ sym e;
+        few = omega (arith, counted-few (rulesOf s stage), few-count s stage g);
         fits = h;
         holds = refl;
       }
@@ -64,8 +66,11 @@ module _ (s : List ℕ) (stage : ℕ) (lent : List ℕ) (counted : ℕ) where
       is-there : rule ≡ getD (runningOrder (rulesOf s stage)) j (rulesIn s)
       is-there = t .finds stage j (l .scanned) .next
 
-      pub listed-small : WellFormed s → rule ≤ maxRules
+      pub listed-small : WellFormed s → rule < 2 ^ 32
       listed-small g = omega (arith, is-there, order-few s stage j, rules-few s g)
+
+      pub listed-room : j < counted → j < length room
+      listed-room h = let f = l .fits in omega (arith, listed-length)
 
       -- one entry more
       pub listed-more : j < counted → Listed s stage lent (set room j rule) counted to over counts′ waits′ written′ (j + 1)
@@ -76,6 +81,7 @@ module _ (s : List ℕ) (stage : ℕ) (lent : List ℕ) (counted : ℕ) where
             scanned = t .finds stage j (l .scanned) .goes (omega arith);
             many = l .many;
             whole = w;
+            few = l .few;
             fits = f;
             holds = ap (λ (k : List ℕ). set k j rule) (l .holds ∙ ap (λ (k : List ℕ). take j (runningOrder (rulesOf s stage)) ++ k) (drop-cons lent j 0 (omega arith)))
                 ∙ set-at (take j (runningOrder (rulesOf s stage))) (getD lent j 0) (drop (suc j) lent) rule j front

@@ -8,7 +8,7 @@ use lib.Dec.{eqb, ltb}
 use lib.ListN.{length, getD, drop, length-set, length-drop}
 use lib.Seq.{getD-drop, drop-drop}
 use borrow.Author.Tests.{eqb-true, eqb-false, ltb-true, ltb-false}
-use Rattle.paper.specs.Limits.{maxMarks}
+use Rattle.paper.specs.Limits.{maxMarks, maxRules}
 use Rattle.general.specs.Cases.{cases, contra, both, neither, not-so}
 use Rattle.general.specs.Below.{first-found, first-none}
 use Rattle.book.specs.Book.{ruleOf}
@@ -22,9 +22,19 @@ use Rattle.order_theory.specs.Marks.{isSettled, ready-gone, next-on}
 use Rattle.order_theory.specs.Skipped.{Skips, skips-write}
 use Rattle.unwritten.specs.Words.{marked, flagged, flagged-set, Onward}
 use Rattle.rule_order.specs.Nets.{rulesOf, count-is, target-in, below-count, rules-few}
-use Rattle.unwritten.specs.Counters.{Struck, struck-on, struck-settled}
+use Rattle.rule_order.specs.Freed.{Freed, freed-shrunk}
+use Rattle.unwritten.specs.Counters.{Struck, struck-on, struck-settled, struck-shrunk}
 use Rattle.ordering.specs.Ready.{mayStand, stand-ready}
 use Rattle.ordering.specs.Scanning.{Scanned, Found, Turn, passing, order-past}
+
+pub below-most : (s : List ℕ) (rules at : ℕ) → WellFormed s → rules ≡ rulesIn s → at < rules → at < maxRules
+below-most s rules at g e h = omega (arith, rules-few s g)
+
+pub stands-so : (b x : Bool) → b ≡ x → b ≡ true → x ≡ true
+stands-so b x e t = sym e ∙ t
+
+pub freed-struck : (s : List ℕ) (t : ℕ) (counts waits counts′ waits′ free : List ℕ) (done : Bool) → Struck t counts waits counts′ waits′ done → Freed s waits free → Freed s waits′ free
+freed-struck s t counts waits counts′ waits′ free done k = freed-shrunk s waits waits′ free (struck-shrunk t counts waits counts′ waits′ done k)
 
 pub passing-kept : (passed at : ℕ) (written : Bool) → (written || ltb passed at) ≡ true → passed ≡ passing passed at written
 passing-kept passed at written e = rw e

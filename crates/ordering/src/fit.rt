@@ -6,8 +6,8 @@ ghost use Rattle.book.specs.Image.{rulesIn};
 ghost use Rattle.book.specs.WellFormed.{WellFormed};
 ghost use Rattle.order_theory.specs.Pass.{fitPass};
 ghost use Rattle.rule_order.specs.Nets.{rulesOf};
-ghost use Rattle.texts.specs.Noted.{References};
 use crate::ready::is_ready;
+use paper::MAX_CONDITIONS;
 use paper::MAX_MARKS;
 use texts::references::MARK_WORDS;
 use unwritten::waiting::count_targets;
@@ -17,7 +17,7 @@ use unwritten::written::RULE_WORDS;
 use unwritten::written::mark_written;
 
 // The rule that an order has at j.
-pub fn entry_of(order: &[u16], j: usize) -> usize
+pub fn entry_of(order: &[u32], j: usize) -> usize
     requires { ⌜ j < length (now order) ⌝ }
     ensures { λ r. ⌜ r ≡ getD (now (order .entry)) j 0 ⌝ }
 {
@@ -25,15 +25,21 @@ pub fn entry_of(order: &[u16], j: usize) -> usize
 }
 
 // Each entry is a counted rule that is ready where those before it are written, and there are as many as there are counted rules.
-// One pass over the rules and one over the order. Stack: about 2 KiB.
-pub fn order_fits(image: &[u8], rules: usize, stage: u32, refs: &[u64], order: &[u16]) -> bool
-    requires { ⌜ (WellFormed (now image)) × (rules ≡ rulesIn (now image)) × (References (now image) (now refs)) ⌝ }
+// One pass over the rules and one over the order. The four arrays are lent, whatever they hold.
+pub fn order_fits(
+    image: &[u8],
+    rules: usize,
+    stage: u32,
+    counts: &mut [u32; MAX_MARKS],
+    waits: &mut [u64; MARK_WORDS],
+    written: &mut [u64; RULE_WORDS],
+    free: &mut [u32; MAX_CONDITIONS],
+    order: &[u32],
+) -> bool
+    requires { ⌜ (WellFormed (now image)) × (rules ≡ rulesIn (now image)) ⌝ }
     ensures { λ r. ⌜ r ≡ fitPass (rulesOf (now (image .entry)) stage) (now (order .entry)) ⌝ }
 {
-    let mut counts = [0u16; MAX_MARKS];
-    let mut waits = [0u64; MARK_WORDS];
-    let mut written = [0u64; RULE_WORDS];
-    let counted = count_targets(image, rules, stage, &mut counts, &mut waits, &mut written);
+    let counted = count_targets(image, rules, stage, counts, waits, written, free);
     if order.len() != counted {
         return false;
     }
@@ -42,11 +48,11 @@ pub fn order_fits(image: &[u8], rules: usize, stage: u32, refs: &[u64], order: &
         if rules <= r {
             return false;
         }
-        if !is_ready(image, refs, &written, &waits, r) {
+        if !is_ready(image, free, written, waits, r) {
             return false;
         }
-        mark_written(&mut written, r);
-        strike(target_of(image, r), &mut counts, &mut waits);
+        mark_written(written, r);
+        strike(target_of(image, r), counts, waits);
     }
     true
 }

@@ -2,3 +2,4 @@
 pub mod Rules
 pub mod References
 pub mod Nets
+pub mod Freed

@@ -2,4 +2,4 @@
 pub mod Depths
 pub mod Returns
 pub mod Stacks
-pub mod Rows
+pub mod Naming

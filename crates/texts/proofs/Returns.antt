@@ -24,8 +24,8 @@ module _ (M W from : ℕ) (s : List ℕ) (at start count : ℕ) (p : start ≡ s
   unfolding conditionFits
   condition-text r h l e = rw (← q, ← p, le-leb 1 count h, le-leb (start + count) W l) e
 
-  pub condition-row : (rows : List ℕ) (c : ℕ) (after : List ℕ) → Added rows c (wordsFrom s (from + wordSize * start) count) after → Added rows c (recordWords s from at) after
-  condition-row rows c after a = rw (← q, ← p) a
+  pub condition-names : (named after : List ℕ) → Added named (wordsFrom s (from + wordSize * start) count) after → Added named (recordWords s from at) after
+  condition-names named after a = rw (← q, ← p) a
 
 -- the same in the places of an image of R rules and Q conditions
 module _ (R Q : ℕ) (s : List ℕ) (c from begin : ℕ) (p : begin ≡ rulePlace R) (q : from ≡ conditionPlace R Q) where
@@ -33,7 +33,7 @@ module _ (R Q : ℕ) (s : List ℕ) (c from begin : ℕ) (p : begin ≡ rulePlac
   condition-at M W t e = e ∙ ap (λ (x : ℕ). conditionFits M W x s (begin + conditionSize * c)) q
       ∙ ap (λ (x : ℕ). conditionFits M W (conditionPlace R Q) s (x + conditionSize * c)) p
 
-  pub row-at : (rows after : List ℕ) → Added rows c (recordWords s from (begin + conditionSize * c)) after → Added rows c (recordWords s (conditionPlace R Q) (conditionPlace R c)) after
-  row-at rows after a =
-      subst (λ (x : ℕ). Added rows c (recordWords s (conditionPlace R Q) (x + conditionSize * c)) after) p
-      (subst (λ (x : ℕ). Added rows c (recordWords s x (begin + conditionSize * c)) after) q a)
+  pub names-at : (named after : List ℕ) → Added named (recordWords s from (begin + conditionSize * c)) after → Added named (recordWords s (conditionPlace R Q) (conditionPlace R c)) after
+  names-at named after a =
+      subst (λ (x : ℕ). Added named (recordWords s (conditionPlace R Q) (x + conditionSize * c)) after) p
+      (subst (λ (x : ℕ). Added named (recordWords s x (begin + conditionSize * c)) after) q a)

@@ -1,26 +1,61 @@
 -- The flags of the written rules, as the code sets them and passes them. Assumes nothing.
 use mathlib.Core.Path.{_≡_, _∙_}
+use mathlib.Core.Bool.{Bool, true, false, not, _&&_, and-false}
 use mathlib.Core.List.{List}
-use Prim.Native.Nat.{ℕ, _+_, _*_, _/_, _%_}
+use Prim.Native.Nat.{ℕ, _+_, _*_, _/_, _%_, _^_, _≤_, _<_}
 use native.Mathlib.Omega.{arith}
+use lib.Dec.{ltb}
 use lib.ListN.{getD, set}
-use borrow.Author.Tests.{lt-ltb}
-use Rattle.sets.specs.Set.{union, only}
-use Rattle.sets.specs.Laws.{has-all}
+use borrow.Author.Tests.{lt-ltb, le-ltb, ltb-true, ltb-false}
+use Rattle.general.specs.Cases.{contra, cases}
+use Rattle.sets.specs.Set.{has, union, only, minus, allBelow, lowest}
+use Rattle.sets.specs.Laws.{has-all, has-minus, has-empty, minus-le, lowest-lt, lowest-has, lowest-least}
 use Rattle.book.specs.Marks.{wordBits}
 use Rattle.unwritten.specs.Words.{marked, Onward}
 
 pub marked-by : (row : List ℕ) (t one word : ℕ) → one ≡ only (t % wordBits) → word ≡ union (getD row (t / wordBits) 0) one → set row (t / wordBits) word ≡ marked row t
 marked-by row t one word o w = rw (w, o)
 
-pub onward-one : (l : List ℕ) (at : ℕ) → Onward l at (at + 1)
-onward-one l at = record { up = omega arith; between = λ p h k. absurd (omega arith) }
+-- ---- the next rule that is not written
 
--- the word of `at` has every flag set
-pub onward-full : (l : List ℕ) (at : ℕ) → getD l (at / wordBits) 0 ≡ 18446744073709551615 → Onward l at ((at / wordBits + 1) * wordBits)
-onward-full l at e = record {
-  up = omega arith;
-  between = λ p h k.
-      let q : p / wordBits ≡ at / wordBits = omega arith in
-      rw (q, e) (has-all wordBits (p % wordBits) ∙ lt-ltb (p % wordBits) wordBits (omega arith));
-}
+module _ (l : List ℕ) (at all free passed left : ℕ) (ha : all ≡ allBelow wordBits) (hf : free ≡ minus all (getD l (at / wordBits) 0)) (hp : passed ≡ allBelow (at % wordBits + 1))
+    (hl : left ≡ minus free passed) where
+  -- a bit of the word that is not left is set, if it lies above that of `at`
+  written-there : (q : ℕ) → at % wordBits < q → q < wordBits → has left q ≡ false → has (getD l (at / wordBits) 0) q ≡ true
+  written-there q h k n =
+      let e : has left q ≡ (has free q && not (has passed q)) = rw hl (has-minus free passed q) in
+      let p : has passed q ≡ false = rw hp (has-all (at % wordBits + 1) q ∙ le-ltb q (at % wordBits + 1) (omega arith)) in
+      let a : has all q ≡ true = rw ha (has-all wordBits q ∙ lt-ltb q wordBits k) in
+      let f : has free q ≡ (has all q && not (has (getD l (at / wordBits) 0) q)) = rw hf (has-minus all (getD l (at / wordBits) 0) q) in
+      cases (has (getD l (at / wordBits) 0) q) (λ x. x) (λ x. contra (e ∙ rw (p, f, a, x)) n)
+
+  pub onward-over : left ≡ 0 → Onward l at ((at / wordBits + 1) * wordBits)
+  onward-over z =
+      record {
+        up = omega arith;
+        between = λ p h k. let w : p / wordBits ≡ at / wordBits = omega arith in rw w (written-there (p % wordBits) (omega arith) (omega arith) (rw z (has-empty (p % wordBits))));
+      }
+
+  module _ (n : left ≡ 0 → ⊥) (low : ℕ) (ho : low ≡ lowest wordBits left) where
+    small : left < 2 ^ wordBits
+    small = omega (arith, minus-le free passed, minus-le all (getD l (at / wordBits) 0))
+
+    inside : low < wordBits
+    inside = rw ho (lowest-lt wordBits left (omega arith) small)
+
+    above : at % wordBits < low
+    above =
+        cases (ltb (at % wordBits) low) (ltb-true (at % wordBits) low)
+        (λ x. let k : low ≤ at % wordBits = ltb-false (at % wordBits) low x in
+        contra (rw (← ho) at (lowest-has wordBits left (rw (← ho) inside)))
+        (rw hl (has-minus free passed low ∙ rw (hp, has-all (at % wordBits + 1) low, lt-ltb low (at % wordBits + 1) (omega arith)) (and-false (has free low)))))
+
+    pub onward-next : Onward l at (at / wordBits * wordBits + low)
+    onward-next =
+        record {
+          up = omega (arith, above);
+          between = λ p h k. let i = inside in
+              let w : p / wordBits ≡ at / wordBits = omega arith in
+              let d : p % wordBits < low = omega arith in
+              rw w (written-there (p % wordBits) (omega arith) (omega arith) (lowest-least wordBits left (p % wordBits) (rw (← ho) d)));
+        }

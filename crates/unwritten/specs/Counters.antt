@@ -6,11 +6,11 @@ use mathlib.Core.List.{List}
 use Prim.Native.Nat.{ℕ, suc, _+_, _-_, _/_, _%_, _≤_, _<_}
 use native.Mathlib.Omega.{arith}
 use lib.Dec.{eqb, ltb, leb}
-use lib.ListN.{length, getD, set, length-set, replicate, getD-replicate}
-use lib.Seq.{getD-set-same, getD-set-other}
+use lib.ListN.{length, getD, set, length-set, replicate, length-replicate, getD-replicate}
+use lib.Seq.{getD-set-same, getD-set-other, set-out}
 use borrow.Author.Tests.{eqb-true, eqb-false, eq-eqb, ne-eqb, lt-ltb, le-ltb, ltb-true, ltb-false, le-leb, lt-leb}
 use Rattle.paper.specs.Limits.{maxMarks, maxRules}
-use Rattle.general.specs.Cases.{cases}
+use Rattle.general.specs.Cases.{cases, both}
 use Rattle.general.specs.Below.{tally, tally-step, tally-le}
 use Rattle.sets.specs.Set.{has, union, minus, only}
 use Rattle.sets.specs.Laws.{has-empty}
@@ -19,6 +19,7 @@ use Rattle.order_theory.specs.Order.{Net, Counted, countedRules}
 use Rattle.order_theory.specs.Written.{Written, write}
 use Rattle.order_theory.specs.Marks.{waiting, isSettled, waiting-first, waiting-less, waiting-other}
 use Rattle.order_theory.specs.Skipped.{skipped, skipped-waiting}
+use Rattle.rule_order.specs.Freed.{Shrunk}
 use Rattle.unwritten.specs.Words.{ruleWords, marked, unmarked, has-marked, has-unmarked, flagged, flagged-set, flagged-none}
 
 -- counts has for each mark how many counted and unwritten rules target it, and waits the marks of which there is one
@@ -57,9 +58,9 @@ module _ (N : Net) where
       record {
         within = omega arith;
         many = refl;
-        size = refl;
-        wide = refl;
-        flags = refl;
+        size = length-replicate {A = ℕ} maxMarks 0;
+        wide = length-replicate {A = ℕ} markWords 0;
+        flags = length-replicate {A = ℕ} ruleWords 0;
         each = λ m h. getD-replicate maxMarks m 0 0 h;
         rest = λ m h. ap (λ (x : ℕ). has x (m % wordBits)) (getD-replicate markWords (m / wordBits) 0 0 (omega arith)) ∙ has-empty (m % wordBits);
         skips = λ q. ap (λ (d : Written). d q) (flagged-none ruleWords) ∙ rw (le-ltb q 0 (omega arith));
@@ -177,6 +178,17 @@ struck-last t one word counts waits h o w =
 
 pub struck-more : (t : ℕ) (counts waits : List ℕ) → 1 < getD counts t 0 → Struck t counts waits (set counts t (getD counts t 0 - 1)) waits false
 struck-more t counts waits h = record { last = sym (lt-leb (getD counts t 0) 1 h); fewer = refl; kept = refl }
+
+-- the set has no mark that it had not
+pub struck-shrunk : (t : ℕ) (counts waits counts′ waits′ : List ℕ) (done : Bool) → Struck t counts waits counts′ waits′ done → Shrunk waits waits′
+struck-shrunk t counts waits counts′ waits′ done k =
+    record { kept = λ m h x. cases done (λ y. fewer m (rw (k .kept, y) at x)) (λ y. rw (k .kept, y) at x) }
+  where
+    fewer : (m : ℕ) → hasMark (unmarked waits t) m ≡ true → hasMark waits m ≡ true
+    fewer m x =
+        cases (ltb (t / wordBits) (length waits))
+        (λ y. both (hasMark waits m) (not (eqb m t)) (sym (has-unmarked waits t m (ltb-true (t / wordBits) (length waits) y)) ∙ x) .0)
+        (λ y. sym (ap (λ (l : List ℕ). hasMark l m) (set-out waits (t / wordBits) (minus (getD waits (t / wordBits) 0) (only (t % wordBits))) (ltb-false (t / wordBits) (length waits) y))) ∙ x)
 
 module _ (N : Net) (d : Written) (r t : ℕ) (counts waits : List ℕ) (c : Counters N d counts waits) (h : Counted N r) (u : d r ≡ false) (e : t ≡ N .target r) (i : t < maxMarks) where
   one-less : getD counts t 0 ≡ suc (waiting N (write d r) t)

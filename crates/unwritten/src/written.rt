@@ -5,10 +5,8 @@ ghost use Rattle.paper.specs.Limits.{maxRules};
 ghost use Rattle.unwritten.specs.Words.{flagged, marked, Onward};
 use paper::MAX_RULES;
 
-// Rule r is bit r % 64 of word r / 64: about 1 KiB.
+// Rule r is bit r % 64 of word r / 64: about 16 KiB.
 pub const RULE_WORDS: usize = MAX_RULES / 64;
-
-const FULL: u64 = 18446744073709551615;
 
 pub fn is_written(written: &[u64; RULE_WORDS], r: usize) -> bool
     requires { ⌜ r < maxRules ⌝ }
@@ -25,13 +23,15 @@ pub fn mark_written(written: &mut [u64; RULE_WORDS], r: usize)
     written[r / 64] = sets::join(word, sets::one(r % 64));
 }
 
-// The rule to be asked after `at`: those between are written. A full word is left at once.
+// The next rule in the word of `at` that is not written, or the first of the next word: those between are written.
 pub fn onward(written: &[u64; RULE_WORDS], at: usize) -> usize
     requires { ⌜ at < maxRules ⌝ }
     ensures { λ r. ⌜ Onward (now (written .entry)) at r ⌝ }
 {
-    if written[at / 64] == FULL {
+    let unwritten = sets::less(sets::all_below(64), written[at / 64]);
+    let left = sets::less(unwritten, sets::all_below(at % 64 + 1));
+    if left == 0 {
         return (at / 64 + 1) * 64;
     }
-    at + 1
+    at / 64 * 64 + sets::least(left) as usize
 }

@@ -1,5 +1,5 @@
 -- `texts::condition_fits` meets its contract. Assumes nothing.
-use Rattle.texts.proofs.Returns.{condition-none, condition-past, condition-text, condition-row}
+use Rattle.texts.proofs.Returns.{condition-none, condition-past, condition-text, condition-names}
 use Rattle.general.specs.Cases.{contra}
 use borrow.Author.Needs.{needs}
 use mathlib.Core.Path.{refl}
@@ -14,9 +14,9 @@ condition-fits-spec =
     (λ c. (search condition-none, λ e. contra e refl))
     (λ c. search needs)
     (λ c. (search condition-past, λ e. contra e refl))
-    (λ c. search needs) (λ c. search needs) (λ c κs. search needs) (λ c. search needs)
+    (λ c. search needs) (λ c. search needs) (λ c κs. search needs)
     (λ c. (
-      search (condition-text, c .before .before .text-fits .ensures .0),
-      λ e. condition-row 0 0 _ _ _ _ _ (c .before .before .before .before .before .before .before .u32-at .ensures) (c .before .before .before .before .before .before .u32-at2 .ensures) _ _ _
-          (c .before .before .text-fits .ensures .1 e),
+      search (condition-text, c .text-fits .ensures .0),
+      λ e. condition-names 0 0 _ _ _ _ _ (c .before .before .before .before .before .u32-at .ensures) (c .before .before .before .before .u32-at2 .ensures) _ _
+          (c .text-fits .ensures .1 e),
     )))

@@ -10,6 +10,7 @@ use Rattle.book.proofs.Walk.{WpFn-mono, RattleType, owns, Is, shows, me
 use Rattle.book.proofs.Walk.{Contract, Triple, calls-at, ensured, lasts, onEntry, Meets, tripleOf, entered, cited, says, needs, Stays, stay-none, walkOf, AllGo, goes-none, Walks}
 use Rattle.book.proofs.Walk.{ends-at, walked, walk-meets, yes}
 use denote.Struct.Laws as LL
+use Rattle.paper.specs.Limits.{maxMarks}
 use Rattle.book.specs.Effects.{effectOn}
 use Rattle.book.specs.declared.Rule.{Rule}
 use Rattle.book.specs.declared.Snapshot.{Snapshot}
@@ -60,7 +61,7 @@ module _ {M : Type 1} (𝓤 : URA M) (H : Heap 𝓤) (A : Atoms 𝓤) (W : Given
   abbrev to : ℕ → ℕ → GName → Apply 𝓤 H A at-mem run .Ghost
   to l α δ = (((α ∷ [], tt), (fullShare, tt), tt, (x l δ, (d, tt)), (vptr l 0 ∷ [], (S′.lowered d ∷ [], tt))), tt)
 
-  goes : d .target < 256 → (l α : ℕ) (δ : GName)
+  goes : d .target < maxMarks → (l α : ℕ) (δ : GName)
       → ent 𝓤 (sep 𝓤 (A .lft (α ∷ []) fullShare) (sem 𝓤 H A (MutRef (named 0) (α ∷ []) R .own (x l δ) (vptr l 0 ∷ [])))) (Apply 𝓤 H A at-mem run .pre (to l α δ))
   goes within l α δ =
       qed W (‵ (flft (α ∷ []) fullShare) ∷ ‵ (MutRef (named 0) (α ∷ []) R .own (x l δ) (vptr l 0 ∷ [])) ∷ []) ∵ says ! within $ nothing ! $ move ! (1 ∷ 0 ∷ []) $ join ! $ frame ! $
@@ -74,7 +75,7 @@ module _ {M : Type 1} (𝓤 : URA M) (H : Heap 𝓤) (A : Atoms 𝓤) (W : Given
       owned ! R (Is R) (LL.makes T.the-type T′.the-plain 𝓤 H A) h _ is $ fjoin ! $ nothing ! $ done !
 
   module _ (C : Calls 𝓤 H) (Λ : Loops 𝓤 H) (fm : FmC 𝓤 H (W .laws) C) (known : Triple 𝓤 (C #book·apply) (Apply 𝓤 H A at-mem run)) where
-    walk : Is R h (mach ∷ []) → Holds (hasTy T′.mir mach) × WT mach → d .target < 256 → ent 𝓤 (onEntry 𝓤 H A applied.signature tt tt a at) (WpFn 𝓤 H C Λ code.function (mach ∷ S′.lowered d ∷ []) Post)
+    walk : Is R h (mach ∷ []) → Holds (hasTy T′.mir mach) × WT mach → d .target < maxMarks → ent 𝓤 (onEntry 𝓤 H A applied.signature tt tt a at) (WpFn 𝓤 H C Λ code.function (mach ∷ S′.lowered d ∷ []) Post)
     unfolding partOf
     walk is wt within =
         qed W (‵ ftrue ∷ ‵ (owns (R ∷ S.the-row ∷ []) a at) ∷ []) ∵ enter ! C Λ code.function (mach ∷ S′.lowered d ∷ []) _ $
@@ -119,7 +120,7 @@ module _ {M : Type 1} (𝓤 : URA M) (H : Heap 𝓤) (A : Atoms 𝓤) (W : Given
       → Walks 𝓤 H A applied.ended stayed (WpFn 𝓤 H C Λ code.function) (applied.clauses 𝓤 H A at-mem run)
   applied-walks C Λ fm known = walked 𝓤 H A applied.ended stayed (applied.clauses 𝓤 H A at-mem run) (WpFn 𝓤 H C Λ code.function)
       (λ κs. ((λ d. T′.lowered d ∷ []), ((λ r. S′.lowered r ∷ []), tt))) (λ κs. (T′.lowers .val-is, (S′.lowers .val-is, tt)))
-      (λ κs qs bounds a _ are. needs 𝓤 (a .1 .0 .target < 256) _
+      (λ κs qs bounds a _ are. needs 𝓤 (a .1 .0 .target < maxMarks) _
       (walk 𝓤 H A W at-mem run (a .0) (a .1 .0) (are .1 .0) C Λ fm known (are .0) (LL.lawful T.the-type T′.the-laws 𝓤 H A W .typed (a .0) _ (are .0) .0)))
 
   allgo : AllGo 𝓤 H A W 0 (applied.signature .params) (applied.ended .kept) stayed

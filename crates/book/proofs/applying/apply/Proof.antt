@@ -11,6 +11,7 @@ use Rattle.book.proofs.Walk.{array-makes, array-apart, array-whole, pla
 use Rattle.book.proofs.Walk.{nothing, spelt, onEntry, Meets, tripleOf, entered, says, needs, Stays, stay-ref, stay-none, walkOf, AllGo, goes-none, goes-ref, Walks, ends-at, walked}
 use Rattle.book.proofs.Walk.{walk-meets, yes}
 use denote.Struct.Laws as LL
+use Rattle.paper.specs.Limits.{maxMarks}
 use Rattle.book.specs.declared.Rule.{Rule}
 use Rattle.book.specs.declared.Snapshot.{Snapshot}
 use Rattle.book.proofs.Snapshot as T
@@ -30,7 +31,7 @@ abbrev stayed : Stays (apply.ended .signature .params) (apply.ended .kept)
 stayed = (stay-ref (0 ∷ []) tt (plain (λ _. T.the-row)), (stay-none (λ _. S.the-row) yes, tt))
 
 -- a place in the marks is a usize
-wide : {n : ℕ} → n < 256 → n < 2 ^ 64
+wide : {n : ℕ} → n < maxMarks → n < 2 ^ 64
 wide h = omega arith
 
 -- the struct's type as its cell behind a reference has it, in the raw form (`Mir/Raw.antt`), with no name
@@ -38,7 +39,7 @@ abbrev ν : Sym
 ν = []
 
 abbrev τs : Tys
-τs = tcons (tyArray tyBool 256) tnil
+τs = tcons (tyArray tyBool maxMarks) tnil
 
 module _ {M : Type 1} (𝓤 : URA M) (H : Heap 𝓤) (A : Atoms 𝓤) (W : Given 𝓤 H A) (at-mem : Memory → SProp 𝓤) (run : Routine → Fun 𝓤) (κ : Lft) (q : Share) (b o : ℕ) (γ : GName)
     (h : Snapshot) (d : Rule) (d-is : Is S.the-row d (S′.lowered d ∷ [])) where
@@ -69,7 +70,7 @@ module _ {M : Type 1} (𝓤 : URA M) (H : Heap 𝓤) (A : Atoms 𝓤) (W : Given
 
   -- the way back from the field's cell at the value u to the struct's
   abbrev Back : Val → SProp 𝓤
-  Back u = wand 𝓤 (H .at fullShare (tyArray tyBool 256) b p u) (H .at fullShare (tyStruct ν τs) b o (vstruct (vcons u vnil)))
+  Back u = wand 𝓤 (H .at fullShare (tyArray tyBool maxMarks) b p u) (H .at fullShare (tyStruct ν τs) b o (vstruct (vcons u vnil)))
 
   abbrev Post : Val → SProp 𝓤
   Post = walkOf 𝓤 H A apply.ended stayed (apply.clauses 𝓤 H A at-mem run) .post (((κ, tt), (q, tt), tt, x, at), tt)
@@ -83,7 +84,7 @@ module _ {M : Type 1} (𝓤 : URA M) (H : Heap 𝓤) (A : Atoms 𝓤) (W : Given
       move ! (1 ∷ 0 ∷ []) $ fjoin ! $ feqI ! (List Val) (vunit ∷ []) (vunit ∷ []) refl $ move ! (1 ∷ 0 ∷ []) $ done !
 
   module _ (C : Calls 𝓤 H) (Λ : Loops 𝓤 H) where
-    walk : n < 256 → ent 𝓤 (onEntry 𝓤 H A apply.signature (κ, tt) (q, tt) x at) (WpFn 𝓤 H C Λ code.function (vptr b o ∷ S′.lowered d ∷ []) Post)
+    walk : n < maxMarks → ent 𝓤 (onEntry 𝓤 H A apply.signature (κ, tt) (q, tt) x at) (WpFn 𝓤 H C Λ code.function (vptr b o ∷ S′.lowered d ∷ []) Post)
     unfolding partOf
     walk within =
         qed W ((‵ (flft κ q) ⊛ ‵ ftrue) ∷ ‵ (owns (MutRef (named 0) κ T.the-row ∷ S.the-row ∷ []) x at) ∷ []) ∵ enter ! C Λ code.function (vptr b o ∷ S′.lowered d ∷ []) _ $
@@ -100,11 +101,11 @@ module _ {M : Type 1} (𝓤 : URA M) (H : Heap 𝓤) (A : Atoms 𝓤) (W : Given
         assigns ! (bin ! (load ! (from ! (stop !)) (look ! 9 refl)) (load ! (from ! (stop !)) (look ! 11 refl)) tt) (from ! (stop !)) (init ! 7 refl (tt, tt)) $
         rewrite ! 7 (λ (k : ℕ). ‵ (fat fullShare tyPtr l₅ 0 (vptr b k))) (sym (place-byte p n)) refl $
         -- the field's cell is taken out of the struct's, and apart into its elements
-        use1 W (‵ (fat fullShare (tyArray tyBool 256) b p (marks-val ys)) ⊛ raw (all 𝓤 Back))
-        (W .laws .at-field fullShare ν τs 0 (tyArray tyBool 256) 0 refl b o (vcons (marks-val ys) vnil)) $ split ! $
-        owned ! Marks (Is Marks) (array-makes 𝓤 H A W bool (bool-makes 𝓤 H A W) 256) ys _ (marks-of h _ g) $ move ! (1 ∷ 0 ∷ []) $ fjoin ! $
+        use1 W (‵ (fat fullShare (tyArray tyBool maxMarks) b p (marks-val ys)) ⊛ raw (all 𝓤 Back))
+        (W .laws .at-field fullShare ν τs 0 (tyArray tyBool maxMarks) 0 refl b o (vcons (marks-val ys) vnil)) $ split ! $
+        owned ! Marks (Is Marks) (array-makes 𝓤 H A W bool (bool-makes 𝓤 H A W) maxMarks) ys _ (marks-of h _ g) $ move ! (1 ∷ 0 ∷ []) $ fjoin ! $
         fpack ! (List Val) (λ us. fsep (cellAt fullShare (Marks .mir) us b p) (Marks .own ys us)) (marks-val ys ∷ []) $
-        use1 W (‵ (arr-parts (shares bool) 256 .part fullShare ys b p)) (array-apart 𝓤 H A W bool fullShare tt 256 ys b p) $ fsplit ! $ feqL ! (λ e.
+        use1 W (‵ (arr-parts (shares bool) maxMarks .part fullShare ys b p)) (array-apart 𝓤 H A W bool fullShare tt maxMarks ys b p) $ fsplit ! $ feqL ! (λ e.
         elem-out ! bool (Is bool) (shows 𝓤 H A bool) bool-vals bool-tells fullShare ys n false b p (subst (λ (m : ℕ). n < m) (sym e) within) (λ _.
         -- [marks[target]; what it owns; the others; the way back; what a Snapshot owns; the open borrow; obs; auth; true; the others'; _5; …; _4; …; _3; …; _2; …; _1; …; room for _0; …]
         assigns ! (of-opd ! (load ! (from ! (fld ! refl (stop !))) (look-in ! 16 (sub ! 2 refl (whole !))))) (from ! (hop ! (look ! 10 refl) (stop !))) (store ! 0 refl (tt, tt)) $
@@ -112,15 +113,15 @@ module _ {M : Type 1} (𝓤 : URA M) (H : Heap 𝓤) (A : Atoms 𝓤) (W : Given
         move ! (1 ∷ []) $ drop ! $ owned ! bool (Is bool) (bool-makes 𝓤 H A W) t _ refl $ move ! (1 ∷ 0 ∷ []) $ elem-put ! bool fullShare ys n t (vbool t ∷ []) b p
         (subst (λ (m : ℕ). n < m) (sym e) within) $
         -- the elements are an array again, and the struct's cell has it
-        feqI ! ℕ (length zs) 256 (length-set ys n t ∙ e) $ fjoin ! $ use1 W (‵ (partAt Marks fullShare zs b p)) (array-whole 𝓤 H A W bool fullShare 256 zs b p) $
+        feqI ! ℕ (length zs) maxMarks (length-set ys n t ∙ e) $ fjoin ! $ use1 W (‵ (partAt Marks fullShare zs b p)) (array-whole 𝓤 H A W bool fullShare maxMarks zs b p) $
         fpick ! (λ us. fsplit ! $ move ! (1 ∷ []) $ peeks ! Marks (Is Marks) (shows 𝓤 H A Marks) zs us (λ r. drop ! $
-        rewrite ! 0 (λ (ws : List Val). ‵ (cellAt fullShare (Marks .mir) ws b p)) (array-tells bool bool-vals bool-tells 256 zs us r) refl $
+        rewrite ! 0 (λ (ws : List Val). ‵ (cellAt fullShare (Marks .mir) ws b p)) (array-tells bool bool-vals bool-tells maxMarks zs us r) refl $
         move ! (1 ∷ []) $ use1 W (raw (Back (marks-val zs))) (allE 𝓤 Back (marks-val zs)) $ move ! (1 ∷ 0 ∷ []) $
         use2 W (‵ (fat fullShare (tyStruct ν τs) b o (vstruct (vcons (marks-val zs) vnil))))
-        (apply∗ 𝓤 (H .at fullShare (tyArray tyBool 256) b p (marks-val zs)) (H .at fullShare (tyStruct ν τs) b o (vstruct (vcons (marks-val zs) vnil)))) $
+        (apply∗ 𝓤 (H .at fullShare (tyArray tyBool maxMarks) b p (marks-val zs)) (H .at fullShare (tyStruct ν τs) b o (vstruct (vcons (marks-val zs) vnil)))) $
         -- the borrow is closed at the new record
         move ! (1 ∷ []) $ drop ! $ owned ! T.the-row (Is T.the-row) ((LL.makes T.the-type T′.the-plain) 𝓤 H A) h′ _
-        (marks-in zs (marks-val zs) (subst (Is Marks zs) (array-tells bool bool-vals bool-tells 256 zs us r) r)) $ move ! (1 ∷ 0 ∷ []) $
+        (marks-in zs (marks-val zs) (subst (Is Marks zs) (array-tells bool bool-vals bool-tells maxMarks zs us r) r)) $ move ! (1 ∷ 0 ∷ []) $
         closes ! tt T.the-row h′ (vstruct (vcons (marks-val zs) vnil) ∷ []) b o $
         -- [obs; the borrow; the token; true; the others'; _5; …; _4; …; _3; …; _2; …; _1; …; _0; …]
         returns ! (look ! 15 refl) $ forget ! 5 refl $ forget ! 7 refl $ forget ! 9 refl $ forget ! 11 refl $ forget ! 13 refl $ forget ! 15 refl $
@@ -132,7 +133,7 @@ module _ {M : Type 1} (𝓤 : URA M) (H : Heap 𝓤) (A : Atoms 𝓤) (W : Given
   apply-walks : (C : Calls 𝓤 H) (Λ : Loops 𝓤 H) → Walks 𝓤 H A apply.ended stayed (WpFn 𝓤 H C Λ code.function) (apply.clauses 𝓤 H A at-mem run)
   apply-walks C Λ = walked 𝓤 H A apply.ended stayed (apply.clauses 𝓤 H A at-mem run) (WpFn 𝓤 H C Λ code.function) (λ κs. (ptr-vals, ((λ r. S′.lowered r ∷ []), tt)))
       (λ κs. (mut-tells (named 0) (κs .0) T.the-row, (S′.lowers .val-is, tt)))
-      (λ κs qs bounds a _ are. needs 𝓤 (a .1 .0 .target < 256) _ (walk 𝓤 H A W at-mem run (κs .0) (qs .0) (a .0 .ptr .0) (a .0 .ptr .1) (a .0 .name) (a .0 .now) (a .1 .0) (are .1 .0) C Λ))
+      (λ κs qs bounds a _ are. needs 𝓤 (a .1 .0 .target < maxMarks) _ (walk 𝓤 H A W at-mem run (κs .0) (qs .0) (a .0 .ptr .0) (a .0 .ptr .1) (a .0 .name) (a .0 .now) (a .1 .0) (are .1 .0) C Λ))
 
   allgo : AllGo 𝓤 H A W 1 (apply.signature .params) (apply.ended .kept) stayed
   allgo = (goes-ref 𝓤 H A W 1 0 tt (plain (λ _. T.the-row)), (goes-none 𝓤 H A W 1 (λ _. S.the-row) yes (λ κs x f. refl), tt))

@@ -10,7 +10,7 @@ pub is-ready-spec : {M : Type 1} → statement M
 is-ready-spec =
     tie.close
     (tie.spec
-    (λ c κs. omega (arith, rules-few _ (c .before .before .pre .0)))
-    (λ c. search stand-written)
+    (λ c κs. omega (arith, rules-few _ (c .before .pre .0)))
+    (λ c. (search stand-written, search needs))
     (λ c κs. search needs)
-    (λ c. search stand-untouched))
+    (λ c. (search stand-untouched, search needs)))

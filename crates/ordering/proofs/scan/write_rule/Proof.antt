@@ -1,6 +1,7 @@
 -- `ordering::scan::write_rule` meets its contract. Assumes nothing.
 use native.Mathlib.Omega.{arith}
 use Rattle.rule_order.specs.Nets.{rules-few}
+use Rattle.unwritten.specs.Counters.{struck-shrunk}
 use Rattle.ordering.proofs.Stepping.{turn-back, turn-on}
 use borrow.Author.Needs.{needs}
 use Rattle.ordering.proofs.scan.write_rule.Statement.{statement}
@@ -13,6 +14,6 @@ write-rule-spec =
     (λ c κs. omega (arith, rules-few _ (c .before .before .pre .0)))
     (λ c κs. search needs)
     (λ c κs. search needs)
-    (λ c. search turn-back)
+    (λ c. (search turn-back, search struck-shrunk))
     (λ c. search needs)
-    (λ c. search turn-on))
+    (λ c. (search turn-on, search struck-shrunk)))

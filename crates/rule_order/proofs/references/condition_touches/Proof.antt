@@ -1,5 +1,5 @@
 -- `rule_order::references::condition_touches` meets its contract. Assumes nothing.
-use Rattle.rule_order.specs.References.{reads-none, asked-room, reads-row}
+use Rattle.rule_order.specs.References.{reads-none, asked-in, reads-text}
 use borrow.Author.Needs.{needs}
 use Rattle.rule_order.proofs.references.condition_touches.Statement.{statement}
 use Rattle.rule_order.proofs.references.condition_touches.Tie as tie
@@ -12,9 +12,9 @@ condition-touches-spec =
     (λ c. search needs)
     (λ c. search needs)
     (λ c. search needs)
-    (λ c. search reads-none)
+    (λ c. (search reads-none, search needs))
     (λ c. search needs)
     (λ c κs. search needs)
     (λ c. search needs)
-    (λ c κs. search asked-room)
-    (λ c. search reads-row))
+    (λ c κs. (search needs, search asked-in, search needs))
+    (λ c. (search reads-text, search needs)))

@@ -9,6 +9,6 @@ rule-touches-spec =
     tie.close
     (tie.spec
     (λ c κs. search needs)
-    (λ c. search touches-first)
+    (λ c. (search touches-first, search needs))
     (λ c κs. search needs)
-    (λ c. search touches-then))
+    (λ c. (search touches-then, search needs)))

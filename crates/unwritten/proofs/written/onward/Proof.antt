@@ -1,5 +1,6 @@
 -- `unwritten::written::onward` meets its contract. Assumes nothing.
-use Rattle.unwritten.proofs.Flags.{onward-one, onward-full}
+use native.Mathlib.Omega.{arith}
+use Rattle.unwritten.proofs.Flags.{onward-over, onward-next}
 use borrow.Author.Needs.{needs}
 use Rattle.unwritten.proofs.written.onward.Statement.{statement}
 use Rattle.unwritten.proofs.written.onward.Tie as tie
@@ -8,10 +9,7 @@ pub onward-spec : {M : Type 1} → statement M
 onward-spec =
     tie.close
     (tie.spec
-    (λ c. search needs)
-    (λ c. search needs)
-    (λ c. search needs)
-    (λ c. search needs)
-    (λ c. search onward-full)
-    (λ c. search needs)
-    (λ c. search onward-one))
+    (λ c κs. search needs) (λ c. search needs) (λ c. search needs) (λ c κs. search needs) (λ c. search needs) (λ c κs. search needs) (λ c κs. search needs) (λ c. search needs) (λ c. search needs)
+    (λ c. search onward-over)
+    (λ c. search needs) (λ c κs. search needs) (λ c. search needs) (λ c. search needs)
+    (λ c. search onward-next))
