@@ -1,8 +1,8 @@
 -- Where one can get to: the ways over a table of links, and the closure of the table, which finds exactly these. Assumes nothing.
-use mathlib.Core.Path.{_≡_, refl, ap}
+use mathlib.Core.Path.{_≡_}
 use mathlib.Core.Logic.{_↔_}
-use mathlib.Core.Bool.{Bool, true, _&&_, _||_, and-comm}
-use Prim.Native.Nat.{ℕ, zero, suc, _≤_, _<_}
+use mathlib.Core.Bool.{Bool, true, _&&_, _||_}
+use Prim.Native.Nat.{ℕ, zero, suc, _<_}
 use native.Mathlib.Omega.{arith}
 use Rattle.general.specs.Cases.{both, either, or-left, or-right, lt-suc}
 
@@ -32,12 +32,12 @@ module _ (E : ℕ → ℕ → Bool) where
   wider zero a b e = e
   wider (suc k) a b e = rw (wider k a b e)
 
-  -- the stop k adds nothing to a way that ends or begins there: row k and column k stay as they are in round k
-  pub ends : (k a : ℕ) → within (suc k) a k ≡ true → within k a k ≡ true
+  -- the stop k adds nothing to a way that ends or begins there
+  ends : (k a : ℕ) → within (suc k) a k ≡ true → within k a k ≡ true
   unfolding within
   ends k a e = either (within k a k) (within k a k && within k k k) e (λ x. x) (λ x. both (within k a k) (within k k k) x .0)
 
-  pub starts : (k b : ℕ) → within (suc k) k b ≡ true → within k k b ≡ true
+  starts : (k b : ℕ) → within (suc k) k b ≡ true → within k k b ≡ true
   unfolding within
   starts k b e = either (within k k b) (within k k k && within k k b) e (λ x. x) (λ x. both (within k k k) (within k k b) x .1)
 
@@ -66,26 +66,3 @@ module _ (E : ℕ → ℕ → Bool) where
   -- what can be reached is what the closure has
   pub reached : (n : ℕ) → ((a b : ℕ) → E a b ≡ true → b < n) → (a b : ℕ) → Way a b ↔ (within n a b ≡ true)
   reached n h a b = (complete n h, sound n a b)
-
-  -- the same from below n, where links from below n stay below n
-  pub complete-below : (n : ℕ) → ((a b : ℕ) → a < n → E a b ≡ true → b < n) → {a b : ℕ} → a < n → Way a b → within n a b ≡ true
-  complete-below n h {a} {b} l (hop e) = wider n a b e
-  complete-below n h l (via {a} {c} {b} e w) = trans n a c b (h a c l e) (wider n a c e) (complete-below n h (h a c l e) w)
-
-  pub reached-below : (n : ℕ) → ((a b : ℕ) → a < n → E a b ≡ true → b < n) → (a b : ℕ) → a < n → Way a b ↔ (within n a b ≡ true)
-  reached-below n h a b l = (complete-below n h l, sound n a b)
-
--- tables with the same links below n have the same closure there
-pub within-same : (E F : ℕ → ℕ → Bool) (n : ℕ) → ((a b : ℕ) → a < n → b < n → E a b ≡ F a b) → (k a b : ℕ) → k ≤ n → a < n → b < n → within E k a b ≡ within F k a b
-unfolding within
-within-same E F n h zero a b l i j = h a b i j
-within-same E F n h (suc k) a b l i j =
-    rw (within-same E F n h k a b (omega arith) i j, within-same E F n h k a k (omega arith) i (omega arith), within-same E F n h k k b (omega arith) (omega arith) j)
-
--- the closure of the links turned round
-pub within-turned : (E : ℕ → ℕ → Bool) (k a b : ℕ) → within (λ x y. E y x) k a b ≡ within E k b a
-unfolding within
-within-turned E zero a b = refl
-within-turned E (suc k) a b =
-    rw (within-turned E k a b, within-turned E k a k, within-turned E k k b)
-    (ap (λ x. within E k b a || x) (and-comm (within E k k a) (within E k b k)))

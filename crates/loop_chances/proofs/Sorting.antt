@@ -1,93 +1,33 @@
--- What the loops that sort the marks into drawn and named keep, rule by rule and text by text. Assumes nothing.
+-- What the loop that sorts the marks into drawn and awaited keeps, rule by rule, and when the sets meet. Assumes nothing.
 use mathlib.Core.Path.{_≡_, refl, sym, ap, _∙_}
-use mathlib.Core.Bool.{Bool, true, false, _&&_, _||_, or-false}
-use mathlib.Core.List.{List}
-use Prim.Native.Nat.{ℕ, _+_, _*_, _/_, _≤_, _<_}
+use mathlib.Core.Bool.{Bool, true, false, not, _&&_, _||_, or-false}
+use mathlib.Core.List.{List, [], _∷_}
+use Prim.Native.Nat.{ℕ, _+_, _*_, _/_, _%_, _^_, _≤_, _<_}
 use native.Mathlib.Omega.{arith}
-use lib.Dec.{eqb, leb}
-use lib.ListN.{length, replicate, length-replicate}
-use borrow.Author.Tests.{eqb-true, eqb-false, le-leb, lt-leb, leb-true}
+use lib.Dec.{eqb, leb, ltb}
+use lib.ListN.{length, getD, replicate, length-replicate}
+use borrow.Author.Tests.{eqb-true, eqb-false, eq-eqb, ne-eqb, le-leb, lt-leb, ltb-true, ltb-false}
 use Rattle.paper.specs.Limits.{maxMarks}
-use Rattle.general.specs.Cases.{cases}
-use Rattle.general.specs.Below.{some, some-step, some-same}
-use Rattle.general.specs.Tables.{length-tabulate}
-use Rattle.closure.specs.BitRows.{bit, putBit, takeRow}
-use Rattle.closure.specs.Reached.{take-bit, take-other, put-bit, bit-zeros, length-takeRow, length-putBit}
+use Rattle.general.specs.Cases.{contra, cases, both, same-test}
+use Rattle.general.specs.Below.{some, some-of, some-at, some-none, some-step, some-same, find}
+use Rattle.general.specs.Tables.{length-tabulate, zeros-at}
+use Rattle.sets.specs.Set.{has, union, inter}
+use Rattle.sets.specs.Laws.{has-union, has-inter, has-empty, none-zero, above}
+use Rattle.book.specs.Text.{elem}
 use Rattle.book.specs.Firing.{awaits}
 use Rattle.book.specs.Image.{rulesIn, conditionsIn, rulePlace, triggerFrom, ruleFrom, bookOf, kindAt, senseAt, numberAt, conditionAt, targetAt}
 use Rattle.book.specs.Read.{rules-count, rule-read}
 use Rattle.book.specs.Marks.{wordBits, markWords, hasMark}
 use Rattle.book.specs.WellFormed.{WellFormed}
-use Rattle.texts.specs.Noted.{References}
-use Rattle.rule_order.specs.References.{awaited-in, meeting, meeting-is}
+use Rattle.texts.specs.Noted.{NamedIn, Added}
 use Rattle.loop_chances.specs.Chances.{waits, draws, drawn, awaited, told, named, mayLoop}
-use Rattle.loop_chances.specs.Sorts.{sortWords, sortedTrigger, sortedTarget, Sorted}
-use Rattle.loop_search.proofs.Rows.{asks-byte, target-low, eqb-turned}
+use Rattle.loop_chances.specs.Sorts.{Taken, Sorted, meetWord, meeting}
+use Rattle.loop_search.proofs.Reading.{asks-byte}
+
+eqb-turned : (a b : ℕ) → eqb a b ≡ eqb b a
+eqb-turned a b = same-test (eqb a b) (eqb b a) (λ e. eq-eqb b a (sym (eqb-true a b e))) (λ e. eq-eqb a b (sym (eqb-true b a e)))
 
 -- ---- one rule
-
-module _ (s : List ℕ) (w : WellFormed s) (r : ℕ) (h : r < rulesIn s) (sorts : List ℕ) (l : length sorts ≡ sortWords) where
-  pub target-bit : (t : ℕ) → t ≡ targetAt s (rulePlace r) → 0 * markWords + t / wordBits < length sorts
-  target-bit t e = let i = target-low s w r h t e in let j = w .headed .counted .marks in omega arith
-
-  pub mark-bit : (next : List ℕ) (q m n : ℕ) → q ≤ 1 → 2 ≤ n → n ≤ kindAt s (rulePlace r) → m ≡ numberAt s (rulePlace r) → length next ≡ length sorts → q * markWords + m / wordBits < length next
-  mark-bit next q m n j k o e z = let i = awaited-in s r w h m (omega arith) e in omega arith
-
-module _ (s sorts : List ℕ) (r : ℕ) where
-  pub trigger-sorted : (next last : List ℕ) (t m n : ℕ) → 2 ≤ n → n ≤ kindAt s (rulePlace r) → t ≡ targetAt s (rulePlace r) → m ≡ numberAt s (rulePlace r)
-      → next ≡ putBit sorts markWords 0 t → last ≡ putBit next markWords 1 m → last ≡ sortedTrigger s sorts r
-  unfolding sortedTrigger
-  trigger-sorted next last t m n h i e f g k = rw (le-leb 2 (kindAt s (rulePlace r)) (omega arith)) (k ∙ rw (g, e, f))
-
-  pub trigger-left : kindAt s (rulePlace r) < 2 → sorts ≡ sortedTrigger s sorts r
-  unfolding sortedTrigger
-  trigger-left h = rw (lt-leb 2 (kindAt s (rulePlace r)) h)
-
-  pub target-sorted : (next : List ℕ) (t n : ℕ) → 1 ≤ n → n ≤ senseAt s (rulePlace r) → t ≡ targetAt s (rulePlace r) → next ≡ putBit sorts markWords 0 t → next ≡ sortedTarget s sorts r
-  unfolding sortedTarget
-  target-sorted next t n h i e f = rw (le-leb 1 (senseAt s (rulePlace r)) (omega arith)) (f ∙ rw e)
-
-  pub target-left : senseAt s (rulePlace r) < 1 → sorts ≡ sortedTarget s sorts r
-  unfolding sortedTarget
-  target-left h = rw (lt-leb 1 (senseAt s (rulePlace r)) h)
-
-  length-trigger : length (sortedTrigger s sorts r) ≡ length sorts
-  unfolding sortedTrigger
-  length-trigger = cases (leb 2 (kindAt s (rulePlace r))) (λ e. rw e (length-putBit (putBit sorts markWords 0 _) markWords 1 _ ∙ length-putBit sorts markWords 0 _)) (λ e. rw e)
-
-  length-target : length (sortedTarget s sorts r) ≡ length sorts
-  unfolding sortedTarget
-  length-target = cases (leb 1 (senseAt s (rulePlace r))) (λ e. rw e (length-putBit sorts markWords 0 _)) (λ e. rw e)
-
--- the bits of a row after each
-module _ (s : List ℕ) (w : WellFormed s) (r : ℕ) (h : r < rulesIn s) (sorts : List ℕ) (l : length sorts ≡ sortWords) (m : ℕ) (i : m < maxMarks) where
-  abbrev k : ℕ
-  k = kindAt s (rulePlace r)
-
-  abbrev t : ℕ
-  t = targetAt s (rulePlace r)
-
-  abbrev n : ℕ
-  n = numberAt s (rulePlace r)
-
-  put-drawn : (q : ℕ) → q ≤ 1 → bit (putBit sorts markWords 0 t) markWords q m ≡ (bit sorts markWords q m || (eqb 0 q && eqb t m))
-  put-drawn q j = let a = target-low s w r h t refl in let b = w .headed .counted .marks in put-bit sorts markWords 0 t q m (target-bit s w r h sorts l t refl) (omega arith) (omega arith)
-
-  target-bits : (q : ℕ) → q ≤ 1 → bit (sortedTarget s sorts r) markWords q m ≡ (bit sorts markWords q m || (leb 1 (senseAt s (rulePlace r)) && (eqb 0 q && eqb t m)))
-  unfolding sortedTarget
-  target-bits q j = cases (leb 1 (senseAt s (rulePlace r))) (λ e. rw e (put-drawn q j)) (λ e. rw e (sym (or-false (bit sorts markWords q m))))
-
-  trigger-bits : (q : ℕ) → q ≤ 1 → bit (sortedTrigger s sorts r) markWords q m ≡ ((bit sorts markWords q m || (leb 2 k && (eqb 0 q && eqb t m))) || (leb 2 k && (eqb 1 q && eqb n m)))
-  unfolding sortedTrigger
-  trigger-bits q j =
-      cases (leb 2 k)
-      (λ e. let o = leb-true 2 k e in
-      let a = awaited-in s r w h n o refl in
-      let next = putBit sorts markWords 0 t in
-      let c = mark-bit s w r h sorts l next 1 n 2 (omega arith) (omega arith) o refl (length-putBit sorts markWords 0 t) in
-      rw e (put-bit next markWords 1 n q m c (omega arith) (omega arith)
-      ∙ ap (λ x. x || (eqb 1 q && eqb n m)) (put-drawn q j)))
-      (λ e. rw e (sym (or-false (bit sorts markWords q m || false) ∙ or-false (bit sorts markWords q m))))
 
 -- what the book says of the rule, by its bytes
 waits-byte : (k n : ℕ) → waits (triggerFrom k n) ≡ leb 2 k
@@ -113,130 +53,143 @@ module _ (s : List ℕ) (r : ℕ) (h : r < rulesIn s) (m : ℕ) where
   unfolding ruleFrom
   awaited-byte = rw (rule-read s r h, awaits-byte (kindAt s (rulePlace r)) (numberAt s (rulePlace r)) m)
 
-drawn-on : (x a b c : Bool) → (((x || (a && c)) || (a && false)) || (b && c)) ≡ (x || ((a || b) && c))
-drawn-on true a b c = refl
-drawn-on false true true true = refl
-drawn-on false true true false = refl
-drawn-on false true false true = refl
-drawn-on false true false false = refl
-drawn-on false false true c = refl
-drawn-on false false false c = refl
+module _ (s set : List ℕ) (r : ℕ) (h : r < rulesIn s) where
+  pub target-drawn : (t : ℕ) (after : List ℕ) → (leb 2 (kindAt s (rulePlace r)) || leb 1 (senseAt s (rulePlace r))) ≡ true → t ≡ targetAt s (rulePlace r) → Added set (t ∷ []) after
+      → Taken set (λ m. draws (bookOf s) m r) after
+  unfolding elem
+  target-drawn t after c e a =
+      record { long = a .long; takes = λ m i. a .names m i ∙ rw (draws-byte s r h m, c, e, or-false (eqb m (targetAt s (rulePlace r))), eqb-turned m (targetAt s (rulePlace r))) }
 
-named-on : (x a b c : Bool) → (((x || (a && false)) || (a && c)) || (b && false)) ≡ (x || (a && c))
-named-on x true true c = rw (or-false x, or-false (x || c))
-named-on x true false c = rw (or-false x, or-false (x || c))
-named-on x false true c = rw (or-false x, or-false (x || false), or-false x)
-named-on x false false c = rw (or-false x, or-false (x || false), or-false x)
+  pub target-left : (leb 2 (kindAt s (rulePlace r)) || leb 1 (senseAt s (rulePlace r))) ≡ false → Taken set (λ m. draws (bookOf s) m r) set
+  target-left c = record { long = refl; takes = λ m i. rw (draws-byte s r h m, c) (sym (or-false (hasMark set m))) }
+
+  pub mark-awaited : (n t : ℕ) (after : List ℕ) → 2 ≤ n → n ≤ kindAt s (rulePlace r) → t ≡ numberAt s (rulePlace r) → Added set (t ∷ []) after → Taken set (λ m. awaited (bookOf s) m r) after
+  unfolding elem
+  mark-awaited n t after j k e a =
+      record {
+        long = a .long;
+        takes = λ m i. a .names m i
+            ∙ rw (awaited-byte s r h m, le-leb 2 (kindAt s (rulePlace r)) (omega arith), e, or-false (eqb m (numberAt s (rulePlace r))), eqb-turned m (numberAt s (rulePlace r)));
+      }
+
+  pub none-awaited : kindAt s (rulePlace r) < 2 → Taken set (λ m. awaited (bookOf s) m r) set
+  none-awaited k = record { long = refl; takes = λ m i. rw (awaited-byte s r h m, lt-leb 2 (kindAt s (rulePlace r)) k) (sym (or-false (hasMark set m))) }
 
 -- ---- the loop over the rules
 
-pub record Sorting (s : List ℕ) (n : ℕ) (sorts : List ℕ) (r : ℕ) : Type 0 where
+pub record Sorting (s : List ℕ) (n : ℕ) (drawn waited : List ℕ) (r : ℕ) : Type 0 where
   pub formed : WellFormed s
   pub many : n ≡ rulesIn s
   pub within : r ≤ rulesIn s
-  pub sorted : Sorted s sorts r 0
+  pub sorted : Sorted s r drawn waited
 
-pub sorting-first : (s : List ℕ) (n : ℕ) (sorts : List ℕ) → WellFormed s → n ≡ rulesIn s → sorts ≡ replicate sortWords 0 → Sorting s n sorts 0
+empty-has : (m : ℕ) → hasMark (replicate markWords 0) m ≡ false
+empty-has m = rw (zeros-at markWords (m / wordBits)) (has-empty (m % wordBits))
+
+pub sorting-first : (s : List ℕ) (n : ℕ) (drawn waited : List ℕ) → WellFormed s → n ≡ rulesIn s → drawn ≡ replicate markWords 0 → waited ≡ replicate markWords 0 → Sorting s n drawn waited 0
 unfolding some
-sorting-first s n sorts w e z =
-    let l : length sorts ≡ sortWords = rw z (length-replicate {A = ℕ} sortWords 0) in
+sorting-first s n drawn waited w e y z = record {
+  formed = w;
+  many = e;
+  within = omega arith;
+  sorted = record {
+    long = rw y (length-replicate {A = ℕ} markWords 0);
+    wide = rw z (length-replicate {A = ℕ} markWords 0);
+    drawn = λ m i. rw y (empty-has m);
+    waited = λ m i. rw z (empty-has m);
+  };
+}
+
+pub sorting-more : (s : List ℕ) (n : ℕ) (drawn waited : List ℕ) (r : ℕ) → Sorting s n drawn waited r → r < n → (next last : List ℕ) → Taken drawn (λ m. draws (bookOf s) m r) next
+    → Taken waited (λ m. awaited (bookOf s) m r) last → Sorting s n next last (r + 1)
+sorting-more s n drawn waited r g l next last a b =
+    let y = g .many in
     record {
-      formed = w;
-      many = e;
+      formed = g .formed;
+      many = y;
       within = omega arith;
-      sorted = record { size = l; drawn = λ m i. rw z (bit-zeros sortWords markWords 0 m); named = λ m i. rw z (bit-zeros sortWords markWords 1 m) };
+      sorted = record {
+        long = a .long ∙ g .sorted .long;
+        wide = b .long ∙ g .sorted .wide;
+        drawn = λ m i. a .takes m i ∙ rw (some-step r (draws (bookOf s) m)) (ap (λ (x : Bool). x || draws (bookOf s) m r) (g .sorted .drawn m i));
+        waited = λ m i. b .takes m i ∙ rw (some-step r (awaited (bookOf s) m)) (ap (λ (x : Bool). x || awaited (bookOf s) m r) (g .sorted .waited m i));
+      };
     }
 
-module _ (s : List ℕ) (n : ℕ) (sorts : List ℕ) (r : ℕ) (g : Sorting s n sorts r) (l : r < n) (next : List ℕ) (e : next ≡ sortedTrigger s sorts r) where
-  pub sorting-long : length next ≡ sortWords
-  sorting-long = ap length e ∙ length-trigger s sorts r ∙ g .sorted .size
+pub sorting-last : (s : List ℕ) (n : ℕ) (drawn waited : List ℕ) (r : ℕ) → Sorting s n drawn waited r → n ≤ r → Sorted s (rulesIn s) drawn waited
+sorting-last s n drawn waited r g l = let i = g .within in let m = g .many in let z : r ≡ rulesIn s = omega arith in rw (← z) (g .sorted)
 
-  pub sorting-more : (last : List ℕ) → last ≡ sortedTarget s next r → Sorting s n last (r + 1)
-  unfolding some
-  sorting-more last f =
-      let w = g .formed in
-      let y = g .many in
-      let h : r < rulesIn s = omega arith in
-      let z : length last ≡ sortWords = ap length f ∙ length-target s next r ∙ sorting-long in
-      let k : ℕ = kindAt s (rulePlace r) in
-      let d : ℕ = senseAt s (rulePlace r) in
-      let t : ℕ = targetAt s (rulePlace r) in
-      let p : ℕ = numberAt s (rulePlace r) in
-      record {
-        formed = w;
-        many = y;
-        within = omega arith;
-        sorted = record {
-          size = z;
-          drawn = λ m i. rw (f, target-bits s w r h next sorting-long m i 0 (omega arith), e, trigger-bits s w r h sorts (g .sorted .size) m i 0 (omega arith))
-              (rw (g .sorted .drawn m i, some-step, draws-byte s r h m) (drawn-on (some r (draws (bookOf s) m)) (leb 2 k) (leb 1 d) (eqb t m)));
-          named = λ m i. rw (f, target-bits s w r h next sorting-long m i 1 (omega arith), e, trigger-bits s w r h sorts (g .sorted .size) m i 1 (omega arith))
-              (rw (g .sorted .named m i, some-step, awaited-byte s r h m)
-              (ap (λ x. ((x || (leb 2 k && false)) || (leb 2 k && eqb p m)) || (leb 1 d && false)) (or-false (some r (awaited (bookOf s) m)))
-              ∙ named-on (some r (awaited (bookOf s) m)) (leb 2 k) (leb 1 d) (eqb p m) ∙ sym (or-false (some r (awaited (bookOf s) m) || (leb 2 k && eqb p m)))));
-        };
-      }
+-- ---- whether the sets meet
 
-pub sorting-last : (s : List ℕ) (n : ℕ) (sorts : List ℕ) (r : ℕ) → Sorting s n sorts r → n ≤ r → Sorted s sorts (rulesIn s) 0
-sorting-last s n sorts r g l = let i = g .within in let m = g .many in let z : r ≡ rulesIn s = omega arith in rw (← z) (g .sorted)
+pub meet-word : (a b c : ℕ) → a < 2 ^ wordBits → not (eqb (inter a (union b c)) 0) ≡ meetWord a b c
+unfolding meetWord
+meet-word a b c h =
+    find wordBits (λ e. (has b e || has c e) && has a e)
+    (λ e l x. rw (some-of wordBits (λ e. (has b e || has c e) && has a e) e l x)
+    (ap not (ne-eqb (inter a (union b c)) 0 (λ z. let (p, q) = both (has b e || has c e) (has a e) x in
+    contra (has-inter a (union b c) e ∙ rw (q, has-union b c e) p) (rw z (has-empty e))))))
+    (λ n. rw (some-none wordBits (λ e. (has b e || has c e) && has a e) n)
+    (ap not (eq-eqb (inter a (union b c)) 0 (none-zero (inter a (union b c)) (λ e. has-inter a (union b c) e ∙ rw (has-union b c e)
+    (turned (has a e) (has b e || has c e) ∙ cases (ltb e wordBits) (λ t. n e (ltb-true e wordBits t))
+    (λ t. rw (above wordBits a e h (ltb-false e wordBits t)) (turned (has b e || has c e) false))))))))
+  where
+    turned : (x y : Bool) → (x && y) ≡ (y && x)
+    turned true true = refl
+    turned true false = refl
+    turned false true = refl
+    turned false false = refl
 
--- ---- the loop over the texts
+-- the words before k do not
+pub record Apart (drawn waited named : List ℕ) (k : ℕ) : Type 0 where
+  pub none : (j : ℕ) → j < k → meetWord (getD drawn j 0) (getD waited j 0) (getD named j 0) ≡ false
 
-pub record Telling (s : List ℕ) (n : ℕ) (refs sorts : List ℕ) (c : ℕ) : Type 0 where
-  pub references : References s refs
-  pub many : n ≡ conditionsIn s
-  pub within : c ≤ conditionsIn s
-  pub sorted : Sorted s sorts (rulesIn s) c
+module _ (drawn waited named : List ℕ) where
+  pub apart-first : Apart drawn waited named 0
+  apart-first = record { none = λ j l. absurd (omega arith) }
 
-pub telling-first : (s : List ℕ) (n : ℕ) (refs sorts : List ℕ) → References s refs → n ≡ conditionsIn s → Sorted s sorts (rulesIn s) 0 → Telling s n refs sorts 0
-telling-first s n refs sorts f e g = record { references = f; many = e; within = omega arith; sorted = g }
+  module _ (k : ℕ) (g : Apart drawn waited named k) (b : Bool) (e : b ≡ meetWord (getD drawn k 0) (getD waited k 0) (getD named k 0)) where
+    pub apart-not : k < markWords → b ≡ true → true ≡ meeting drawn waited named
+    unfolding meeting
+    apart-not l t = sym (some-of markWords (λ k. meetWord (getD drawn k 0) (getD waited k 0) (getD named k 0)) k l (sym e ∙ t))
 
-module _ (s : List ℕ) (n : ℕ) (refs sorts : List ℕ) (c : ℕ) (g : Telling s n refs sorts c) (l : c < n) where
-  pub telling-to : 1 * markWords + markWords ≤ length sorts
-  telling-to = let z = g .sorted .size in omega arith
+    pub apart-more : b ≡ false → Apart drawn waited named (k + 1)
+    apart-more t = record { none = λ j l. cases (eqb j k) (λ x. rw (eqb-true j k x) (sym e ∙ t)) (λ x. g .none j (let n = eqb-false j k x in omega arith)) }
 
-  pub telling-from : c * markWords + markWords ≤ length refs
-  telling-from = let m = g .many in let k = g .references .room in omega arith
+  pub apart-last : (k : ℕ) → Apart drawn waited named k → markWords ≤ k → false ≡ meeting drawn waited named
+  unfolding meeting
+  apart-last k g l = sym (some-none markWords (λ k. meetWord (getD drawn k 0) (getD waited k 0) (getD named k 0)) (λ j i. g .none j (omega arith)))
 
-  pub telling-more : (next : List ℕ) → next ≡ takeRow markWords 1 c refs sorts → Telling s n refs next (c + 1)
-  telling-more next e =
-      let m = g .many in
-      let z : length next ≡ sortWords = ap length e ∙ length-takeRow markWords 1 c refs sorts ∙ g .sorted .size in
-      let fits = telling-to in
-      let R : ℕ = rulesIn s in
-      record {
-        references = g .references;
-        many = m;
-        within = omega arith;
-        sorted = record {
-          size = z;
-          drawn = λ p i. rw (e, take-other markWords 1 c refs sorts fits 0 p (λ x. omega arith) (omega arith)) (g .sorted .drawn p i);
-          named = λ p i. rw (e, take-bit markWords 1 c refs sorts fits p (omega arith), g .sorted .named p i, some-step, g .references .names c p (omega arith) i)
-              (or-over (some R (awaited (bookOf s) p)) (some c (told (bookOf s) p)) (told (bookOf s) p c));
-        };
-      }
+  -- word by word is mark by mark
+  meeting-is : meeting drawn waited named ≡ some maxMarks (λ m. (hasMark waited m || hasMark named m) && hasMark drawn m)
+  unfolding meeting meetWord
+  meeting-is =
+      same-test (some markWords words) (some maxMarks marks)
+      (λ x.
+      let (k, h, y) = some-at markWords words x in
+      let (e, i, z) = some-at wordBits (λ e. (has (getD waited k 0) e || has (getD named k 0) e) && has (getD drawn k 0) e) y in
+      let p : (wordBits * k + e) / wordBits ≡ k = omega arith in
+      let q : (wordBits * k + e) % wordBits ≡ e = omega arith in
+      some-of maxMarks marks (wordBits * k + e) (omega arith) (rw (p, q) z))
+      (λ x.
+      let (m, h, y) = some-at maxMarks marks x in
+      let k : ℕ = m / wordBits in
+      some-of markWords words k (omega arith)
+      (some-of wordBits (λ e. (has (getD waited k 0) e || has (getD named k 0) e) && has (getD drawn k 0) e) (m % wordBits) (omega arith) y))
     where
-      or-over : (x y z : Bool) → ((x || y) || z) ≡ (x || (y || z))
-      or-over true y z = refl
-      or-over false y z = refl
+      words : ℕ → Bool
+      words k = some wordBits (λ e. (has (getD waited k 0) e || has (getD named k 0) e) && has (getD drawn k 0) e)
 
-pub telling-last : (s : List ℕ) (n : ℕ) (refs sorts : List ℕ) (c : ℕ) → Telling s n refs sorts c → n ≤ c → Sorted s sorts (rulesIn s) (conditionsIn s)
-telling-last s n refs sorts c g l = let i = g .within in let m = g .many in let z : c ≡ conditionsIn s = omega arith in rw (← z) (g .sorted)
-
--- ---- both rows
+      marks : ℕ → Bool
+      marks m = (hasMark waited m || hasMark named m) && hasMark drawn m
 
 conditions-count : (s : List ℕ) → length (bookOf s .conditions) ≡ conditionsIn s
 unfolding bookOf
 conditions-count s = length-tabulate (conditionsIn s) _
 
-first-row : (sorts : List ℕ) (m : ℕ) → hasMark sorts m ≡ bit sorts markWords 0 m
-unfolding bit
-first-row sorts m = let z : 0 * markWords + m / wordBits ≡ m / wordBits = omega arith in rw z
-
-pub sorts-say : (s sorts : List ℕ) (x : Bool) → Sorted s sorts (rulesIn s) (conditionsIn s) → x ≡ meeting sorts 1 sorts → x ≡ mayLoop (bookOf s)
+pub sorts-say : (s drawn waited set : List ℕ) (x : Bool) → Sorted s (rulesIn s) drawn waited → NamedIn s set → x ≡ meeting drawn waited set → x ≡ mayLoop (bookOf s)
 unfolding mayLoop drawn named
-sorts-say s sorts x g e =
-    e ∙ meeting-is sorts sorts 1 ∙ rw (rules-count s, conditions-count s)
-    (some-same maxMarks (λ m. bit sorts markWords 1 m && hasMark sorts m)
+sorts-say s drawn waited set x g n e =
+    e ∙ meeting-is drawn waited set ∙ rw (rules-count s, conditions-count s)
+    (some-same maxMarks (λ m. (hasMark waited m || hasMark set m) && hasMark drawn m)
     (λ m. (some (rulesIn s) (awaited (bookOf s) m) || some (conditionsIn s) (told (bookOf s) m)) && some (rulesIn s) (draws (bookOf s) m))
-    (λ m i. rw (first-row sorts m, g .named m i, g .drawn m i)))
+    (λ m i. rw (g .waited m i, n .names m i, g .drawn m i)))

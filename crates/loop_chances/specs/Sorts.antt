@@ -1,31 +1,32 @@
--- Two rows of marks for the test whether a loop is possible: row 0 those drawn, row 1 those named. Assumes nothing.
+-- Two sets of marks for the test whether a loop is possible: those drawn, and those that a trigger waits for. Assumes nothing.
 use mathlib.Core.Path.{_≡_}
-use mathlib.Core.Bool.{cond, _||_}
+use mathlib.Core.Bool.{Bool, _&&_, _||_}
 use mathlib.Core.List.{List}
-use Prim.Native.Nat.{ℕ, _*_, _<_}
-use lib.Dec.{leb}
-use lib.ListN.{length}
+use Prim.Native.Nat.{ℕ, _<_}
+use lib.ListN.{length, getD}
 use Rattle.paper.specs.Limits.{maxMarks}
 use Rattle.general.specs.Below.{some}
-use Rattle.closure.specs.BitRows.{bit, putBit}
-use Rattle.book.specs.Image.{rulePlace, bookOf, kindAt, senseAt, numberAt, targetAt}
-use Rattle.book.specs.Marks.{markWords}
-use Rattle.loop_chances.specs.Chances.{draws, awaited, told}
+use Rattle.sets.specs.Set.{has}
+use Rattle.book.specs.Image.{bookOf}
+use Rattle.book.specs.Marks.{wordBits, markWords, hasMark}
+use Rattle.loop_chances.specs.Chances.{draws, awaited}
 
-abbrev pub sortWords : ℕ
-sortWords = 2 * markWords
+-- a set takes in the marks that pass a test
+pub record Taken (set : List ℕ) (p : ℕ → Bool) (after : List ℕ) : Type 0 where
+  pub long : length after ≡ length set
+  pub takes : (m : ℕ) → m < maxMarks → hasMark after m ≡ (hasMark set m || p m)
 
--- the target of rule r is drawn and its trigger's mark named, where it has a become trigger
-unfoldable pub sortedTrigger : List ℕ → List ℕ → ℕ → List ℕ
-sortedTrigger s sorts r =
-    cond (leb 2 (kindAt s (rulePlace r))) (putBit (putBit sorts markWords 0 (targetAt s (rulePlace r))) markWords 1 (numberAt s (rulePlace r))) sorts
+-- the sets of the first r rules
+pub record Sorted (s : List ℕ) (r : ℕ) (a b : List ℕ) : Type 0 where
+  pub long : length a ≡ markWords
+  pub wide : length b ≡ markWords
+  pub drawn : (m : ℕ) → m < maxMarks → hasMark a m ≡ some r (draws (bookOf s) m)
+  pub waited : (m : ℕ) → m < maxMarks → hasMark b m ≡ some r (awaited (bookOf s) m)
 
--- and its target drawn, where it has a condition
-unfoldable pub sortedTarget : List ℕ → List ℕ → ℕ → List ℕ
-sortedTarget s sorts r = cond (leb 1 (senseAt s (rulePlace r))) (putBit sorts markWords 0 (targetAt s (rulePlace r))) sorts
+-- a word of one set has a member of the same word of two others
+unfoldable pub meetWord : ℕ → ℕ → ℕ → Bool
+meetWord a b c = some wordBits (λ e. (has b e || has c e) && has a e)
 
--- the rows of the first r rules and the first c texts
-pub record Sorted (s sorts : List ℕ) (r c : ℕ) : Type 0 where
-  pub size : length sorts ≡ sortWords
-  pub drawn : (m : ℕ) → m < maxMarks → bit sorts markWords 0 m ≡ some r (draws (bookOf s) m)
-  pub named : (m : ℕ) → m < maxMarks → bit sorts markWords 1 m ≡ (some r (awaited (bookOf s) m) || some c (told (bookOf s) m))
+-- some word has
+unfoldable pub meeting : List ℕ → List ℕ → List ℕ → Bool
+meeting drawn waited named = some markWords (λ k. meetWord (getD drawn k 0) (getD waited k 0) (getD named k 0))

@@ -3,13 +3,13 @@
 ghost use mathlib.Core.Path.{_≡_};
 ghost use Prim.Native.Nat.{_<_};
 ghost use lib.ListN.{length, replicate};
-ghost use Rattle.book.specs.Image.{rulesIn, conditionsIn, bookOf};
+ghost use Rattle.book.specs.Image.{rulesIn, bookOf};
+ghost use Rattle.book.specs.Marks.{markWords};
 ghost use Rattle.book.specs.WellFormed.{WellFormed};
 ghost use Rattle.book.specs.WellRead.{Opened};
-ghost use Rattle.texts.specs.Noted.{References};
-ghost use Rattle.rule_order.specs.References.{meetWord, meeting};
-ghost use Rattle.loop_chances.specs.Chances.{mayLoop};
-ghost use Rattle.loop_chances.specs.Sorts.{sortWords, sortedTrigger, sortedTarget, Sorted};
+ghost use Rattle.texts.specs.Noted.{NamedIn};
+ghost use Rattle.loop_chances.specs.Chances.{draws, awaited, mayLoop};
+ghost use Rattle.loop_chances.specs.Sorts.{Taken, Sorted, meetWord, meeting};
 use book::Counts;
 use book::rules::NUMBER_AT;
 use book::rules::SENSE_AS_WRITTEN;
@@ -19,83 +19,76 @@ use book::rules::TRIGGER_BECOME_YES;
 use paper::BOOK_HEADER;
 use paper::RULE_SIZE;
 use texts::references::MARK_WORDS;
+use texts::references::note;
 
-// Two rows of marks: those drawn, and those named.
-const DRAWN: usize = 0;
+// The target of rule r is drawn, if the rule waits for a mark or has a condition.
+fn draw_target(image: &[u8], r: usize, drawn: &mut [u64; MARK_WORDS])
+    requires { ⌜ (WellFormed (now image)) × (r < rulesIn (now image)) × (length (now drawn) ≡ markWords) ⌝ }
+    ensures { λ _. ⌜ Taken (now (drawn .entry)) (λ m. draws (bookOf (now (image .entry))) m r) (now (drawn .exit)) ⌝ }
+{
+    let at = BOOK_HEADER + RULE_SIZE * r;
+    if (TRIGGER_BECOME_YES <= image[at]) | (SENSE_AS_WRITTEN <= image[at + SENSE_AT]) {
+        let target = wire::u16_at(image, at + TARGET_AT);
+        note(drawn, target);
+    }
+}
 
-const NAMED: usize = 1;
-
-const SORTS: usize = 2 * MARK_WORDS;
-
-// Rule r waits for a mark: its target is drawn, and the mark is named.
-fn sort_trigger(image: &[u8], r: usize, sorts: &mut [u64])
-    requires { ⌜ (WellFormed (now image)) × (r < rulesIn (now image)) × (length (now sorts) ≡ sortWords) ⌝ }
-    ensures { λ _. ⌜ now (sorts .exit) ≡ sortedTrigger (now (image .entry)) (now (sorts .entry)) r ⌝ }
+// The mark that rule r waits for is named.
+fn name_awaited(image: &[u8], r: usize, waited: &mut [u64; MARK_WORDS])
+    requires { ⌜ (WellFormed (now image)) × (r < rulesIn (now image)) × (length (now waited) ≡ markWords) ⌝ }
+    ensures { λ _. ⌜ Taken (now (waited .entry)) (λ m. awaited (bookOf (now (image .entry))) m r) (now (waited .exit)) ⌝ }
 {
     let at = BOOK_HEADER + RULE_SIZE * r;
     if TRIGGER_BECOME_YES <= image[at] {
-        let target = wire::u16_at(image, at + TARGET_AT) as usize;
-        let mark = wire::u16_at(image, at + NUMBER_AT) as usize;
-        closure::put_bit(sorts, MARK_WORDS, DRAWN, target);
-        closure::put_bit(sorts, MARK_WORDS, NAMED, mark);
+        let mark = wire::u16_at(image, at + NUMBER_AT);
+        note(waited, mark);
     }
 }
 
-// Rule r has a condition: its target is drawn.
-fn sort_target(image: &[u8], r: usize, sorts: &mut [u64])
-    requires { ⌜ (WellFormed (now image)) × (r < rulesIn (now image)) × (length (now sorts) ≡ sortWords) ⌝ }
-    ensures { λ _. ⌜ now (sorts .exit) ≡ sortedTarget (now (image .entry)) (now (sorts .entry)) r ⌝ }
-{
-    let at = BOOK_HEADER + RULE_SIZE * r;
-    if SENSE_AS_WRITTEN <= image[at + SENSE_AT] {
-        let target = wire::u16_at(image, at + TARGET_AT) as usize;
-        closure::put_bit(sorts, MARK_WORDS, DRAWN, target);
-    }
-}
-
-fn sort_rules(image: &[u8], rules: usize, sorts: &mut [u64])
-    requires { ⌜ (WellFormed (now image)) × (rules ≡ rulesIn (now image)) × (now sorts ≡ replicate sortWords 0) ⌝ }
-    ensures { λ _. ⌜ Sorted (now (image .entry)) (now (sorts .exit)) (rulesIn (now (image .entry))) 0 ⌝ }
+fn sort_rules(
+    image: &[u8],
+    rules: usize,
+    drawn: &mut [u64; MARK_WORDS],
+    waited: &mut [u64; MARK_WORDS],
+)
+    requires { ⌜ (WellFormed (now image)) × (rules ≡ rulesIn (now image)) × (now drawn ≡ replicate markWords 0) × (now waited ≡ replicate markWords 0) ⌝ }
+    ensures { λ _. ⌜ Sorted (now (image .entry)) (rulesIn (now (image .entry))) (now (drawn .exit)) (now (waited .exit)) ⌝ }
 {
     for r in 0..rules {
-        sort_trigger(image, r, sorts);
-        sort_target(image, r, sorts);
+        draw_target(image, r, drawn);
+        name_awaited(image, r, waited);
     }
 }
 
-// Every text, whether a rule asks it or not: there are at most 256, and up to 8,384 rules.
-fn sort_texts(image: &[u8], conditions: usize, refs: &[u64], sorts: &mut [u64])
-    requires { ⌜ (References (now image) (now refs)) × (conditions ≡ conditionsIn (now image)) × (Sorted (now image) (now sorts) (rulesIn (now image)) 0) ⌝ }
-    ensures { λ _. ⌜ Sorted (now (image .entry)) (now (sorts .exit)) (rulesIn (now (image .entry))) (conditionsIn (now (image .entry))) ⌝ }
+fn words_meet(drawn: u64, waited: u64, named: u64) -> bool
+    ensures { λ r. ⌜ r ≡ meetWord drawn waited named ⌝ }
 {
-    for c in 0..conditions {
-        closure::take_row(sorts, MARK_WORDS, NAMED, refs, c);
+    drawn & (waited | named) != 0
+}
+
+// Whether some mark is drawn, and awaited or named by a text.
+fn sets_meet<'a>(
+    drawn: &'a [u64; MARK_WORDS],
+    waited: &'a [u64; MARK_WORDS],
+    named: &'a [u64; MARK_WORDS],
+) -> bool
+    ensures { λ r. ⌜ r ≡ meeting (now (drawn .entry)) (now (waited .entry)) (now (named .entry)) ⌝ }
+{
+    for k in 0..MARK_WORDS {
+        if words_meet(drawn[k], waited[k], named[k]) {
+            return true;
+        }
     }
+    false
 }
 
-fn meet(a: u64, b: u64) -> bool
-    ensures { λ r. ⌜ r ≡ meetWord a b ⌝ }
-{
-    a & b != 0
-}
-
-fn sorts_meet(sorts: &[u64]) -> bool
-    requires { ⌜ length (now sorts) ≡ sortWords ⌝ }
-    ensures { λ r. ⌜ r ≡ meeting (now (sorts .entry)) 1 (now (sorts .entry)) ⌝ }
-{
-    meet(sorts[4], sorts[0])
-        | meet(sorts[5], sorts[1])
-        | meet(sorts[6], sorts[2])
-        | meet(sorts[7], sorts[3])
-}
-
-// One pass over the rules, and one over the rows of the texts.
-pub fn may_loop(image: &[u8], counts: Counts, refs: &[u64]) -> bool
-    requires { ⌜ (Opened (now image) counts) × (References (now image) (now refs)) ⌝ }
+// One pass over the rules. `named` has the marks of all texts, whether a rule asks them or not.
+pub fn may_loop(image: &[u8], counts: Counts, named: &[u64; MARK_WORDS]) -> bool
+    requires { ⌜ (Opened (now image) counts) × (NamedIn (now image) (now named)) ⌝ }
     ensures { λ r. ⌜ r ≡ mayLoop (bookOf (now (image .entry))) ⌝ }
 {
-    let mut sorts = [0u64; SORTS];
-    sort_rules(image, counts.rules as usize, &mut sorts);
-    sort_texts(image, counts.conditions as usize, refs, &mut sorts);
-    sorts_meet(&sorts)
+    let mut drawn = [0u64; MARK_WORDS];
+    let mut waited = [0u64; MARK_WORDS];
+    sort_rules(image, counts.rules as usize, &mut drawn, &mut waited);
+    sets_meet(&drawn, &waited, named)
 }

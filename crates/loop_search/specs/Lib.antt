@@ -1,4 +1,4 @@
 -- The root of the crate's specs.
 pub mod Places
 pub mod Searching
-pub mod Linked
+pub mod Spreading

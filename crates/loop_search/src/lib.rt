@@ -1,81 +1,136 @@
 // The search among the rules that count for one stage.
+pub mod asking;
+pub mod spread;
+
 ghost use mathlib.Core.Path.{_≡_};
-ghost use Prim.Native.Nat.{_*_, _≤_, _<_};
-ghost use lib.ListN.{length};
-ghost use Rattle.book.specs.Image.{marksIn, rulesIn, bookOf};
-ghost use Rattle.book.specs.Marks.{markWords};
+ghost use Prim.Native.Nat.{_+_, _≤_, _<_};
+ghost use Rattle.paper.specs.Limits.{maxMarks};
+ghost use Rattle.book.specs.Image.{rulesIn, bookOf};
+ghost use Rattle.book.specs.Marks.{wordBits};
 ghost use Rattle.book.specs.WellFormed.{WellFormed};
 ghost use Rattle.book.specs.WellRead.{Opened};
-ghost use Rattle.texts.specs.Noted.{References};
-ghost use Rattle.loop_search.specs.Linked.{withCondition, withTrigger, LinkedMarks};
+ghost use Rattle.rule_order.specs.Nets.{rulesOf};
+ghost use Rattle.loop_search.specs.Spreading.{WithHit, Hits, LowestSource};
 ghost use Rattle.loop_search.specs.Places.{stagePlace};
+use crate::spread::begin_sources;
+use crate::spread::from_rule;
+use crate::spread::spread;
 use book::Counts;
-use book::rules::CONDITION_AT;
-use book::rules::NUMBER_AT;
-use book::rules::SENSE_AS_WRITTEN;
-use book::rules::SENSE_AT;
-use book::rules::TARGET_AT;
-use book::rules::TRIGGER_BECOME_YES;
-use paper::BOOK_HEADER;
-use paper::RULE_SIZE;
+use ordering::running::gets_through;
+use paper::MAX_CONDITIONS;
+use paper::MAX_MARKS;
 use rule_order::counted::is_counted;
 use texts::references::MARK_WORDS;
+use unwritten::waiting::target_of;
+use unwritten::written::RULE_WORDS;
 
-// The row of rule r's target takes in what its condition names.
-fn link_condition(image: &[u8], r: usize, refs: &[u64], rows: &mut [u64])
-    requires { ⌜ (WellFormed (now image)) × (References (now image) (now refs)) × (r < rulesIn (now image)) × (marksIn (now image) * markWords ≤ length (now rows)) ⌝ }
-    ensures { λ _. ⌜ now (rows .exit) ≡ withCondition (now (image .entry)) (now (refs .entry)) (now (rows .entry)) r ⌝ }
+// The set takes in the target of rule r, if it is a source that the rule carries on to itself.
+fn with_hit<'a>(
+    image: &[u8],
+    r: usize,
+    base: usize,
+    reached: &'a [u64; MAX_MARKS],
+    asked: &'a [u64; MAX_CONDITIONS],
+    hits: u64,
+) -> u64
+    requires { ⌜ (WellFormed (now image)) × (r < rulesIn (now image)) ⌝ }
+    ensures { λ after. ⌜ WithHit (now (image .entry)) base (now (reached .entry)) (now (asked .entry)) r hits after ⌝ }
 {
-    let at = BOOK_HEADER + RULE_SIZE * r;
-    if SENSE_AS_WRITTEN <= image[at + SENSE_AT] {
-        let target = wire::u16_at(image, at + TARGET_AT) as usize;
-        let condition = wire::u16_at(image, at + CONDITION_AT) as usize;
-        closure::take_row(rows, MARK_WORDS, target, refs, condition);
+    let t = target_of(image, r);
+    if t < base {
+        return hits;
     }
+    let i = t - base;
+    if 64 <= i {
+        return hits;
+    }
+    let from = from_rule(image, r, reached, asked);
+    sets::put_if(hits, i, sets::member(from, i))
 }
 
-// And the mark that its trigger waits for.
-fn link_trigger(image: &[u8], r: usize, rows: &mut [u64])
-    requires { ⌜ (WellFormed (now image)) × (r < rulesIn (now image)) × (marksIn (now image) * markWords ≤ length (now rows)) ⌝ }
-    ensures { λ _. ⌜ now (rows .exit) ≡ withTrigger (now (image .entry)) (now (rows .entry)) r ⌝ }
+// The sources that some rule carries on to themselves: one pass over the rules.
+fn hits_of<'a>(
+    image: &[u8],
+    rules: usize,
+    stage: u32,
+    base: usize,
+    reached: &'a [u64; MAX_MARKS],
+    asked: &'a [u64; MAX_CONDITIONS],
+) -> u64
+    requires { ⌜ (WellFormed (now image)) × (rules ≡ rulesIn (now image)) ⌝ }
+    ensures { λ hits. ⌜ Hits (now (image .entry)) stage base (now (reached .entry)) (now (asked .entry)) hits ⌝ }
 {
-    let at = BOOK_HEADER + RULE_SIZE * r;
-    if TRIGGER_BECOME_YES <= image[at] {
-        let target = wire::u16_at(image, at + TARGET_AT) as usize;
-        let mark = wire::u16_at(image, at + NUMBER_AT) as usize;
-        closure::put_bit(rows, MARK_WORDS, target, mark);
-    }
-}
-
-// Row b is the set of marks that the counted rules which target b refer to; rows from the number of marks on stay as they are.
-fn link(image: &[u8], counts: Counts, stage: u32, refs: &[u64], rows: &mut [u64])
-    requires { ⌜ (Opened (now image) counts) × (References (now image) (now refs)) × (marksIn (now image) * markWords ≤ length (now rows)) ⌝ }
-    ensures { λ _. ⌜ LinkedMarks (now (image .entry)) stage (now (rows .exit)) ⌝ }
-{
-    closure::clear(rows, counts.marks as usize * MARK_WORDS);
-    let rules = counts.rules as usize;
+    let mut hits: u64 = 0;
     for r in 0..rules {
         if is_counted(image, r, stage) {
-            link_condition(image, r, refs, rows);
-            link_trigger(image, r, rows);
+            hits = with_hit(image, r, base, reached, asked, hits);
         }
     }
+    hits
 }
 
-// The stage need not be one that the book has.
-// One pass over the rules, and one closure over the marks: at most 65,536 rows of four words taken in.
+// The lowest of the 64 marks from `base` on that a rule on a loop targets, counted from there, or 64.
+fn source_on_loop(
+    image: &[u8],
+    counts: Counts,
+    stage: u32,
+    base: usize,
+    reached: &mut [u64; MAX_MARKS],
+    asked: &mut [u64; MAX_CONDITIONS],
+) -> usize
+    requires { ⌜ (Opened (now image) counts) × (base + wordBits ≤ maxMarks) ⌝ }
+    ensures { λ i. ⌜ LowestSource (rulesOf (now (image .entry)) stage) base i ⌝ }
+{
+    begin_sources(base, reached);
+    *asked = [0; MAX_CONDITIONS];
+    spread(image, counts, stage, reached, asked);
+    let hits = hits_of(image, counts.rules as usize, stage, base, reached, asked);
+    sets::least(hits) as usize
+}
+
+// 64 marks at a time.
+fn search(
+    image: &[u8],
+    counts: Counts,
+    stage: u32,
+    reached: &mut [u64; MAX_MARKS],
+    asked: &mut [u64; MAX_CONDITIONS],
+) -> usize
+    requires { ⌜ Opened (now image) counts ⌝ }
+    ensures { λ r. ⌜ r ≡ stagePlace (bookOf (now (image .entry))) stage ⌝ }
+{
+    let marks = counts.marks as usize;
+    let mut base: usize = 0;
+    while base < marks {
+        let i = source_on_loop(image, counts, stage, base, reached, asked);
+        if i < 64 {
+            return base + i;
+        }
+        base += 64;
+    }
+    marks
+}
+
+// The stage need not be one that the book has. Where the running order lists all rules that count, there is no loop and no search. The
+// six arrays are lent, whatever they hold. A search takes a round for every 64 marks up to the place. A round takes passes over the texts
+// and the rules, at most one for each mark, fewer where rules stand before those that refer to their targets, and one more over the rules.
 pub fn stage_place(
     image: &[u8],
     counts: Counts,
     stage: u32,
-    refs: &[u64],
-    rows: &mut [u64],
+    targeted: &mut [u32; MAX_MARKS],
+    waits: &mut [u64; MARK_WORDS],
+    written: &mut [u64; RULE_WORDS],
+    free: &mut [u32; MAX_CONDITIONS],
+    reached: &mut [u64; MAX_MARKS],
+    asked: &mut [u64; MAX_CONDITIONS],
 ) -> usize
-    requires { ⌜ (Opened (now image) counts) × (References (now image) (now refs)) × (marksIn (now image) * markWords ≤ length (now rows)) ⌝ }
+    requires { ⌜ Opened (now image) counts ⌝ }
     ensures { λ r. ⌜ r ≡ stagePlace (bookOf (now (image .entry))) stage ⌝ }
 {
-    link(image, counts, stage, refs, rows);
-    let marks = counts.marks as usize;
-    closure::close(rows, marks, MARK_WORDS);
-    closure::lowest_on_diagonal(rows, marks, MARK_WORDS)
+    let rules = counts.rules as usize;
+    if gets_through(image, rules, stage, targeted, waits, written, free) {
+        return counts.marks as usize;
+    }
+    search(image, counts, stage, reached, asked)
 }

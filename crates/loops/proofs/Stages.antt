@@ -2,30 +2,28 @@
 use mathlib.Core.Path.{_≡_, refl, sym, ap, _∙_}
 use mathlib.Core.Bool.{Bool, true, false, not, _&&_, _||_, or-false}
 use mathlib.Core.List.{List}
-use Prim.Native.Nat.{ℕ, _+_, _*_, _≤_, _<_}
+use Prim.Native.Nat.{ℕ, _+_, _≤_, _<_}
 use native.Mathlib.Omega.{arith}
 use lib.Dec.{eqb, leb, ltb}
 use lib.ListN.{length}
-use borrow.Author.Tests.{eqb-true, eq-eqb, ne-eqb, le-leb, lt-leb, ltb-false, not-true}
+use borrow.Author.Tests.{eqb-true, eqb-false, eq-eqb, ne-eqb, le-leb, lt-leb, ltb-false, not-true}
 use Rattle.paper.specs.Limits.{maxEvents}
 use Rattle.general.specs.Cases.{cases, not-so}
 use Rattle.general.specs.Below.{some, some-step}
 use Rattle.sets.specs.Set.{has, union, only, collect}
 use Rattle.sets.specs.Laws.{has-empty, has-union, has-only, has-collect, ext}
 use Rattle.book.specs.Book.{ruleOf}
-use Rattle.book.specs.Image.{stagesIn, marksIn, rulesIn, rulePlace, triggerFrom, ruleFrom, bookOf, kindAt, senseAt, numberAt, conditionAt}
+use Rattle.book.specs.Image.{stagesIn, rulesIn, rulePlace, triggerFrom, ruleFrom, bookOf, kindAt, senseAt, numberAt, conditionAt}
 use Rattle.book.specs.Read.{rules-count, rule-read}
-use Rattle.book.specs.Marks.{markWords}
 use Rattle.book.specs.WellFormed.{WellFormed}
 use Rattle.book.specs.WellRead.{Opened}
 use Rattle.book.specs.declared.Counts.{Counts}
-use Rattle.texts.specs.Noted.{References}
 use Rattle.loops.specs.Gathering.{withStage}
 use Rattle.loop_search.specs.Places.{stagePlace, lesser, loopPlace}
 use Rattle.loop_search.specs.Searching.{completes, searchRule, searches, searching, searching-has, searches-below, none-search, one-searches, completable, targets-exist}
 use Rattle.loop_search.specs.Searching.{searchedBelow, searched-on, searched-past, searched-last, common-last, no-stages}
 use Rattle.loop_chances.specs.Chances.{mayLoop, no-chance}
-use Rattle.loop_search.proofs.Rows.{asks-byte, marks-many}
+use Rattle.loop_search.proofs.Reading.{asks-byte, marks-many}
 
 -- ---- one rule
 
@@ -76,9 +74,9 @@ pub record Gathered (s : List ℕ) (set r : ℕ) : Type 0 where
   pub within : r ≤ rulesIn s
   pub holds : (stage : ℕ) → has set stage ≡ some r (λ q. searchRule (ruleOf (bookOf s) q) stage)
 
-pub gathered-first : (s : List ℕ) → Gathered s 0 0
+pub gathered-first : (s : List ℕ) (set : ℕ) → set ≡ 0 → Gathered s set 0
 unfolding some
-gathered-first s = record { within = omega arith; holds = λ stage. has-empty stage }
+gathered-first s set e = record { within = omega arith; holds = λ stage. rw e (has-empty stage) }
 
 pub gathered-more : (s : List ℕ) (n set r next : ℕ) → n ≡ rulesIn s → Gathered s set r → r < n → next ≡ withStage s set r → Gathered s next (r + 1)
 gathered-more s n set r next m g l e =
@@ -98,11 +96,8 @@ gathered-last s n set r w m g h =
 
 -- ---- the loop over the stages
 
-pub record Placed (s : List ℕ) (h : Counts) (refs entry rows : List ℕ) (set least stage : ℕ) : Type 0 where
+pub record Placed (s : List ℕ) (h : Counts) (set least stage : ℕ) : Type 0 where
   pub opened : Opened s h
-  pub references : References s refs
-  pub room : marksIn s * markWords ≤ length rows
-  pub long : length rows ≡ length entry
   pub gathered : set ≡ searching (bookOf s)
   pub within : stage ≤ stagesIn s
   pub place : least ≡ searchedBelow (bookOf s) stage
@@ -110,12 +105,12 @@ pub record Placed (s : List ℕ) (h : Counts) (refs entry rows : List ℕ) (set 
 stages-many : (s : List ℕ) (h : Counts) → Opened s h → h .stages ≡ stagesIn s
 stages-many s h o = ap (λ (c : Counts). c .stages) (o .counts)
 
-module _ (s : List ℕ) (h : Counts) (refs entry rows : List ℕ) (set : ℕ) where
-  pub placed-first : Opened s h → References s refs → marksIn s * markWords ≤ length rows → set ≡ searching (bookOf s) → Placed s h refs rows rows set (h .marks) 0
+module _ (s : List ℕ) (h : Counts) (set : ℕ) where
+  pub placed-first : Opened s h → set ≡ searching (bookOf s) → Placed s h set (h .marks) 0
   unfolding bookOf searchedBelow
-  placed-first o f l e = record { opened = o; references = f; room = l; long = refl; gathered = e; within = omega arith; place = marks-many s h o }
+  placed-first o e = record { opened = o; gathered = e; within = omega arith; place = marks-many s h o }
 
-  module _ (least stage : ℕ) (g : Placed s h refs entry rows set least stage) (i : stage < h .stages) (x : Bool) (f : x ≡ has set stage) where
+  module _ (least stage : ℕ) (g : Placed s h set least stage) (i : stage < h .stages) (x : Bool) (f : x ≡ has set stage) where
     below-stages : stage < stagesIn s
     below-stages = omega (arith, stages-many s h (g .opened))
 
@@ -123,34 +118,27 @@ module _ (s : List ℕ) (h : Counts) (refs entry rows : List ℕ) (set : ℕ) wh
     unfolding bookOf
     searched = sym (searching-has (bookOf s) stage below-stages) ∙ rw (← g .gathered) (sym f)
 
-    pub placed-searched : (place next out : ℕ) (last new : List ℕ) → x ≡ true → place ≡ stagePlace (bookOf s) stage → next ≡ lesser least place → out ≡ next
-        → length last ≡ length rows → new ≡ last → Placed s h refs entry new set out (stage + 1)
-    placed-searched place next out last new t p n q k z =
+    pub placed-searched : (place next out : ℕ) → x ≡ true → place ≡ stagePlace (bookOf s) stage → next ≡ lesser least place → out ≡ next → Placed s h set out (stage + 1)
+    placed-searched place next out t p n q =
         let b = below-stages in
         record {
           opened = g .opened;
-          references = g .references;
-          room = rw (z, k) (g .room);
-          long = ap length z ∙ k ∙ g .long;
           gathered = g .gathered;
           within = omega arith;
           place = q ∙ n ∙ rw (p, g .place) (searched-on (bookOf s) stage (searched ∙ t));
         }
 
-    pub placed-past : (out : ℕ) (new : List ℕ) → x ≡ false → out ≡ least → new ≡ rows → Placed s h refs entry new set out (stage + 1)
-    placed-past out new t q z =
+    pub placed-past : (out : ℕ) → x ≡ false → out ≡ least → Placed s h set out (stage + 1)
+    placed-past out t q =
         let b = below-stages in
         record {
           opened = g .opened;
-          references = g .references;
-          room = rw z (g .room);
-          long = rw z (g .long);
           gathered = g .gathered;
           within = omega arith;
           place = q ∙ g .place ∙ searched-past (bookOf s) stage (searched ∙ t);
         }
 
-  pub placed-last : (least stage : ℕ) → (set ≡ 0 → ⊥) → Placed s h refs entry rows set least stage → h .stages ≤ stage → least ≡ loopPlace (bookOf s)
+  pub placed-last : (least stage : ℕ) → (set ≡ 0 → ⊥) → Placed s h set least stage → h .stages ≤ stage → least ≡ loopPlace (bookOf s)
   unfolding bookOf
   placed-last least stage n g l =
       let i = g .within in
@@ -170,8 +158,12 @@ module _ (s : List ℕ) (h : Counts) (o : Opened s h) where
   unfolding bookOf
   place-calm x e t = marks-many s h o ∙ sym (no-chance (bookOf s) (o .formed .headed .counted .marks) (targets-exist s (o .formed)) (sym e ∙ not-true x t))
 
-  pub place-common : (set p : ℕ) → (h .stages ≡ 0 → ⊥) → set ≡ searching (bookOf s) → set ≡ 0 → p ≡ stagePlace (bookOf s) (h .stages) → p ≡ loopPlace (bookOf s)
+  pub place-common : (set p : ℕ) (b : Bool) → (h .stages ≡ 0 → ⊥) → set ≡ searching (bookOf s) → b ≡ eqb set 0 → b ≡ true → p ≡ stagePlace (bookOf s) (h .stages) → p ≡ loopPlace (bookOf s)
   unfolding bookOf
-  place-common set p n e z q =
+  place-common set p b n e y z q =
       let m = stages-many s h o in
-      q ∙ rw m (common-last (bookOf s) (completable s (o .formed)) (omega arith) (none-search (bookOf s) (sym e ∙ z)))
+      q ∙ rw m (common-last (bookOf s) (completable s (o .formed)) (omega arith) (none-search (bookOf s) (sym e ∙ eqb-true set 0 (sym y ∙ z))))
+
+-- the set has a stage
+pub not-empty : (set : ℕ) (b : Bool) → b ≡ eqb set 0 → b ≡ false → set ≡ 0 → ⊥
+not-empty set b e z = eqb-false set 0 (sym e ∙ z)

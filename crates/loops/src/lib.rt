@@ -1,12 +1,11 @@
 // The lowest mark targeted by a rule on a loop among the rules that count for some stage.
 ghost use mathlib.Core.Path.{_≡_};
-ghost use Prim.Native.Nat.{_*_, _≤_, _<_};
-ghost use lib.ListN.{length};
-ghost use Rattle.book.specs.Image.{marksIn, rulesIn, bookOf};
-ghost use Rattle.book.specs.Marks.{markWords};
+ghost use Prim.Native.Nat.{_<_};
+ghost use Rattle.wide.specs.Number.{number};
+ghost use Rattle.book.specs.Image.{rulesIn, bookOf};
 ghost use Rattle.book.specs.WellFormed.{WellFormed};
 ghost use Rattle.book.specs.WellRead.{Opened};
-ghost use Rattle.texts.specs.Noted.{References};
+ghost use Rattle.texts.specs.Noted.{NamedIn};
 ghost use Rattle.loops.specs.Gathering.{withStage};
 ghost use Rattle.loop_search.specs.Places.{lesser, loopPlace};
 ghost use Rattle.loop_search.specs.Searching.{searching};
@@ -18,12 +17,17 @@ use book::rules::TRIGGER_COMPLETED;
 use loop_chances::may_loop;
 use loop_search::stage_place;
 use paper::BOOK_HEADER;
+use paper::MAX_CONDITIONS;
+use paper::MAX_MARKS;
 use paper::RULE_SIZE;
+use texts::references::MARK_WORDS;
+use unwritten::written::RULE_WORDS;
+use wide::Set;
 
 // The set with the stage whose completion triggers rule r, if that rule has a condition.
-fn with_stage(image: &[u8], r: usize, set: u64) -> u64
+fn with_stage(image: &[u8], r: usize, set: Set) -> Set
     requires { ⌜ (WellFormed (now image)) × (r < rulesIn (now image)) ⌝ }
-    ensures { λ n. ⌜ n ≡ withStage (now (image .entry)) set r ⌝ }
+    ensures { λ n. ⌜ number n ≡ withStage (now (image .entry)) (number set) r ⌝ }
 {
     let at = BOOK_HEADER + RULE_SIZE * r;
     if image[at] != TRIGGER_COMPLETED {
@@ -32,15 +36,16 @@ fn with_stage(image: &[u8], r: usize, set: u64) -> u64
     if image[at + SENSE_AT] < SENSE_AS_WRITTEN {
         return set;
     }
-    sets::join(set, sets::one(wire::u16_at(image, at + NUMBER_AT) as usize))
+    let stage = wire::u16_at(image, at + NUMBER_AT) as usize;
+    wide::join(set, wide::one(stage))
 }
 
 // The stages that have a completion rule with a condition: one pass over the rules.
-fn searching(image: &[u8], rules: usize) -> u64
+fn searching(image: &[u8], rules: usize) -> Set
     requires { ⌜ (WellFormed (now image)) × (rules ≡ rulesIn (now image)) ⌝ }
-    ensures { λ set. ⌜ set ≡ searching (bookOf (now (image .entry))) ⌝ }
+    ensures { λ set. ⌜ number set ≡ searching (bookOf (now (image .entry))) ⌝ }
 {
-    let mut set: u64 = 0;
+    let mut set = wide::empty();
     for r in 0..rules {
         set = with_stage(image, r, set);
     }
@@ -54,41 +59,90 @@ fn lesser(x: usize, y: usize) -> usize
 }
 
 // The lowest place of the stages in the set, which has one.
-fn searched_place(image: &[u8], counts: Counts, set: u64, refs: &[u64], rows: &mut [u64]) -> usize
-    requires { ⌜ (Opened (now image) counts) × (References (now image) (now refs)) × (marksIn (now image) * markWords ≤ length (now rows)) × (set ≡ searching (bookOf (now image))) × (set ≡ 0 → ⊥) ⌝ }
+fn searched_place(
+    image: &[u8],
+    counts: Counts,
+    set: Set,
+    targeted: &mut [u32; MAX_MARKS],
+    waits: &mut [u64; MARK_WORDS],
+    written: &mut [u64; RULE_WORDS],
+    free: &mut [u32; MAX_CONDITIONS],
+    reached: &mut [u64; MAX_MARKS],
+    asked: &mut [u64; MAX_CONDITIONS],
+) -> usize
+    requires { ⌜ (Opened (now image) counts) × (number set ≡ searching (bookOf (now image))) × (number set ≡ 0 → ⊥) ⌝ }
     ensures { λ r. ⌜ r ≡ loopPlace (bookOf (now (image .entry))) ⌝ }
 {
     let mut least = counts.marks as usize;
     let stages = counts.stages;
     for stage in 0..stages {
-        if sets::member(set, stage as usize) {
-            let place = stage_place(image, counts, stage, refs, rows);
+        if wide::member(set, stage as usize) {
+            let place = stage_place(
+                image,
+                counts,
+                stage,
+                targeted,
+                waits,
+                written,
+                free,
+                reached,
+                asked,
+            );
             least = lesser(least, place);
         }
     }
     least
 }
 
-// Over all stages. `refs` has the marks of the texts; `rows`, whose content does not matter, is overwritten: four words for each mark.
-// A book where no loop is possible, as a derived one, takes one pass over the rules and one over the condition rows, and no search. Else a
-// completion rule without a condition refers to nothing and is on no loop: where no stage has one with a condition, one search among the rules
-// that count for every stage serves all; it is asked for `stages`, which no rule names. Where some stages have, these rules count for each
-// of them too, and the searches for those stages serve all.
-// The worst book has 64 stages with a condition each: 64 searches, so 66 passes over at most 8,384 rules and 64 closures of 65,536 rows of
-// four words.
-pub fn loop_place(image: &[u8], counts: Counts, refs: &[u64], rows: &mut [u64]) -> usize
-    requires { ⌜ (Opened (now image) counts) × (References (now image) (now refs)) × (marksIn (now image) * markWords ≤ length (now rows)) ⌝ }
+// Over all stages. `named` has the marks of the texts; the six arrays are lent, whatever they hold.
+// A book where no loop is possible, as a derived one, takes one pass over the rules, and no search. Else a completion rule without a condition
+// refers to nothing and is on no loop: where no stage has one with a condition, one search among the rules that count for every stage serves
+// all; it is asked for `stages`, which no rule names. Where some stages have, these rules count for each of them too, and the searches
+// for those stages serve all.
+// The worst book has 256 stages with a condition each: 256 running orders, and a search for each of them that gets stuck.
+pub fn loop_place(
+    image: &[u8],
+    counts: Counts,
+    named: &[u64; MARK_WORDS],
+    targeted: &mut [u32; MAX_MARKS],
+    waits: &mut [u64; MARK_WORDS],
+    written: &mut [u64; RULE_WORDS],
+    free: &mut [u32; MAX_CONDITIONS],
+    reached: &mut [u64; MAX_MARKS],
+    asked: &mut [u64; MAX_CONDITIONS],
+) -> usize
+    requires { ⌜ (Opened (now image) counts) × (NamedIn (now image) (now named)) ⌝ }
     ensures { λ r. ⌜ r ≡ loopPlace (bookOf (now (image .entry))) ⌝ }
 {
     if counts.stages == 0 {
         return counts.marks as usize;
     }
-    if !may_loop(image, counts, refs) {
+    if !may_loop(image, counts, named) {
         return counts.marks as usize;
     }
     let set = searching(image, counts.rules as usize);
-    if set == 0 {
-        return stage_place(image, counts, counts.stages, refs, rows);
+    if wide::is_empty(set) {
+        return stage_place(
+            image,
+            counts,
+            counts.stages,
+            targeted,
+            waits,
+            written,
+            free,
+            reached,
+            asked,
+        );
     }
-    searched_place(image, counts, set, refs, rows)
+    searched_place(
+        image,
+        counts,
+        set,
+        targeted,
+        waits,
+        written,
+        free,
+        reached,
+        asked,
+    )
 }

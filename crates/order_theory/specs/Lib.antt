@@ -1,6 +1,7 @@
 -- The root of the crate's specs.
 pub mod Order
 pub mod Loops
+pub mod Spread
 pub mod Written
 pub mod Running
 pub mod Rising

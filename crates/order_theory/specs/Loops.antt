@@ -1,18 +1,14 @@
 -- A mark is targeted by a rule on a loop exactly if the closure of the table of references has it reach itself. Assumes nothing.
-use mathlib.Core.Path.{_≡_, refl, subst, _∙_}
+use mathlib.Core.Path.{_≡_, refl, subst}
 use mathlib.Core.Logic.{_⊎_, inl, inr, ⊎-elim, _↔_}
 use mathlib.Core.Bool.{Bool, true, _&&_}
-use mathlib.Core.List.{List}
-use Prim.Native.Nat.{ℕ, _*_, _≤_, _<_}
+use Prim.Native.Nat.{ℕ, _<_}
 use native.Mathlib.Omega.{arith}
 use lib.Dec.{eqb, ltb}
-use lib.ListN.{length}
 use borrow.Author.Tests.{eqb-true, eq-eqb, ltb-true, ltb-false}
 use Rattle.general.specs.Cases.{contra, cases, both}
-use Rattle.general.specs.Below.{some, some-of, some-at, first, first-is, first-same}
-use Rattle.closure.specs.Closure.{Way, hop, via, within, sound, complete, within-same, within-turned}
-use Rattle.closure.specs.BitRows.{bit, closed}
-use Rattle.closure.specs.Reached.{closed-bit}
+use Rattle.general.specs.Below.{some, some-of, some-at, first, first-is}
+use Rattle.closure.specs.Closure.{Way, hop, via, within, sound, complete}
 use Rattle.order_theory.specs.Order.{Net, Counted, before, Chain, link, more, OnLoop, NoLoop}
 
 module _ (N : Net) where
@@ -81,12 +77,3 @@ module _ (N : Net) where
             λ e r i c. contra (loop-found (N .target r) .0 (r, i, refl, c)) (l .lowest (N .target r) (rw e (small r i))),
           ),
         )
-
-    -- rows of bits that hold for each mark what the rules that target it refer to: the first that their closure has itself
-    pub loop-rows : (width : ℕ) (rows : List ℕ) → marks * width ≤ length rows → marks ≤ 64 * width → ((a b : ℕ) → a < marks → b < marks → bit rows width b a ≡ leads a b)
-        → first marks (λ m. bit (closed marks width rows) width m m) ≡ loopMark marks
-    loop-rows width rows f w h =
-        first-same marks (λ m. bit (closed marks width rows) width m m) (λ m. within leads marks m m)
-        (λ m c. closed-bit marks width rows f w m m c (omega arith)
-        ∙ within-same (bit rows width) (λ b a. leads a b) marks (λ b a i j. h a b j i) marks m m (omega arith) c c
-        ∙ within-turned leads marks m m)

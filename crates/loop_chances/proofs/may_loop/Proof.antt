@@ -1,5 +1,5 @@
 -- `loop_chances::may_loop` meets its contract. Assumes nothing.
-use Rattle.loop_search.proofs.Rows.{rules-many, conditions-many}
+use Rattle.loop_search.proofs.Reading.{rules-many}
 use Rattle.loop_chances.proofs.Sorting.{sorts-say}
 use borrow.Author.Needs.{needs}
 use Rattle.loop_chances.proofs.may_loop.Statement.{statement}
@@ -9,9 +9,7 @@ pub may-loop-spec : {M : Type 1} → statement M
 may-loop-spec =
     tie.close
     (tie.spec
-    (λ c. search needs) (λ c. search needs)
+    (λ c. search needs)
     (λ c κs. search (needs, rules-many))
-    (λ c. search needs) (λ c. search needs)
-    (λ c κs. search (needs, conditions-many))
-    (λ c. search needs) (λ c κs. search needs)
+    (λ c κs. search needs)
     (λ c. search sorts-say))

@@ -1,6 +1,6 @@
 -- `loops::loop_place` meets its contract. Assumes nothing.
-use Rattle.loop_search.proofs.Rows.{rules-many}
-use Rattle.loops.proofs.Stages.{place-none, place-calm, place-common}
+use Rattle.loop_search.proofs.Reading.{rules-many}
+use Rattle.loops.proofs.Stages.{place-none, place-calm, place-common, not-empty}
 use borrow.Author.Needs.{needs}
 use Rattle.loops.proofs.loop_place.Statement.{statement}
 use Rattle.loops.proofs.loop_place.Tie as tie
@@ -17,4 +17,4 @@ loop-place-spec =
     (λ c κs. search (needs, rules-many))
     (λ c κs. search needs) (λ c. search needs)
     (λ c. search place-common)
-    (λ c κs. search needs) (λ c. search needs) (λ c. search needs))
+    (λ c κs. (search needs, search needs, search not-empty)) (λ c. search needs))
