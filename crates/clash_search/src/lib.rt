@@ -1,14 +1,15 @@
 // The lowest pair of rules that clash: the lowest rule that clashes with some rule, and the lowest of those that it clashes with.
 ghost use mathlib.Core.Path.{_≡_};
-ghost use Prim.Native.Nat.{_*_, _≤_, _<_};
+ghost use Prim.Native.Nat.{_-_, _≤_, _<_, min};
 ghost use lib.ListN.{length};
 ghost use Rattle.book.specs.Book.{ruleOf};
 ghost use Rattle.book.specs.Image.{rulesIn, marksIn, bookOf};
-ghost use Rattle.book.specs.Marks.{markWords};
 ghost use Rattle.book.specs.WellFormed.{WellFormed};
 ghost use Rattle.clashes.specs.Clash.{clash};
 ghost use Rattle.clashes.specs.Pairs.{clashFirst, clashSecond};
-ghost use Rattle.clashes.specs.Groups.{Found};
+ghost use Rattle.clashes.specs.Groups.{clashRound, clashWork, Found};
+use clashes::ROUND;
+use clashes::ROUND_WORDS;
 use clashes::lowest;
 use clashes::sum_up;
 use paper::MAX_EVENTS;
@@ -40,6 +41,18 @@ fn clash(image: &[u8], p: usize, q: usize) -> bool
     !(stages | senses)
 }
 
+// How many marks the round has that begins with mark `from`.
+fn round_at(from: usize, marks: usize) -> usize
+    requires { ⌜ from < marks ⌝ }
+    ensures { λ n. ⌜ n ≡ min (marks - from) clashRound ⌝ }
+{
+    if marks - from < ROUND {
+        marks - from
+    } else {
+        ROUND
+    }
+}
+
 // Rule pairs from rule `low` on, until one clashes. `low` is known to clash with some rule, so that the inner loop runs once.
 fn search(image: &[u8], rules: usize, low: usize) -> Pair
     requires { ⌜ (WellFormed (now image)) × (rules ≡ rulesIn (now image)) × (Found (bookOf (now image)) (marksIn (now image)) low) ⌝ }
@@ -63,15 +76,31 @@ fn search(image: &[u8], rules: usize, low: usize) -> Pair
     }
 }
 
-// `work` may come with any content: its first four words for each mark are cleared.
-// Cost: one pass over the rules, two more for each mark that is not calm, so at most 513, and one for the second rule of a pair.
+// The lowest rule that clashes with some rule, or the number of rules, round after round.
+fn lowest_of_all(image: &[u8], rules: usize, marks: usize, work: &mut [u64]) -> usize
+    requires { ⌜ (WellFormed (now image)) × (rules ≡ rulesIn (now image)) × (marks ≡ marksIn (now image)) × (clashWork marks ≤ length (now work)) ⌝ }
+    ensures { λ r. ⌜ (Found (bookOf (now (image .entry))) (marksIn (now (image .entry))) r) × (length (now (work .exit)) ≡ length (now (work .entry))) ⌝ }
+{
+    let mut low = rules;
+    let mut from = 0usize;
+    while from < marks {
+        let n = round_at(from, marks);
+        closure::clear(work, ROUND_WORDS * n);
+        sum_up(image, rules, from, n, work);
+        low = lowest(image, rules, from, n, low, work);
+        from += n;
+    }
+    low
+}
+
+// `work` may come with any content: the words of each round are cleared.
+// Cost: one pass over the rules for every 192 marks, two more for each mark that is not calm, so at most 2,054, and one for the second rule of a
+// pair.
 pub fn first_clash(image: &[u8], rules: usize, marks: usize, work: &mut [u64]) -> Pair
-    requires { ⌜ (WellFormed (now image)) × (rules ≡ rulesIn (now image)) × (marks ≡ marksIn (now image)) × (marks * markWords ≤ length (now work)) ⌝ }
+    requires { ⌜ (WellFormed (now image)) × (rules ≡ rulesIn (now image)) × (marks ≡ marksIn (now image)) × (clashWork marks ≤ length (now work)) ⌝ }
     ensures { λ r. ⌜ (r .first ≡ clashFirst (bookOf (now (image .entry)))) × (r .second ≡ clashSecond (bookOf (now (image .entry))) (r .first)) ⌝ }
     ensures { λ _. ⌜ length (now (work .exit)) ≡ length (now (work .entry)) ⌝ }
 {
-    closure::clear(work, 4 * marks);
-    sum_up(image, rules, work);
-    let low = lowest(image, rules, marks, work);
+    let low = lowest_of_all(image, rules, marks, work);
     search(image, rules, low)
 }

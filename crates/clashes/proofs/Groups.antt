@@ -1,5 +1,5 @@
 -- Which rules of a mark clash, by what they do, by their turns and by the senses of groups. Assumes nothing.
-use mathlib.Core.Path.{_≡_, refl, sym, ap, _∙_}
+use mathlib.Core.Path.{_≡_, refl, sym, ap, subst, _∙_}
 use mathlib.Core.Bool.{Bool, true, false, not, _&&_, _||_, and-true, and-false, Bool·beq}
 use mathlib.Core.List.{List}
 use Prim.Native.Nat.{ℕ, zero, suc, _+_, _*_, _≤_, _<_}
@@ -10,8 +10,9 @@ use borrow.Author.Tests.{eqb-true, eqb-false, eq-eqb, ne-eqb, ltb-true, ltb-fals
 use Rattle.paper.specs.Limits.{maxMarks, maxEvents}
 use Rattle.general.specs.Cases.{contra, cases, both, either, or-right, same-test, not-so}
 use Rattle.general.specs.Below.{some, some-same, some-none}
-use Rattle.sets.specs.Set.{has, inter, only}
+use Rattle.sets.specs.Set.{has, inter}
 use Rattle.sets.specs.Laws.{has-only, has-all, apart-not}
+use Rattle.wide.specs.Number.{rowOf}
 use Rattle.book.specs.Book.{Book, ruleOf}
 use Rattle.book.specs.declared.Rule.{Rule}
 use Rattle.book.specs.declared.Trigger.{Trigger}
@@ -20,7 +21,7 @@ use Rattle.book.specs.WellRead.{triggerExists}
 use Rattle.clashes.specs.Clash.{completesOther, otherStages, oppositeSenses, apart, Apart, opposed, clash, clashes-so}
 use Rattle.clashes.specs.Clash.Apart.{stages, written, negated}
 use Rattle.senses.specs.Senses.{side, does, turn, stagesAt, slot, mixed, code, codeOf, twin, meets, Senses}
-use Rattle.clashes.specs.Groups.{Summed, calm, clashesAny}
+use Rattle.clashes.specs.Groups.{sensesAt, Summed, Sides, calm, clashesAny}
 use Rattle.clashes.proofs.Senses.{code-some, twin-mixed, twin-not-mixed, opposite-code, senses-one}
 
 -- ---- two rules
@@ -178,6 +179,23 @@ stages-apart t u n =
     (λ y. let i = ltb-true u maxEvents y in absurd (n u (stage-in t u i (λ o. absurd (omega arith))) (stage-in u u i (λ o. refl))))
     (λ y. let i = ltb-false u maxEvents y in absurd (n 0 (stage-in t 0 (omega arith) (λ o. absurd (omega arith))) (stage-in u 0 (omega arith) (λ o. absurd (omega arith))))))
 
+-- a mark's two places in its round
+side-clears : (from i : ℕ) → side (from + i) false ≡ 2 * from + 2 * i
+unfolding side
+side-clears from i = omega arith
+
+side-sets : (from i : ℕ) → side (from + i) true ≡ 2 * from + (2 * i + 1)
+unfolding side
+side-sets from i = omega arith
+
+pub sides-of : (b : Book) (from n i k : ℕ) (work : List ℕ) → Summed b from n k work → i < n → Sides b (from + i) k (getD work (sensesAt n (2 * i)) 0) (getD work (sensesAt n (2 * i) + 1) 0)
+sides-of b from n i k work g h =
+    let z : sensesAt n (2 * i + 1) ≡ sensesAt n (2 * i) + 1 = omega arith in
+    record {
+      clears = rw (side-clears from i) (g .senses (2 * i) (omega arith));
+      sets = rw (side-sets from i) (subst (λ (a : ℕ). Senses b (λ q. eqb (does b q) (2 * from + (2 * i + 1))) k (getD work a 0)) z (g .senses (2 * i + 1) (omega arith)));
+    }
+
 module _ (b : Book) (known : (y : ℕ) → y < length (b .rules) → Known (ruleOf b y .trigger)) where
   apart-sense : (p : ℕ) → twin (codeOf b p) ≡ mixed → ⊥
   apart-sense p = twin-not-mixed (codeOf b p) (code-some (ruleOf b p .sense))
@@ -199,84 +217,71 @@ module _ (b : Book) (known : (y : ℕ) → y < length (b .rules) → Known (rule
       (sym (some-or (length (b .rules)) _ _)
       ∙ some-same (length (b .rules)) _ (λ q. clash (ruleOf b p) (ruleOf b q)) (λ q i. sym (clash-early (ruleOf b p) (ruleOf b q) (known p h) (known q i) l)))
 
-  -- ---- a mark that its four words tell to be calm
+  -- ---- a mark that its words tell to be calm
 
-  module _ (marks m : ℕ) (work : List ℕ) (g : Summed b marks (length (b .rules)) work) (inside : m < marks) where
+  module _ (from n i : ℕ) (work : List ℕ) (g : Summed b from n (length (b .rules)) work) (inside : i < n) where
     -- a rule that clears the mark, and one that sets it
     record Pair (p q : ℕ) : Type 0 where
-      clears : (p < length (b .rules)) × (ruleOf b p .target ≡ m) × (ruleOf b p .effect ≡ false)
-      sets : (q < length (b .rules)) × (ruleOf b q .target ≡ m) × (ruleOf b q .effect ≡ true)
+      clears : (p < length (b .rules)) × (ruleOf b p .target ≡ from + i) × (ruleOf b p .effect ≡ false)
+      sets : (q < length (b .rules)) × (ruleOf b q .target ≡ from + i) × (ruleOf b q .effect ≡ true)
 
-    does-of : (p : ℕ) (e : Bool) → ruleOf b p .target ≡ m → ruleOf b p .effect ≡ e → does b p ≡ side m e
+    does-of : (p : ℕ) (e : Bool) → ruleOf b p .target ≡ from + i → ruleOf b p .effect ≡ e → does b p ≡ side (from + i) e
     does-of p e x y = rw (x, y)
-
-    at-clears : (2 * side m false ≡ 4 * m) × (2 * side m false + 1 ≡ 4 * m + 1)
-    unfolding side
-    at-clears = omega arith
-
-    at-sets : (2 * side m true ≡ 4 * m + 2) × (2 * side m true + 1 ≡ 4 * m + 3)
-    unfolding side
-    at-sets = omega arith
-
-    side-in : (e : Bool) → side m e < 2 * marks
-    unfolding side
-    side-in true = omega arith
-    side-in false = omega arith
 
     not-other : (p q : ℕ) → Pair p q
         → (otherStages (ruleOf b p .trigger) (ruleOf b q .trigger) || oppositeSenses (ruleOf b p .sense) (ruleOf b q .sense)) ≡ true → clash (ruleOf b p) (ruleOf b q) ≡ false
     unfolding clash apart
     not-other p q c e = rw (e) (and-false (opposed (ruleOf b p) (ruleOf b q)))
 
-    by-stages : inter (getD work (4 * m) 0) (getD work (4 * m + 2) 0) ≡ 0 → (p q : ℕ) → Pair p q → clash (ruleOf b p) (ruleOf b q) ≡ false
+    by-stages : inter (rowOf work (2 * i)) (rowOf work (2 * i + 1)) ≡ 0 → (p q : ℕ) → Pair p q → clash (ruleOf b p) (ruleOf b q) ≡ false
     by-stages z p q c =
         let (h, x, e) = c .clears in
-        let (i, y, f) = c .sets in
-        let t : ℕ = turn (ruleOf b p .trigger) in
-        let u : ℕ = turn (ruleOf b q .trigger) in
+        let (k, y, f) = c .sets in
         not-other p q c (rw (
-          other-turns (ruleOf b p .trigger) (ruleOf b q .trigger) (known p h) (known q i),
-          stages-apart t u (λ v j k. apart-not (getD work (4 * m) 0) (getD work (4 * m + 2) 0) v z
-              (rw (does-of p false x e, at-clears .0) at (g .stages p v h j)) (rw (does-of q true y f, at-sets .0) at (g .stages q v i k))),
+          other-turns (ruleOf b p .trigger) (ruleOf b q .trigger) (known p h) (known q k),
+          stages-apart (turn (ruleOf b p .trigger)) (turn (ruleOf b q .trigger)) (λ v u w. apart-not (rowOf work (2 * i)) (rowOf work (2 * i + 1)) v z
+              (g .stages p (2 * i) v h (omega arith) (does-of p false x e ∙ side-clears from i) u) (g .stages q (2 * i + 1) v k (omega arith) (does-of q true y f ∙ side-sets from i) w)),
         ))
 
-    by-senses : twin (getD work (4 * m + 1) 0) ≡ getD work (4 * m + 3) 0 → (p q : ℕ) → Pair p q → clash (ruleOf b p) (ruleOf b q) ≡ false
+    by-senses : twin (getD work (sensesAt n (2 * i)) 0) ≡ getD work (sensesAt n (2 * i) + 1) 0 → (p q : ℕ) → Pair p q → clash (ruleOf b p) (ruleOf b q) ≡ false
     unfolding meets
     by-senses z p q c =
         let (h, x, e) = c .clears in
-        let (i, y, f) = c .sets in
-        let s : ℕ = getD work (4 * m + 1) 0 in
-        let r : ℕ = getD work (4 * m + 3) 0 in
-        let gs : Senses b (λ q. eqb (does b q) (side m false)) (length (b .rules)) s = rw (at-clears .1) at (g .senses (side m false) (side-in false)) in
-        let gr : Senses b (λ q. eqb (does b q) (side m true)) (length (b .rules)) r = rw (at-sets .1) at (g .senses (side m true) (side-in true)) in
+        let (k, y, f) = c .sets in
+        let s : ℕ = getD work (sensesAt n (2 * i)) 0 in
+        let r : ℕ = getD work (sensesAt n (2 * i) + 1) 0 in
+        let m : ℕ = from + i in
+        let pair = sides-of b from n i (length (b .rules)) work g inside in
+        let gs = pair .clears in
+        let gr = pair .sets in
         let jp : eqb (does b p) (side m false) ≡ true = eq-eqb (does b p) (side m false) (does-of p false x e) in
         let jq : eqb (does b q) (side m true) ≡ true = eq-eqb (does b q) (side m true) (does-of q true y f) in
         not-other p q c (or-right (otherStages (ruleOf b p .trigger) (ruleOf b q .trigger)) (oppositeSenses (ruleOf b p .sense) (ruleOf b q .sense)) (cases (eqb s mixed)
         (λ t. let o : r ≡ 0 = sym z ∙ ap twin (eqb-true s mixed t) ∙ twin-mixed in
-        absurd (code-some (ruleOf b q .sense) (senses-one b (λ q. eqb (does b q) (side m true)) (length (b .rules)) r 0 q gr (λ n. omega arith) (rw (eq-eqb r 0 o)) i jq)))
-        (λ t. let k : codeOf b p ≡ s = senses-one b (λ q. eqb (does b q) (side m false)) (length (b .rules)) s s p gs (eqb-false s mixed t)
+        absurd (code-some (ruleOf b q .sense) (senses-one b (λ q. eqb (does b q) (side m true)) (length (b .rules)) r 0 q gr (λ n. omega arith) (rw (eq-eqb r 0 o)) k jq)))
+        (λ t. let j : codeOf b p ≡ s = senses-one b (λ q. eqb (does b q) (side m false)) (length (b .rules)) s s p gs (eqb-false s mixed t)
         (rw (eq-eqb s s refl) (and-false (not (eqb s 0)))) h jp in
-        let v : r ≡ twin (codeOf b p) = sym z ∙ ap twin (sym k) in
+        let v : r ≡ twin (codeOf b p) = sym z ∙ ap twin (sym j) in
         opposite-code (ruleOf b p .sense) (ruleOf b q .sense)
         ∙ eq-eqb (codeOf b q) (twin (codeOf b p)) (senses-one b (λ q. eqb (does b q) (side m true)) (length (b .rules)) r (twin (codeOf b p)) q gr (apart-sense p)
-        (rw (eq-eqb r (twin (codeOf b p)) v) (and-false (not (eqb r 0)))) i jq))))
+        (rw (eq-eqb r (twin (codeOf b p)) v) (and-false (not (eqb r 0)))) k jq))))
 
     -- no rule that targets the mark clashes
-    pub calm-any : (r : Bool) → r ≡ calm work m → r ≡ true
-        → (p : ℕ) → p < length (b .rules) → ruleOf b p .target ≡ m → clashesAny b p ≡ false
+    pub calm-any : (r : Bool) → r ≡ calm n work i → r ≡ true
+        → (p : ℕ) → p < length (b .rules) → ruleOf b p .target ≡ from + i → clashesAny b p ≡ false
     unfolding clashesAny
-    calm-any r e t p h x = some-none (length (b .rules)) (λ q. clash (ruleOf b p) (ruleOf b q)) (λ q i. not-so (λ c.
-        let k = clashes-so (ruleOf b p) (ruleOf b q) .0 c in contra c (turned q i (sym (k .mark) ∙ x) (k .effects) (ruleOf b p .effect) (ruleOf b q .effect) refl refl)))
+    calm-any r e t p h x = some-none (length (b .rules)) (λ q. clash (ruleOf b p) (ruleOf b q)) (λ q l. not-so (λ c.
+        let k = clashes-so (ruleOf b p) (ruleOf b q) .0 c in contra c (turned q l (sym (k .mark) ∙ x) (k .effects) (ruleOf b p .effect) (ruleOf b q .effect) refl refl)))
       where
         pair : (p q : ℕ) → Pair p q → clash (ruleOf b p) (ruleOf b q) ≡ false
         pair p q c =
-            either (eqb (inter (getD work (4 * m) 0) (getD work (4 * m + 2) 0)) 0) (eqb (twin (getD work (4 * m + 1) 0)) (getD work (4 * m + 3) 0)) (sym e ∙ t)
-            (λ z. by-stages (eqb-true (inter (getD work (4 * m) 0) (getD work (4 * m + 2) 0)) 0 z) p q c)
-            (λ z. by-senses (eqb-true (twin (getD work (4 * m + 1) 0)) (getD work (4 * m + 3) 0) z) p q c)
+            either (eqb (inter (rowOf work (2 * i)) (rowOf work (2 * i + 1))) 0) (eqb (twin (getD work (sensesAt n (2 * i)) 0)) (getD work (sensesAt n (2 * i) + 1) 0)) (sym e ∙ t)
+            (λ z. by-stages (eqb-true (inter (rowOf work (2 * i)) (rowOf work (2 * i + 1))) 0 z) p q c)
+            (λ z. by-senses (eqb-true (twin (getD work (sensesAt n (2 * i)) 0)) (getD work (sensesAt n (2 * i) + 1) 0) z) p q c)
 
-        turned : (q : ℕ) → q < length (b .rules) → ruleOf b q .target ≡ m → (ruleOf b p .effect ≡ ruleOf b q .effect → ⊥)
+        turned : (q : ℕ) → q < length (b .rules) → ruleOf b q .target ≡ from + i → (ruleOf b p .effect ≡ ruleOf b q .effect → ⊥)
             → (d f : Bool) → ruleOf b p .effect ≡ d → ruleOf b q .effect ≡ f → clash (ruleOf b p) (ruleOf b q) ≡ false
-        turned q i y n true true j k = absurd (n (j ∙ sym k))
-        turned q i y n false false j k = absurd (n (j ∙ sym k))
-        turned q i y n false true j k = pair p q (record { clears = (h, x, j); sets = (i, y, k) })
-        turned q i y n true false j k = clash-turned (ruleOf b p) (ruleOf b q) ∙ pair q p (record { clears = (i, y, k); sets = (h, x, j) })
+        turned q l y n true true j k = absurd (n (j ∙ sym k))
+        turned q l y n false false j k = absurd (n (j ∙ sym k))
+        turned q l y n false true j k = pair p q (record { clears = (h, x, j); sets = (l, y, k) })
+        turned q l y n true false j k = clash-turned (ruleOf b p) (ruleOf b q) ∙ pair q p (record { clears = (l, y, k); sets = (h, x, j) })

@@ -1,6 +1,6 @@
 -- What the passes over the rules and the marks keep, and the search for the pair. Assumes nothing.
 use mathlib.Core.Path.{_≡_, refl, sym, ap, _∙_}
-use mathlib.Core.Bool.{Bool, true, false, not, _&&_, and-false}
+use mathlib.Core.Bool.{Bool, true, false, _&&_, and-false}
 use mathlib.Core.List.{List, _++_}
 use Prim.Native.Nat.{ℕ, _+_, _*_, _≤_, _<_}
 use native.Mathlib.Numerals.{add-one}
@@ -10,27 +10,66 @@ use lib.ListN.{length, getD, set, drop, length-set, length-replicate, replicate}
 use lib.Seq.{getD-set-same, getD-set-other}
 use borrow.Author.Tests.{eqb-true, eqb-false, eq-eqb, ne-eqb, ltb-true, ltb-false}
 use Rattle.general.specs.Cases.{contra, cases, both, or-left, or-right, not-so, lt-suc}
-use Rattle.general.specs.Tables.{zeros-at}
+use Rattle.general.specs.Tables.{zeros-at, length-tabulate, tabulate-same}
 use Rattle.general.specs.Below.{some-of, first, first-is, first-found, first-none}
 use Rattle.sets.specs.Set.{has, union}
 use Rattle.sets.specs.Laws.{has-union}
+use Rattle.wide.specs.Words.{joined, words-same}
+use Rattle.wide.specs.Number.{number, rowOf, rowsIn, putRow, row-at, rows-put}
+use Rattle.wide.specs.declared.Set.{Set}
 use Rattle.closure.specs.Reached.{length-clear, clear-at}
 use Rattle.book.specs.Book.{Book, ruleOf}
 use Rattle.clashes.specs.Clash.{clash}
 use Rattle.clashes.specs.Pairs.{clashing, clashFirst, clashSecond, clashing-of, clashing-low, alone-some}
 use Rattle.senses.specs.Senses.{does, turn, stagesAt, slot, slots, codeOf, withSense, Senses}
-use Rattle.clashes.specs.Groups.{Summed, ByStage, clashesAny, Found}
+use Rattle.clashes.specs.Groups.{roundWords, sensesAt, Added, Summed, ByStage, clashesAny, Found}
 use Rattle.clashes.proofs.Senses.{senses-none, senses-past, senses-more}
+
+-- tables with the same words of n rows have the same rows
+rows-same : (n : ℕ) (t u : List ℕ) → ((k : ℕ) → k < n * 4 → getD u k 0 ≡ getD t k 0) → rowsIn n u ≡ rowsIn n t
+unfolding rowsIn rowOf
+rows-same n t u h = tabulate-same n (rowOf u) (rowOf t) (λ f l. ap joined (words-same 4 u t (f * 4) 0 (λ j p q. h (f * 4 + j) (omega arith))))
+
+rows-long : (n : ℕ) (t : List ℕ) → length (rowsIn n t) ≡ n
+unfolding rowsIn
+rows-long n t = length-tabulate n (rowOf t)
+
+-- ---- the words at d take in a rule: the stores to row d and to its senses are apart
+
+module _ (n : ℕ) (work : List ℕ) (wide : roundWords n ≤ length work) (d : ℕ) (s : Set) (h : d < 2 * n) where
+  put-long : length (putRow work d s) ≡ length work
+  put-long = simp length-set
+
+  kept : (f : ℕ) → getD (putRow work d s) (sensesAt n f) 0 ≡ getD work (sensesAt n f) 0
+  kept f =
+      let one : List ℕ = set work (d * 4) (s .w0) in
+      let two : List ℕ = set one (d * 4 + 1) (s .w1) in
+      let three : List ℕ = set two (d * 4 + 2) (s .w2) in
+      getD-set-other three (d * 4 + 3) (sensesAt n f) (s .w3) 0 (λ q. omega arith) ∙ getD-set-other two (d * 4 + 2) (sensesAt n f) (s .w2) 0 (λ q. omega arith)
+      ∙ getD-set-other one (d * 4 + 1) (sensesAt n f) (s .w1) 0 (λ q. omega arith) ∙ getD-set-other work (d * 4) (sensesAt n f) (s .w0) 0 (λ q. omega arith)
+
+  pub added : (x : Set) (a : ℕ) → number x ≡ rowOf work d → number s ≡ union (number x) a → (next : List ℕ) → next ≡ putRow work d s → (g y : ℕ)
+      → y ≡ withSense (getD next (sensesAt n d) 0) g → Added n work d a g (set next (sensesAt n d) y)
+  added x a p q next u g y w =
+      rw u (record {
+        long = length-set (putRow work d s) (sensesAt n d) y ∙ put-long;
+        rows = far y ∙ rows-put work d s (2 * n) (omega arith) h ∙ rw (q, p);
+        senses = getD-set-same (putRow work d s) (sensesAt n d) y 0 (rw put-long (omega arith)) ∙ w ∙ rw (u, kept d);
+        others = λ f i. getD-set-other (putRow work d s) (sensesAt n d) (sensesAt n f) y 0 (λ z. i (omega arith)) ∙ kept f;
+      })
+    where
+      far : (y : ℕ) → rowsIn (2 * n) (set (putRow work d s) (sensesAt n d) y) ≡ rowsIn (2 * n) (putRow work d s)
+      far y = rows-same (2 * n) (putRow work d s) (set (putRow work d s) (sensesAt n d) y) (λ k l. getD-set-other (putRow work d s) (sensesAt n d) k y 0 (λ z. omega arith))
 
 module _ (b : Book) where
   -- ---- the first pass
 
-  pub summed-start : (marks : ℕ) (work : List ℕ) → 4 * marks ≤ length work → Summed b marks 0 (replicate (4 * marks) 0 ++ drop (4 * marks) work)
-  summed-start marks work h =
+  pub summed-start : (from n : ℕ) (work : List ℕ) → roundWords n ≤ length work → Summed b from n 0 (replicate (roundWords n) 0 ++ drop (roundWords n) work)
+  summed-start from n work h =
       record {
-        wide = rw (length-clear work (4 * marks) h) h;
-        stages = λ y e l. absurd (omega arith);
-        senses = λ d l. rw (clear-at work (4 * marks) (2 * d + 1) (omega arith)) (senses-none b (λ q. eqb (does b q) d));
+        wide = rw (length-clear work (roundWords n) h) h;
+        stages = λ y d e l. absurd (omega arith);
+        senses = λ d l. rw (clear-at work (roundWords n) (sensesAt n d) (omega arith)) (senses-none b (λ q. eqb (does b q) (2 * from + d)));
       }
 
   -- one entry written
@@ -39,27 +78,34 @@ module _ (b : Book) where
       cases (eqb j i) (λ t. let e = eqb-true j i t in rw (e, getD-set-same l i v 0 h) (f e))
       (λ t. let n = eqb-false j i t in rw (getD-set-other l i j v 0 n) (g n))
 
-  module _ (marks r : ℕ) (work : List ℕ) (at x : ℕ) (t : Summed b marks r work) where
-    pub summed-more : at ≡ 2 * does b r → does b r < 2 * marks → x ≡ union (getD work at 0) (stagesAt (turn (ruleOf b r .trigger))) → (y : ℕ)
-        → y ≡ withSense (getD (set work at x) (at + 1) 0) (codeOf b r) → Summed b marks (r + 1) (set (set work at x) (at + 1) y)
-    summed-more e small o y w =
-        let wide = t .wide in
-        let long = length-set work at x in
-        let kept : (d : ℕ) → getD (set work at x) (2 * d + 1) 0 ≡ getD work (2 * d + 1) 0 = λ d. getD-set-other work at (2 * d + 1) x 0 (λ z. omega arith) in
+  -- a rule that targets no mark of the round
+  pub summed-past : (from n r : ℕ) (work : List ℕ) → Summed b from n r work → ((d : ℕ) → d < 2 * n → does b r ≡ 2 * from + d → ⊥) → Summed b from n (r + 1) work
+  summed-past from n r work t far =
+      record {
+        wide = t .wide;
+        stages = λ y d e l h i m. lt-suc (rw add-one at l) (λ j. absurd (far d h (rw j at i))) (λ j. t .stages y d e j h i m);
+        senses = λ d h. senses-past b (λ q. eqb (does b q) (2 * from + d)) r (getD work (sensesAt n d) 0) (t .senses d h) (ne-eqb (does b r) (2 * from + d) (far d h));
+      }
+
+  module _ (from n r : ℕ) (work : List ℕ) (t : Summed b from n r work) (d x : ℕ) (out : List ℕ) (a : Added n work d (stagesAt (turn (ruleOf b r .trigger))) x out) where
+    pub summed-more : d < 2 * n → does b r ≡ 2 * from + d → x ≡ codeOf b r → Summed b from n (r + 1) out
+    summed-more h e c =
+        let S : ℕ = stagesAt (turn (ruleOf b r .trigger)) in
         record {
-          wide = rw (length-set (set work at x) (at + 1) y, long) wide;
-          stages = λ z v l m.
-              rw (getD-set-other (set work at x) (at + 1) (2 * does b z) y 0 (λ n. omega arith))
-              (getD-entered work at (2 * does b z) x (omega arith) (λ k. has k v ≡ true)
-              (λ i. rw (o, has-union (getD work at 0) (stagesAt (turn (ruleOf b r .trigger))) v)
-              (lt-suc (rw add-one at l) (λ j. or-right (has (getD work at 0) v) (has (stagesAt (turn (ruleOf b r .trigger))) v) (rw j at m))
-              (λ j. or-left (has (getD work at 0) v) (has (stagesAt (turn (ruleOf b r .trigger))) v) (rw i at (t .stages z v j m)))))
-              (λ n. lt-suc (rw add-one at l) (λ j. absurd (n (ap (λ (k : ℕ). 2 * does b k) j ∙ sym e))) (λ j. t .stages z v j m)));
-          senses = λ d l.
-              getD-entered (set work at x) (at + 1) (2 * d + 1) y (omega arith) (λ k. Senses b (λ q. eqb (does b q) d) (r + 1) k)
-              (λ i. let z : does b r ≡ d = omega arith in
-              rw (w, ← i, kept d) (senses-more b (λ q. eqb (does b q) d) r (getD work (2 * d + 1) 0) (t .senses d l) (eq-eqb (does b r) d z)))
-              (λ n. rw (kept d) (senses-past b (λ q. eqb (does b q) d) r (getD work (2 * d + 1) 0) (t .senses d l) (ne-eqb (does b r) d (λ z. n (omega arith)))));
+          wide = rw (a .long) (t .wide);
+          stages = λ z f v l i g m.
+              rw (← row-at (2 * n) out f i, a .rows)
+              (getD-entered (rowsIn (2 * n) work) d f (union (rowOf work d) S) (rw (rows-long (2 * n) work) h) (λ k. has k v ≡ true)
+              (λ j. rw (has-union (rowOf work d) S v)
+              (lt-suc (rw add-one at l) (λ q. or-right (has (rowOf work d) v) (has S v) (rw q at m))
+              (λ q. or-left (has (rowOf work d) v) (has S v) (rw j at (t .stages z f v q i g m)))))
+              (λ j. rw (row-at (2 * n) work f i) (lt-suc (rw add-one at l) (λ q. absurd (j (let y : does b r ≡ 2 * from + f = rw q at g in omega arith))) (λ q. t .stages z f v q i g m))));
+          senses = λ f l.
+              cases (eqb f d)
+              (λ i. let z : f ≡ d = eqb-true f d i in
+              rw (z, a .senses, c) (senses-more b (λ q. eqb (does b q) (2 * from + d)) r (getD work (sensesAt n d) 0) (t .senses d h) (eq-eqb (does b r) (2 * from + d) e)))
+              (λ i. let z = eqb-false f d i in
+              rw (a .others f z) (senses-past b (λ q. eqb (does b q) (2 * from + f)) r (getD work (sensesAt n f) 0) (t .senses f l) (ne-eqb (does b r) (2 * from + f) (λ q. z (omega arith)))));
         }
 
   -- ---- the second pass, for one mark

@@ -20,7 +20,7 @@ side n set = 2 * n + cond set 1 0
 abbrev pub does : Book → ℕ → ℕ
 does b r = side (ruleOf b r .target) (ruleOf b r .effect)
 
--- the stage that a trigger completes, or 64 where the trigger is another
+-- the stage that a trigger completes, or the limit of stages where the trigger is another
 unfoldable pub turn : Trigger → ℕ
 turn None = maxEvents
 turn (Completed c) = c
@@ -35,7 +35,7 @@ stagesAt t = cond (ltb t maxEvents) (only t) (allBelow maxEvents)
 abbrev pub slot : Book → ℕ → ℕ
 slot b r = side (turn (ruleOf b r .trigger)) (ruleOf b r .effect)
 
--- 64 stages and no completion, by effect
+-- every stage and no completion, by effect
 abbrev pub slots : ℕ
 slots = 2 * maxEvents + 2
 

@@ -2,6 +2,7 @@
 ghost use mathlib.Core.Path.{_≡_};
 ghost use Prim.Native.Nat.{_+_, _*_, _≤_, _<_};
 ghost use Rattle.paper.specs.Limits.{maxMarks, maxEvents};
+ghost use Rattle.wide.specs.Number.{number};
 ghost use Rattle.book.specs.Book.{ruleOf};
 ghost use Rattle.book.specs.Image.{rulesIn, marksIn, bookOf};
 ghost use Rattle.book.specs.WellFormed.{WellFormed};
@@ -18,6 +19,7 @@ use book::rules::TRIGGER_COMPLETED;
 use paper::BOOK_HEADER;
 use paper::MAX_EVENTS;
 use paper::RULE_SIZE;
+use wide::Set;
 
 // ---- one rule
 pub fn target_of(image: &[u8], r: usize) -> usize
@@ -34,7 +36,7 @@ pub fn sets_it(image: &[u8], r: usize) -> bool
     image[BOOK_HEADER + RULE_SIZE * r + EFFECT_AT] == EFFECT_SET
 }
 
-// The stage whose completion rule r waits for, or 64 where its trigger is another.
+// The stage whose completion rule r waits for, or MAX_EVENTS where its trigger is another.
 pub fn turn_of(image: &[u8], r: usize) -> usize
     requires { ⌜ (WellFormed (now image)) × (r < rulesIn (now image)) ⌝ }
     ensures { λ t. ⌜ (t ≡ turn (ruleOf (bookOf (now (image .entry))) r .trigger)) × (t ≤ maxEvents) ⌝ }
@@ -72,13 +74,13 @@ pub fn side(n: usize, set: bool) -> usize
 }
 
 // The stage as a set, or every stage where it is none.
-pub fn stages_at(turn: usize) -> u64
-    ensures { λ r. ⌜ r ≡ stagesAt turn ⌝ }
+pub fn stages_at(turn: usize) -> Set
+    ensures { λ r. ⌜ number r ≡ stagesAt turn ⌝ }
 {
     if turn < MAX_EVENTS {
-        return sets::one(turn);
+        return wide::one(turn);
     }
-    sets::all_below(MAX_EVENTS)
+    wide::all_below(MAX_EVENTS)
 }
 
 // ---- the senses of a group of rules: 0 for no rule, their sense, or 1 where they are mixed or a rule has no condition

@@ -1,5 +1,5 @@
 -- `clashes::clashes_in` meets its contract. Assumes nothing.
-use Rattle.clashes.proofs.Rules.{by-target, not-in, is-in}
+use Rattle.clashes.proofs.Rules.{sides-target, by-target, not-in, is-in}
 use borrow.Author.Needs.{needs}
 use Rattle.clashes.proofs.clashes_in.Statement.{statement}
 use Rattle.clashes.proofs.clashes_in.Tie as tie
@@ -10,5 +10,5 @@ clashes-in-spec =
     (tie.spec
     (λ c κs. search needs)
     (λ c. search not-in)
-    (λ c κs. (search needs, search needs, search needs, search by-target))
+    (λ c κs. (search needs, search needs, search sides-target, search by-target))
     (λ c. search is-in))

@@ -2,17 +2,17 @@
 use Prim.Native.Nat.{_-_, _≤_}
 use Rattle.book.specs.Image.{bookOf}
 use Rattle.clashes.proofs.Passes.{Scanned, scan-start, scan-on, scan-found, scan-end}
-use Rattle.clashes.proofs.Rules.{sum-all, stage-all}
+use Rattle.clashes.proofs.Rules.{sides-all, stage-all}
 use borrow.Author.Needs.{needs}
 use native.Mathlib.Omega.{arith}
 use Rattle.clashes.proofs.lowest_of.Statement.{statement}
 use Rattle.clashes.proofs.lowest_of.Tie as tie
 
 abbrev Inv-loop : tie.InvT-loop
-Inv-loop image rules m low work by p₀ p = (p ≤ low) × (Scanned (bookOf image) m p)
+Inv-loop image rules m low clearing setting by p₀ p = (p ≤ low) × (Scanned (bookOf image) m p)
 
 abbrev μ-loop : tie.MeasureT-loop
-μ-loop image rules m low work by p₀ p = low - p
+μ-loop image rules m low clearing setting by p₀ p = low - p
 
 pub lowest-of-spec : {M : Type 1} → statement M
 lowest-of-spec =
@@ -22,7 +22,7 @@ lowest-of-spec =
     μ-loop
     (λ c κs. search needs)
     (λ c. (omega arith, scan-start _ _))
-    (λ c κs. (search needs, omega arith, search sum-all, search stage-all))
+    (λ c κs. (search needs, omega arith, search sides-all, search stage-all))
     (λ c. scan-found _ _ _ (c .before .before .before .before .loop .inv .1) _ _ (c .before .clashes-in .ensures) (c .if1 .taken) (c .before .before .before .loop-test .taken))
     (λ c. search needs) (λ c. search needs)
     (λ c. (omega arith, search scan-on))
