@@ -4,29 +4,26 @@ use mathlib.Core.Bool.{Bool, true, false, not, cond}
 use mathlib.Core.List.{List}
 use Prim.Native.Nat.{ℕ, _+_, _*_, _≤_, _<_}
 use native.Mathlib.Omega.{arith}
-use lib.Dec.{ltb, leb}
-use lib.ListN.{length, replicate}
-use borrow.Author.Tests.{ne-eqb, lt-ltb, le-ltb, le-leb, lt-leb, leb-true, not-true, not-false}
-use Rattle.paper.specs.Limits.{maxMarks, maxConditions, bookHeader, ruleSize, bookShort, bookCount, bookLength, badRule, badCondition, loopFound, clash, noSuchStage, orderRoom}
+use lib.Dec.{ltb}
+use lib.ListN.{length}
+use borrow.Author.Tests.{ne-eqb, lt-ltb, le-ltb, le-leb, lt-leb, not-true, not-false}
+use Rattle.paper.specs.Limits.{maxMarks, bookHeader, ruleSize, bookShort, bookCount, bookLength, badRule, badCondition, loopFound, clash, noSuchStage, orderRoom}
 use Rattle.paper.specs.Answers.{answer, granted, refusal}
 use Rattle.paper.specs.declared.Answer.{Answer}
-use Rattle.general.specs.Cases.{both}
 use Rattle.general.specs.Below.{first-is}
 use Rattle.order_theory.specs.Order.{countedRules, NoLoop}
-use Rattle.book.specs.Image.{stagesIn, marksIn, rulesIn, conditionsIn, conditionPlace, wordPlace, bookOf}
+use Rattle.book.specs.Image.{stagesIn, rulesIn, conditionPlace, wordPlace, bookOf}
 use Rattle.book.specs.Read.{rules-count}
 use Rattle.book.specs.Judging.{countsOf, countsFit, layoutFits, firstBadRule, conditionFits, firstBadCondition, bodyAnswer, imageAnswer}
-use Rattle.book.specs.Marks.{markWords}
 use Rattle.book.specs.WellFormed.{WellFormed, Headed, granted-well}
 use Rattle.book.specs.WellRead.{Opened}
 use Rattle.book.specs.declared.Counts.{Counts}
-use Rattle.texts.specs.Noted.{References, Named}
-use Rattle.texts.proofs.Rows.{named-references}
+use Rattle.texts.specs.Noted.{Named, NamedIn, named-in}
 use Rattle.rule_order.specs.Nets.{rulesOf}
 use Rattle.ordering.specs.Scanning.{orderedRoom}
 use Rattle.loop_search.specs.Places.{loopPlace, loop-fits}
 use Rattle.clashes.specs.Pairs.{clashFirst, clashSecond}
-use Rattle.judge.specs.Head.{headAnswer, head-refused, head-passed, passed-body, Begun, smallMarks, smallConditions, isSmall}
+use Rattle.judge.specs.Head.{headAnswer, head-refused, head-passed, passed-body, Begun}
 use Rattle.judge.specs.Checking.{rulesAnswer, bookAnswer, stageAnswer, checking, checkedRoom, marks-many, acyclic-at, book-answer, book-passes, granted-room, refused-room}
 
 -- ---- 20 to 22
@@ -52,15 +49,15 @@ module _ (s : List ℕ) (a : Answer) (h : Counts) (l : bookHeader ≤ length s) 
 -- ---- 23 and 24
 
 abbrev pub Noting : List ℕ → List ℕ → Answer → Type 0
-Noting s after a = (a ≡ imageAnswer s) × (a .code ≡ 0 → References s after)
+Noting s after a = (a ≡ imageAnswer s) × (a .code ≡ 0 → NamedIn s after)
 
-module _ (s : List ℕ) (h : Counts) (rows : List ℕ) (b : Begun s h rows) where
-  -- the bytes that are read lie in the image, and there is a row for each condition
+module _ (s : List ℕ) (h : Counts) (b : Begun s h) where
+  -- the bytes that are read lie in the image
   pub rules-inside : bookHeader + ruleSize * h .rules ≤ length s
   rules-inside = rw (b .counts) (let e = b .headed .laidOut .whole in omega arith)
 
-  pub words-inside : (wordPlace (h .rules) (h .conditions) (h .words) ≤ length s) × (h .conditions * markWords ≤ length rows) × (rows ≡ replicate (length rows) 0)
-  words-inside = rw (b .counts) (let e = b .headed .laidOut .whole in omega arith, b .room, b .blank)
+  pub words-inside : wordPlace (h .rules) (h .conditions) (h .words) ≤ length s
+  words-inside = rw (b .counts) (let e = b .headed .laidOut .whole in omega arith)
 
   body : bodyAnswer s h ≡ imageAnswer s
   body = rw (b .counts) (sym (passed-body s (b .headed)))
@@ -89,7 +86,7 @@ module _ (s : List ℕ) (h : Counts) (rows : List ℕ) (b : Begun s h rows) wher
       unfolding firstBadCondition
       body-granted l e n =
           let f = first-is (h .conditions) (λ x. not (conditionFits (h .marks) (h .words) (conditionPlace (h .rules) (h .conditions)) s (conditionPlace (h .rules) x))) .fits in
-          (passed l e, λ z. named-references s after (granted-well s a (passed l e) z) (rw (b .counts) at (n (omega arith))))
+          (passed l e, λ z. named-in s after (granted-well s a (passed l e) z) (rw (b .counts) at (n (omega arith))))
 
 -- ---- 25 and 26
 
@@ -137,11 +134,11 @@ abbrev pub Result : List ℕ → ℕ → List ℕ → List ℕ → Answer → Ty
 Result s stage entry exit r = (r ≡ checking s stage (length entry)) × (exit ≡ checkedRoom s stage entry)
 
 -- what the running order asks of a book that passes
-pub orders : (s : List ℕ) (stage : ℕ) (b : Answer) → b ≡ bookAnswer s → b .code ≡ 0 → (h : Counts) → h ≡ countsOf s → stage < h .stages → (refs : List ℕ) → References s refs
-    → (WellFormed s) × (h .rules ≡ rulesIn s) × (References s refs) × (NoLoop (rulesOf s stage))
-orders s stage b f i h c known refs w =
+pub orders : (s : List ℕ) (stage : ℕ) (b : Answer) → b ≡ bookAnswer s → b .code ≡ 0 → (h : Counts) → h ≡ countsOf s → stage < h .stages
+    → (WellFormed s) × (h .rules ≡ rulesIn s) × (NoLoop (rulesOf s stage))
+orders s stage b f i h c known =
     let p = book-passes s (sym (ap (λ (x : Answer). x .code) f) ∙ i) in
-    (p .formed, ap (λ (x : Counts). x .rules) c, w, acyclic-at s stage (p .acyclic) (rw c at known))
+    (p .formed, ap (λ (x : Counts). x .rules) c, acyclic-at s stage (p .acyclic) (rw c at known))
 
 module _ (s : List ℕ) (stage : ℕ) (room : List ℕ) where
   refusing : (a : Answer) → a ≡ checking s stage (length room) → (a .code ≡ 0 → ⊥) → Result s stage room room a
@@ -177,26 +174,10 @@ module _ (s : List ℕ) (stage : ℕ) (room : List ℕ) where
           let y : checking s stage (length room) ≡ granted = then ∙ rw (lt-ltb stage (stagesIn s) (rw c at known), ← many, le-ltb (length room) counted l) in
           (g ∙ sym y, w ∙ rw (le-leb (countedRules (rulesOf s stage)) (length room) (rw (← many) l)) (sym (granted-room s stage room (ap (λ (v : Answer). v .code) y) .0)))
 
--- ---- the arrays by size
+-- ---- behind the head
 
 pub headed-so : (s : List ℕ) (a : Answer) → a ≡ headAnswer s → a .code ≡ 0 → Headed s
 headed-so s a e z = head-passed s (sym (ap (λ (x : Answer). x .code) e) ∙ z)
 
-module _ (s : List ℕ) (h : Counts) (rows : List ℕ) (e : rows ≡ replicate (length rows) 0) (g : Headed s) (c : h ≡ countsOf s) where
-  pub small-ready : marksIn s ≤ smallMarks → conditionsIn s ≤ smallConditions → length rows ≡ smallConditions * markWords
-      → (Begun s h rows) × (marksIn s * markWords ≤ smallMarks * markWords)
-  small-ready m q r = (record { headed = g; counts = c; room = omega arith; blank = e }, omega arith)
-
-  pub large-ready : length rows ≡ maxConditions * markWords → (Begun s h rows) × (marksIn s * markWords ≤ maxMarks * markWords)
-  large-ready r =
-      let m = g .counted .marks in
-      let q = g .counted .conditions in
-      (record { headed = g; counts = c; room = omega arith; blank = e }, omega arith)
-
-pub small-so : (s : List ℕ) (h : Counts) (t : Bool) → h ≡ countsOf s → t ≡ isSmall h → t ≡ true → (marksIn s ≤ smallMarks) × (conditionsIn s ≤ smallConditions)
-unfolding isSmall
-small-so s h t c e f =
-    let (m, q) = both (leb (h .marks) smallMarks) (leb (h .conditions) smallConditions) (sym e ∙ f) in
-    let x = leb-true (h .marks) smallMarks m in
-    let y = leb-true (h .conditions) smallConditions q in
-    (rw c at x, rw c at y)
+pub begun-so : (s : List ℕ) (a : Answer) → a ≡ headAnswer s → a .code ≡ 0 → (h : Counts) → h ≡ countsOf s → Begun s h
+begun-so s a e z h c = record { headed = headed-so s a e z; counts = c }

@@ -47,7 +47,7 @@ stageAnswer s stage room =
 unfoldable pub checking : List ℕ → ℕ → ℕ → Answer
 checking s stage room = cond (eqb (bookAnswer s .code) 0) (stageAnswer s stage room) (bookAnswer s)
 
--- "The check is asked for a stage and writes that stage's order", 16 bits a rule; "Room past what is written stays as it was"; a refusal writes nothing
+-- "The check is asked for a stage and writes that stage's order", by request (xiv) 32 bits a rule; "Room past what is written stays as it was"; a refusal writes nothing
 unfoldable pub checkedRoom : List ℕ → ℕ → List ℕ → List ℕ
 checkedRoom s stage room = cond (eqb (checking s stage (length room) .code) 0) (runningOrder (rulesOf s stage) ++ drop (countedRules (rulesOf s stage)) room) room
 

@@ -1,19 +1,17 @@
 -- The image's head, judged for 20 to 22, and what stands when the rest is judged. Assumes nothing.
 use mathlib.Core.Path.{_≡_, sym, _∙_}
-use mathlib.Core.Bool.{Bool, not, cond, _&&_}
+use mathlib.Core.Bool.{not, cond}
 use mathlib.Core.List.{List}
-use Prim.Native.Nat.{ℕ, _*_, _≤_}
+use Prim.Native.Nat.{ℕ}
 use native.Mathlib.Omega.{arith}
-use lib.Dec.{eqb, ltb, leb}
-use lib.ListN.{length, replicate}
+use lib.Dec.{eqb, ltb}
+use lib.ListN.{length}
 use borrow.Author.Tests.{ltb-false, le-ltb, ne-eqb}
 use Rattle.paper.specs.Limits.{bookHeader, bookShort, bookCount, bookLength}
 use Rattle.paper.specs.Answers.{granted, refusal}
 use Rattle.paper.specs.declared.Answer.{Answer}
 use Rattle.general.specs.Cases.{cases}
-use Rattle.book.specs.Image.{conditionsIn}
 use Rattle.book.specs.Judging.{countsOf, countsFit, layoutFits, bodyAnswer, imageAnswer}
-use Rattle.book.specs.Marks.{markWords}
 use Rattle.book.specs.WellFormed.{Headed, counts-says, says-counts, layout-says, says-layout}
 use Rattle.book.specs.declared.Counts.{Counts}
 
@@ -47,20 +45,7 @@ pub passed-body : (s : List ℕ) → Headed s → imageAnswer s ≡ bodyAnswer s
 unfolding headAnswer
 passed-body s g = head-body s ∙ rw (le-ltb (length s) bookHeader (g .long), says-counts (countsOf s) (g .counted), says-layout s (countsOf s) (g .laidOut))
 
--- the head has passed, these are its counts, and there is an empty row for each condition
-pub record Begun (s : List ℕ) (h : Counts) (rows : List ℕ) : Type 0 where
+-- the head has passed, and these are its counts
+pub record Begun (s : List ℕ) (h : Counts) : Type 0 where
   pub headed : Headed s
   pub counts : h ≡ countsOf s
-  pub room : conditionsIn s * markWords ≤ length rows
-  pub blank : rows ≡ replicate (length rows) 0
-
--- ---- by size
-
-abbrev pub smallMarks : ℕ
-smallMarks = 64
-
-abbrev pub smallConditions : ℕ
-smallConditions = 32
-
-unfoldable pub isSmall : Counts → Bool
-isSmall h = leb (h .marks) smallMarks && leb (h .conditions) smallConditions

@@ -1,7 +1,7 @@
 // The whole image, judged for 20 to 24: its head, and behind a head that passes its records and texts.
 ghost use mathlib.Core.Path.{_≡_};
 ghost use Rattle.book.specs.Judging.{imageAnswer};
-ghost use Rattle.texts.specs.Noted.{References};
+ghost use Rattle.texts.specs.Noted.{NamedIn};
 ghost use Rattle.judge.specs.Head.{headAnswer, Begun};
 use book::Counts;
 use book::header::counts_at;
@@ -16,6 +16,7 @@ use paper::BOOK_HEADER;
 use paper::BOOK_LENGTH;
 use paper::BOOK_SHORT;
 use texts::first_bad_condition;
+use texts::references::MARK_WORDS;
 
 // 20 to 22.
 pub fn judge_head(image: &[u8]) -> Answer
@@ -34,10 +35,10 @@ pub fn judge_head(image: &[u8]) -> Answer
     paper::granted()
 }
 
-// 23 and 24. Where it gives 0 the image is a book, and row c of the references has the marks that condition c names.
-pub fn judge_body(image: &[u8], counts: Counts, refs: &mut [u64]) -> Answer
-    requires { ⌜ Begun (now image) counts (now refs) ⌝ }
-    ensures { λ r. ⌜ (r ≡ imageAnswer (now (image .entry))) × (r .code ≡ 0 → References (now (image .entry)) (now (refs .exit))) ⌝ }
+// 23 and 24. Where it gives 0 the image is a book, and the set has the marks that its texts name.
+pub fn judge_body(image: &[u8], counts: Counts, named: &mut [u64; MARK_WORDS]) -> Answer
+    requires { ⌜ Begun (now image) counts ⌝ }
+    ensures { λ r. ⌜ (r ≡ imageAnswer (now (image .entry))) × (r .code ≡ 0 → NamedIn (now (image .entry)) (now (named .exit))) ⌝ }
 {
     let r = first_bad_rule(
         image,
@@ -55,7 +56,7 @@ pub fn judge_body(image: &[u8], counts: Counts, refs: &mut [u64]) -> Answer
         counts.conditions,
         counts.words,
         counts.marks,
-        refs,
+        named,
     );
     if c < counts.conditions {
         return paper::refused(BAD_CONDITION, c, 0);

@@ -1,43 +1,55 @@
 // The check of a book for a stage: loops, clashes and the stage's running order.
 pub mod image;
 pub mod rules;
-pub mod sizes;
 
 ghost use mathlib.Core.Path.{_≡_};
-ghost use Prim.Native.Nat.{_*_, _≤_};
 ghost use lib.ListN.{length};
-ghost use Rattle.book.specs.Image.{marksIn, conditionsIn};
-ghost use Rattle.book.specs.Judging.{countsOf};
-ghost use Rattle.book.specs.Marks.{markWords};
-ghost use Rattle.book.specs.WellFormed.{Headed};
-ghost use Rattle.texts.specs.Noted.{References};
-ghost use Rattle.judge.specs.Head.{Begun, smallMarks, smallConditions};
+ghost use Rattle.judge.specs.Head.{Begun};
 ghost use Rattle.judge.specs.Checking.{bookAnswer, checking, checkedRoom};
 use crate::image::judge_body;
 use crate::image::judge_head;
 use crate::rules::judge_rules;
-use crate::sizes::SMALL_REFS;
-use crate::sizes::SMALL_WORK;
-use crate::sizes::WORK;
-use crate::sizes::is_small;
 use book::Counts;
 use book::header::counts_at;
 use ordering::running::running_order;
 use paper::Answer;
+use paper::MAX_CONDITIONS;
+use paper::MAX_MARKS;
 use paper::NO_SUCH_STAGE;
 use paper::ORDER_ROOM;
-use rule_order::references::REFS;
+use texts::references::MARK_WORDS;
+use unwritten::written::RULE_WORDS;
 
-// 23 to 26, behind a head that passed. Where it gives 0 the rows have the marks that the conditions name.
-pub fn judge_book(book: &[u8], counts: Counts, refs: &mut [u64], work: &mut [u64]) -> Answer
-    requires { ⌜ (Begun (now book) counts (now refs)) × (marksIn (now book) * markWords ≤ length (now work)) ⌝ }
-    ensures { λ r. ⌜ (r ≡ bookAnswer (now (book .entry))) × (r .code ≡ 0 → References (now (book .entry)) (now (refs .exit))) ⌝ }
+// 23 to 26, behind a head that passed, in six lent arrays: 41,184 bytes.
+pub fn judge_book(
+    book: &[u8],
+    counts: Counts,
+    targeted: &mut [u32; MAX_MARKS],
+    waits: &mut [u64; MARK_WORDS],
+    written: &mut [u64; RULE_WORDS],
+    free: &mut [u32; MAX_CONDITIONS],
+    reached: &mut [u64; MAX_MARKS],
+    asked: &mut [u64; MAX_CONDITIONS],
+) -> Answer
+    requires { ⌜ Begun (now book) counts ⌝ }
+    ensures { λ r. ⌜ r ≡ bookAnswer (now (book .entry)) ⌝ }
 {
-    let answer = judge_body(book, counts, refs);
+    let mut named = [0u64; MARK_WORDS];
+    let answer = judge_body(book, counts, &mut named);
     if answer.code != 0 {
         return answer;
     }
-    judge_rules(book, counts, refs, work)
+    judge_rules(
+        book,
+        counts,
+        &named,
+        targeted,
+        waits,
+        written,
+        free,
+        reached,
+        asked,
+    )
 }
 
 // 23 to 26, 29 and 31, or 0 and the stage's running order in the room.
@@ -45,14 +57,18 @@ fn check_in(
     book: &[u8],
     counts: Counts,
     stage: u32,
-    refs: &mut [u64],
-    work: &mut [u64],
-    room: &mut [u16],
+    targeted: &mut [u32; MAX_MARKS],
+    waits: &mut [u64; MARK_WORDS],
+    written: &mut [u64; RULE_WORDS],
+    free: &mut [u32; MAX_CONDITIONS],
+    reached: &mut [u64; MAX_MARKS],
+    asked: &mut [u64; MAX_CONDITIONS],
+    room: &mut [u32],
 ) -> Answer
-    requires { ⌜ (Begun (now book) counts (now refs)) × (marksIn (now book) * markWords ≤ length (now work)) ⌝ }
+    requires { ⌜ Begun (now book) counts ⌝ }
     ensures { λ r. ⌜ (r ≡ checking (now (book .entry)) stage (length (now (room .entry)))) × (now (room .exit) ≡ checkedRoom (now (book .entry)) stage (now (room .entry))) ⌝ }
 {
-    let answer = judge_book(book, counts, refs, work);
+    let answer = judge_book(book, counts, targeted, waits, written, free, reached, asked);
     if answer.code != 0 {
         return answer;
     }
@@ -60,47 +76,49 @@ fn check_in(
         return paper::refused(NO_SUCH_STAGE, 0, 0);
     }
     let rules = counts.rules as usize;
-    let counted = running_order(book, rules, stage, refs, room);
+    let counted = running_order(book, rules, stage, targeted, waits, written, free, room);
     if room.len() < counted {
         return paper::refused(ORDER_ROOM, counted as u32, 0);
     }
     paper::granted()
 }
 
-fn check_small(book: &[u8], counts: Counts, stage: u32, room: &mut [u16]) -> Answer
-    requires { ⌜ (Headed (now book)) × (counts ≡ countsOf (now book)) × (marksIn (now book) ≤ smallMarks) × (conditionsIn (now book) ≤ smallConditions) ⌝ }
+// The arrays that a book is judged in.
+fn check_book(book: &[u8], counts: Counts, stage: u32, room: &mut [u32]) -> Answer
+    requires { ⌜ Begun (now book) counts ⌝ }
     ensures { λ r. ⌜ (r ≡ checking (now (book .entry)) stage (length (now (room .entry)))) × (now (room .exit) ≡ checkedRoom (now (book .entry)) stage (now (room .entry))) ⌝ }
 {
-    let mut refs = [0u64; SMALL_REFS];
-    let mut work = [0u64; SMALL_WORK];
-    check_in(book, counts, stage, &mut refs, &mut work, room)
-}
-
-fn check_large(book: &[u8], counts: Counts, stage: u32, room: &mut [u16]) -> Answer
-    requires { ⌜ (Headed (now book)) × (counts ≡ countsOf (now book)) ⌝ }
-    ensures { λ r. ⌜ (r ≡ checking (now (book .entry)) stage (length (now (room .entry)))) × (now (room .exit) ≡ checkedRoom (now (book .entry)) stage (now (room .entry))) ⌝ }
-{
-    let mut refs = [0u64; REFS];
-    let mut work = [0u64; WORK];
-    check_in(book, counts, stage, &mut refs, &mut work, room)
+    let mut targeted = [0u32; MAX_MARKS];
+    let mut waits = [0u64; MARK_WORDS];
+    let mut written = [0u64; RULE_WORDS];
+    let mut free = [0u32; MAX_CONDITIONS];
+    let mut reached = [0u64; MAX_MARKS];
+    let mut asked = [0u64; MAX_CONDITIONS];
+    check_in(
+        book,
+        counts,
+        stage,
+        &mut targeted,
+        &mut waits,
+        &mut written,
+        &mut free,
+        &mut reached,
+        &mut asked,
+        room,
+    )
 }
 
 // The check for a stage: 20 to 26, 29 and 31, or 0 and the stage's running order in the room.
-// Cost: one pass over the rules for 23, one over the condition records and their texts for 24, in which the marks that they name are noted,
-// one over the rules and the noted rows for loops, one over the rules for clashes, one for what counts, and the scan of the running order.
+// Cost: one pass over the rules for 23, one over the condition records and their texts for 24, in which the marks that they name are noted, one over the
+// rules for loops, one for each 192 marks for clashes, one for what counts, and the scan of the running order, which reads each text once more.
 // A book where some mark may lie on a loop or have a clash takes more: `loops::loop_place` and `clash_search::first_clash` say how much.
-// Stack: 16 KiB for the two arrays, of a small book too, since both sizes stand in one frame, and 3 in the search for clashes and the running
-// order.
-pub fn check(book: &[u8], stage: u32, room: &mut [u16]) -> Answer
+// Stack: 40 KiB for the six arrays, and 4 in the search for clashes.
+pub fn check(book: &[u8], stage: u32, room: &mut [u32]) -> Answer
     ensures { λ r. ⌜ (r ≡ checking (now (book .entry)) stage (length (now (room .entry)))) × (now (room .exit) ≡ checkedRoom (now (book .entry)) stage (now (room .entry))) ⌝ }
 {
     let judged = judge_head(book);
     if judged.code != 0 {
         return judged;
     }
-    let h = counts_at(book);
-    if is_small(h) {
-        return check_small(book, h, stage, room);
-    }
-    check_large(book, h, stage, room)
+    check_book(book, counts_at(book), stage, room)
 }

@@ -13,7 +13,6 @@ use Rattle.book.specs.Image.{stagesIn, rulesIn}
 use Rattle.book.specs.Judging.{countsOf}
 use Rattle.book.specs.WellFormed.{WellFormed}
 use Rattle.book.specs.declared.Counts.{Counts}
-use Rattle.texts.specs.Noted.{References}
 use Rattle.rule_order.specs.Nets.{rulesOf}
 use Rattle.judge.specs.Head.{headAnswer, head-refused}
 use Rattle.judge.specs.Checking.{bookAnswer, book-passes}
@@ -22,9 +21,8 @@ use Rattle.runner.specs.Completing.{fitted, orderAnswer}
 use Rattle.runner.specs.Ordered.{fitted-refused}
 
 -- what the fit test asks of a book that passes
-pub fit-asks : (s : List ℕ) (b : Answer) → b ≡ bookAnswer s → b .code ≡ 0 → (h : Counts) → h ≡ countsOf s → (refs : List ℕ) → References s refs
-    → (WellFormed s) × (h .rules ≡ rulesIn s) × (References s refs)
-fit-asks s b e z h c refs w = (book-passes s (sym (ap (λ (x : Answer). x .code) e) ∙ z) .formed, ap (λ (x : Counts). x .rules) c, w)
+pub fit-asks : (s : List ℕ) (b : Answer) → b ≡ bookAnswer s → b .code ≡ 0 → (h : Counts) → h ≡ countsOf s → (WellFormed s) × (h .rules ≡ rulesIn s)
+fit-asks s b e z h c = (book-passes s (sym (ap (λ (x : Answer). x .code) e) ∙ z) .formed, ap (λ (x : Counts). x .rules) c)
 
 module _ (s order : List ℕ) (stage : ℕ) where
   pub order-book : (a : Answer) → a ≡ bookAnswer s → (a .code ≡ 0 → ⊥) → a ≡ orderAnswer s order stage

@@ -1,87 +1,88 @@
 // What is refused before a rule has its turn: 20 to 26, 29 and 27 of the book, the stage and the order, 28 and 30 of the snapshot.
 ghost use mathlib.Core.Path.{_≡_};
-ghost use Prim.Native.Nat.{_*_, _≤_, _<_};
-ghost use lib.ListN.{length};
+ghost use Prim.Native.Nat.{_<_};
 ghost use Rattle.paper.specs.Limits.{maxMarks};
-ghost use Rattle.book.specs.Image.{marksIn, conditionsIn};
-ghost use Rattle.book.specs.Judging.{countsOf};
-ghost use Rattle.book.specs.Marks.{markWords};
-ghost use Rattle.book.specs.WellFormed.{Headed};
-ghost use Rattle.judge.specs.Head.{Begun, smallMarks, smallConditions};
+ghost use Rattle.judge.specs.Head.{Begun};
 ghost use Rattle.runner.specs.Completing.{orderAnswer, anyFrom, snapshotAnswer};
 use book::Counts;
 use book::header::counts_at;
 use judge::image::judge_head;
 use judge::judge_book;
-use judge::sizes::SMALL_REFS;
-use judge::sizes::SMALL_WORK;
-use judge::sizes::WORK;
-use judge::sizes::is_small;
 use ordering::fit::order_fits;
 use paper::Answer;
 use paper::MARK_ABOVE;
+use paper::MAX_CONDITIONS;
 use paper::MAX_MARKS;
 use paper::NO_SUCH_STAGE;
 use paper::ORDER_UNFIT;
 use paper::STAGE_CLOSED;
-use rule_order::references::REFS;
+use texts::references::MARK_WORDS;
+use unwritten::written::RULE_WORDS;
 
 // 23 to 26, 29 and 27, behind a head that passed.
 fn judge_order_in(
     book: &[u8],
     counts: Counts,
-    order: &[u16],
+    order: &[u32],
     stage: u32,
-    refs: &mut [u64],
-    work: &mut [u64],
+    targeted: &mut [u32; MAX_MARKS],
+    waits: &mut [u64; MARK_WORDS],
+    written: &mut [u64; RULE_WORDS],
+    free: &mut [u32; MAX_CONDITIONS],
+    reached: &mut [u64; MAX_MARKS],
+    asked: &mut [u64; MAX_CONDITIONS],
 ) -> Answer
-    requires { ⌜ (Begun (now book) counts (now refs)) × (marksIn (now book) * markWords ≤ length (now work)) ⌝ }
+    requires { ⌜ Begun (now book) counts ⌝ }
     ensures { λ r. ⌜ r ≡ orderAnswer (now (book .entry)) (now (order .entry)) stage ⌝ }
 {
-    let answer = judge_book(book, counts, refs, work);
+    let answer = judge_book(book, counts, targeted, waits, written, free, reached, asked);
     if answer.code != 0 {
         return answer;
     }
     if counts.stages <= stage {
         return paper::refused(NO_SUCH_STAGE, 0, 0);
     }
-    if order_fits(book, counts.rules as usize, stage, refs, order) {
+    let rules = counts.rules as usize;
+    if order_fits(book, rules, stage, targeted, waits, written, free, order) {
         return paper::granted();
     }
     paper::refused(ORDER_UNFIT, 0, 0)
 }
 
-fn judge_order_small(book: &[u8], counts: Counts, order: &[u16], stage: u32) -> Answer
-    requires { ⌜ (Headed (now book)) × (counts ≡ countsOf (now book)) × (marksIn (now book) ≤ smallMarks) × (conditionsIn (now book) ≤ smallConditions) ⌝ }
+// The arrays that a book and an order are judged in.
+fn judge_order_of(book: &[u8], counts: Counts, order: &[u32], stage: u32) -> Answer
+    requires { ⌜ Begun (now book) counts ⌝ }
     ensures { λ r. ⌜ r ≡ orderAnswer (now (book .entry)) (now (order .entry)) stage ⌝ }
 {
-    let mut refs = [0u64; SMALL_REFS];
-    let mut work = [0u64; SMALL_WORK];
-    judge_order_in(book, counts, order, stage, &mut refs, &mut work)
-}
-
-fn judge_order_large(book: &[u8], counts: Counts, order: &[u16], stage: u32) -> Answer
-    requires { ⌜ (Headed (now book)) × (counts ≡ countsOf (now book)) ⌝ }
-    ensures { λ r. ⌜ r ≡ orderAnswer (now (book .entry)) (now (order .entry)) stage ⌝ }
-{
-    let mut refs = [0u64; REFS];
-    let mut work = [0u64; WORK];
-    judge_order_in(book, counts, order, stage, &mut refs, &mut work)
+    let mut targeted = [0u32; MAX_MARKS];
+    let mut waits = [0u64; MARK_WORDS];
+    let mut written = [0u64; RULE_WORDS];
+    let mut free = [0u32; MAX_CONDITIONS];
+    let mut reached = [0u64; MAX_MARKS];
+    let mut asked = [0u64; MAX_CONDITIONS];
+    judge_order_in(
+        book,
+        counts,
+        order,
+        stage,
+        &mut targeted,
+        &mut waits,
+        &mut written,
+        &mut free,
+        &mut reached,
+        &mut asked,
+    )
 }
 
 // 20 to 26, 29 and 27.
-pub fn judge_order(book: &[u8], order: &[u16], stage: u32) -> Answer
+pub fn judge_order(book: &[u8], order: &[u32], stage: u32) -> Answer
     ensures { λ r. ⌜ r ≡ orderAnswer (now (book .entry)) (now (order .entry)) stage ⌝ }
 {
     let judged = judge_head(book);
     if judged.code != 0 {
         return judged;
     }
-    let h = counts_at(book);
-    if is_small(h) {
-        return judge_order_small(book, h, order, stage);
-    }
-    judge_order_large(book, h, order, stage)
+    judge_order_of(book, counts_at(book), order, stage)
 }
 
 // Whether a mark from m on is yes.

@@ -16,11 +16,10 @@ pub struct Completion {
 }
 
 // 20 to 30 (29 before 27) and the snapshot that was given, or 0 and the snapshot after every rule of the order had its turn.
-// Cost for a fit order: the passes of `judge::judge_book` (two over the rules and one over the texts for 23 to 25, one over the rules for 26,
-// and more where some mark may lie on a loop or have a clash), one over the rules for what counts, one over the order for 27, and one turn
-// for each entry. Stack: 16 KiB for the arrays that the book is judged in, of a small one too, since both sizes stand in one frame, and 3 in
-// the search for clashes and the fit test.
-pub fn complete(book: &[u8], order: &[u16], snapshot: Snapshot, stage: u32) -> Completion
+// Cost for a fit order: the passes of `judge::judge_book` (`judge::check` says which), one over the rules for what counts, one over the order and the texts
+// for 27, and one turn for each entry. Stack: 40 KiB for the arrays that book and order are judged in, 4 in the search for clashes, and some copies of the
+// snapshot.
+pub fn complete(book: &[u8], order: &[u32], snapshot: Snapshot, stage: u32) -> Completion
     ensures { λ r. ⌜ r ≡ completing (now (book .entry)) (now (order .entry)) snapshot stage ⌝ }
 {
     let judged = judging::judge_order(book, order, stage);

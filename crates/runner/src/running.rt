@@ -14,11 +14,11 @@ use firing::rule_fires;
 use ordering::fit::entry_of;
 
 // The snapshot after the turns. A rule whose target has its value already cannot alter it, so its condition is not evaluated; one that
-// fires goes through `applied`, whose one store is in place and which copies the 256 marks.
+// fires goes through `applied`, whose one store is in place and which copies the marks.
 pub fn go_through(
     book: &[u8],
     counts: Counts,
-    order: &[u16],
+    order: &[u32],
     snapshot: Snapshot,
     stage: u32,
 ) -> Snapshot

@@ -8,14 +8,7 @@ pub judge-book-spec : {M : Type 1} → statement M
 judge-book-spec =
     tie.close
     (tie.spec
-    (λ c κs. search needs) (λ c. search needs)
-    (λ c. (book-refused _ _ (c .before .before .before .before .judge-body .ensures .0) (c .if1 .taken), c .before .before .before .before .judge-body .ensures .1))
-    (λ c κs. let j = c .before .before .before .before .before .before .judge-body .ensures in (
-      book-opened _ _ (j .0) (c .before .before .if1 .left) _ (c .before .before .before .before .before .before .before .before .before .before .before .pre .0 .counts),
-      j .1
-          (c .before .before .if1 .left),
-      c .before .before .before .before .before .before .before .before .before .before .before .pre .1,
-    ))
-    (λ c. search needs) (λ c. search needs)
-    (λ c. let j = c .before .before .before .before .before .before .before .before .before .judge-body .ensures in
-    (book-judged _ _ (j .0) (c .before .before .before .before .before .if1 .left) _ (c .before .before .judge-rules .ensures), λ e. j .1 (c .before .before .before .before .before .if1 .left))))
+    (λ c κs. search needs)
+    (λ c. book-refused _ _ (c .before .before .judge-body .ensures .0) (c .if1 .taken))
+    (λ c κs. let j = c .before .before .before .before .before .before .before .before .before .judge-body .ensures in (book-opened _ _ (j .0) (c .before .before .before .before .before .before .before .if1 .left) _ (c .before .before .before .before .before .before .before .before .before .before .before .before .pre .counts), j .1 (c .before .before .before .before .before .before .before .if1 .left)))
+    (λ c. book-judged _ _ (c .before .before .before .before .before .before .before .before .before .before .judge-body .ensures .0) (c .before .before .before .before .before .before .before .before .if1 .left) _ (c .judge-rules .ensures)))

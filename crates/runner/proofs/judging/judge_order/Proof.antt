@@ -1,5 +1,5 @@
 -- `runner::judging::judge_order` meets its contract. Assumes nothing.
-use Rattle.judge.proofs.Returns.{headed-so, small-so}
+use Rattle.judge.proofs.Returns.{headed-so, begun-so}
 use Rattle.runner.proofs.Orders.{order-head}
 use borrow.Author.Needs.{needs}
 use Rattle.runner.proofs.judging.judge_order.Statement.{statement}
@@ -12,9 +12,5 @@ judge-order-spec =
     (λ c κs. search needs)
     (λ c. order-head _ _ _ _ (c .before .before .judge-head .ensures) (c .if1 .taken))
     (λ c κs. headed-so _ _ (c .before .before .judge-head .ensures) (c .if1 .left) .long)
-    (λ c κs. search needs)
-    (λ c κs. let m = small-so _ _ _ (c .before .before .counts-at .ensures) (c .before .is-small .ensures) (c .if2 .taken) in
-    (headed-so _ _ (c .before .before .before .before .before .judge-head .ensures) (c .before .before .before .if1 .left), c .before .before .counts-at .ensures, m .0, m .1))
-    (λ c. search needs)
-    (λ c κs. (headed-so _ _ (c .before .before .before .before .before .judge-head .ensures) (c .before .before .before .if1 .left), c .before .before .counts-at .ensures))
+    (λ c κs. begun-so _ _ (c .before .before .before .judge-head .ensures) (c .before .if1 .left) _ (c .counts-at .ensures))
     (λ c. search needs))
