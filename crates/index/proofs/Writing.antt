@@ -1,15 +1,14 @@
 -- What the functions that write the image need: a pair of numbers, the loop over the entries, the loop over the rules of an order. Assumes nothing.
 use mathlib.Core.Path.{_≡_, refl, sym, _∙_}
 use mathlib.Core.List.{List, _++_}
-use Prim.Native.Nat.{ℕ, suc, _+_, _*_, _≤_, _<_}
-use native.Mathlib.Numerals.{add-one}
+use Prim.Native.Nat.{ℕ, suc, _+_, _*_, _^_, _≤_, _<_}
 use native.Mathlib.Omega.{arith}
 use lib.ListN.{length, getD}
 use Rattle.paper.specs.Limits.{maxRules, indexHeader, indexStage, indexRule}
 use Rattle.general.specs.Lists.{flat}
 use Rattle.general.specs.Writing.{Fits, Wrote, then, fits-first, fits-then, Runs, runs-start, runs-length, runs-fits, runs-more, runs-done}
 use Rattle.wire.specs.Wire.{put16, put32, bytes16, bytes32}
-use Rattle.wire.specs.Laws.{length-bytes16}
+use Rattle.wire.specs.Laws.{length-bytes32}
 use Rattle.order_theory.specs.Order.{countedRules, NoLoop}
 use Rattle.order_theory.specs.Running.{runningOrder}
 use Rattle.book.specs.Image.{rulesIn, bookOf}
@@ -37,10 +36,6 @@ pub pair-wrote : (room mid after : List ℕ) (at x y : ℕ) → mid ≡ put32 ro
 pair-wrote room mid after at x y p q =
     rw (q, p) (let w = then (number-wrote room at x) (number-wrote (put32 room at x) (at + 4) y) in record { place = omega (arith, pair-length x y); holds = w .holds })
 
-word-wrote : (room : List ℕ) (at n : ℕ) → Wrote room at (bytes16 n) (at + 2) (put16 room at n)
-unfolding put16 bytes16
-word-wrote room at n = record { place = refl; holds = rw add-one }
-
 -- ---- the entries
 
 module _ (stages : ℕ) (table : List ℕ) (common : ℕ) where
@@ -55,7 +50,7 @@ module _ (stages : ℕ) (table : List ℕ) (common : ℕ) where
     pub entered-length : length room ≡ length room₀
     entered-length = runs-length _ _ _ _ _ _ _ (i .runs)
 
-    pub entered-small : Sized stages table common → offset < 2000000
+    pub entered-small : Sized stages table common → offset < 2 ^ 32
     entered-small z = let s = i .start in omega (arith, start-small stages table common k z (i .runs .few))
 
     pub entered-fits : Fits room₀ at (flat stages (entryFrom stages table common)) → k < stages → next + 8 ≤ length room
@@ -93,32 +88,32 @@ module _ (s : List ℕ) (stage : ℕ) where
     pub putting-length : length room ≡ length room₀
     putting-length = runs-length _ _ _ _ _ _ _ (i .runs)
 
-    pub putting-fits : Fits room₀ from (orderBytes (bookOf s) stage) → j < counted → next + 2 ≤ length room
+    pub putting-fits : Fits room₀ from (orderBytes (bookOf s) stage) → j < counted → next + indexRule ≤ length room
     putting-fits f h =
         let e : counted ≡ ordered s stage = i .many in
-        omega (arith, runs-fits _ _ _ _ _ _ _ (i .runs) (omega arith) (rw (order-runs s stage) at f), length-bytes16 (getD (runningOrder (rulesOf s stage)) j (rulesIn s)))
+        omega (arith, runs-fits _ _ _ _ _ _ _ (i .runs) (omega arith) (rw (order-runs s stage) at f), length-bytes32 (getD (runningOrder (rulesOf s stage)) j (rulesIn s)))
 
     pub putting-last : counted ≤ j → Wrote room₀ from (orderBytes (bookOf s) stage) next room
     putting-last h = let e : counted ≡ ordered s stage = i .many in rw (order-runs s stage) (runs-done _ _ _ _ _ _ _ (i .runs) (omega arith))
 
     module _ (rule at′ passed′ : ℕ) (counts′ waits′ written′ : List ℕ) (f : Turn s at passed counts waits written rule at′ passed′ counts′ waits′ written′) where
-      pub putting-small : WellFormed s → rule ≤ maxRules
+      pub putting-small : WellFormed s → rule < 2 ^ 32
       putting-small g = let e = f .finds stage j (i .scan) .next in omega (arith, order-few s stage j, rules-few s g)
 
-      pub putting-more : (room′ : List ℕ) → j < counted → room′ ≡ put16 room next rule → Putting room₀ from counted at′ passed′ counts′ waits′ written′ (j + 1) (next + 2) room′
+      pub putting-more : (room′ : List ℕ) → j < counted → room′ ≡ put32 room next rule → Putting room₀ from counted at′ passed′ counts′ waits′ written′ (j + 1) (next + indexRule) room′
       putting-more room′ h e =
           let m : counted ≡ ordered s stage = i .many in
           let l : j < ordered s stage = omega arith in
           let d = f .finds stage j (i .scan) in
           record {
             many = m;
-            runs = runs-more _ _ _ _ _ _ _ (i .runs) (next + 2) room′ l (rw (e, d .next) (word-wrote room next (getD (runningOrder (rulesOf s stage)) j (rulesIn s))));
+            runs = runs-more _ _ _ _ _ _ _ (i .runs) (next + indexRule) room′ l (rw (e, d .next) (number-wrote room next (getD (runningOrder (rulesOf s stage)) j (rulesIn s))));
             scan = d .goes l;
           }
 
 -- ---- the whole
 
-module _ (s : List ℕ) (h : Counts) (refs table : List ℕ) (common : ℕ) (room : List ℕ) (g : IndexReady s h refs table common) (f : Fits room 0 (indexImage (bookOf s))) where
+module _ (s : List ℕ) (h : Counts) (table : List ℕ) (common : ℕ) (room : List ℕ) (g : IndexReady s h table common) (f : Fits room 0 (indexImage (bookOf s))) where
   abbrev front : List ℕ
   front = bytes32 (h .stages) ++ bytes32 (h .rules)
 
@@ -129,7 +124,7 @@ module _ (s : List ℕ) (h : Counts) (refs table : List ℕ) (common : ℕ) (roo
   orders = flat (h .stages) (orderBytes (bookOf s))
 
   fits : Fits room 0 ((front ++ entries) ++ orders)
-  fits = rw (image-runs s h refs table common g) at f
+  fits = rw (image-runs s h table common g) at f
 
   pub index-fits-1 : 0 + 8 ≤ length room
   index-fits-1 = omega (arith, fits-first room 0 front entries (fits-first room 0 (front ++ entries) orders fits), pair-length (h .stages) (h .rules))
@@ -143,4 +138,4 @@ module _ (s : List ℕ) (h : Counts) (refs table : List ℕ) (common : ℕ) (roo
       index-fits-3 = fits-then (then w₁ w₂) orders fits
 
       pub index-wrote : (next : ℕ) (r₃ : List ℕ) → Wrote r₂ b orders next r₃ → Wrote room 0 (indexImage (bookOf s)) next r₃
-      index-wrote next r₃ w₃ = rw (image-runs s h refs table common g) (then (then w₁ w₂) w₃)
+      index-wrote next r₃ w₃ = rw (image-runs s h table common g) (then (then w₁ w₂) w₃)

@@ -5,8 +5,8 @@ use Prim.Native.Nat.{ℕ, _+_, _*_, _<_}
 use lib.ListN.{length, length-append}
 use Rattle.paper.specs.Limits.{maxMarks, indexHeader, indexStage, indexRule}
 use Rattle.general.specs.Lists.{total, total-same, total-scaled, flat, length-flat, length-parts, packed, length-packed}
-use Rattle.wire.specs.Wire.{bytes16, bytes32}
-use Rattle.wire.specs.Laws.{length-bytes16, length-bytes32}
+use Rattle.wire.specs.Wire.{bytes32}
+use Rattle.wire.specs.Laws.{length-bytes32}
 use Rattle.order_theory.specs.Order.{countedRules, NoLoop}
 use Rattle.order_theory.specs.Running.{runningOrder, running-length}
 use Rattle.book.specs.Book.{Book}
@@ -19,9 +19,9 @@ use Rattle.rule_order.specs.Nets.{rulesOf, targets-small}
 abbrev pub orderOf : Book → ℕ → List ℕ
 orderOf b stage = runningOrder (netOf b stage)
 
--- "then the running orders, stage by stage without gaps, 16 bits a rule"
+-- "then the running orders, stage by stage without gaps", and by request (xiv) 32 bits a rule
 unfoldable pub orderBytes : Book → ℕ → List ℕ
-orderBytes b stage = packed bytes16 (orderOf b stage)
+orderBytes b stage = packed bytes32 (orderOf b stage)
 
 -- where a stage's order begins, "the byte offset from the image's start": behind S and R, the stages' entries, and the orders of the stages before it
 unfoldable pub offsetOf : Book → ℕ → ℕ
@@ -39,7 +39,7 @@ indexImage b = bytes32 (b .stages) ++ bytes32 (length (b .rules)) ++ flat (b .st
 
 pub length-order : (b : Book) (stage : ℕ) → length (orderBytes b stage) ≡ indexRule * length (orderOf b stage)
 unfolding orderBytes
-length-order b stage = length-packed bytes16 indexRule length-bytes16 (orderOf b stage)
+length-order b stage = length-packed bytes32 indexRule length-bytes32 (orderOf b stage)
 
 pub length-entry : (b : Book) (stage : ℕ) → length (entryBytes b stage) ≡ indexStage
 unfolding entryBytes

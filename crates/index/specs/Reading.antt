@@ -6,8 +6,8 @@ use native.Mathlib.Omega.{arith}
 use lib.ListN.{length, getD, length-append}
 use Rattle.paper.specs.Limits.{maxEvents, maxRules, indexHeader, indexStage, indexRule}
 use Rattle.general.specs.Lists.{total-le, flat, flat-around, length-parts, packed-flat}
-use Rattle.wire.specs.Wire.{u16At, u32At, bytes16, bytes32}
-use Rattle.wire.specs.Laws.{u16-first, u16-second, u32-first, u32-second, u16-bytes, u32-bytes, length-bytes16, length-bytes32}
+use Rattle.wire.specs.Wire.{u32At, bytes32}
+use Rattle.wire.specs.Laws.{u32-first, u32-second, u32-bytes, length-bytes32}
 use Rattle.book.specs.Book.{Book}
 use Rattle.book.specs.Image.{stagesIn, bookOf}
 use Rattle.book.specs.WellFormed.{WellFormed}
@@ -17,9 +17,6 @@ use Rattle.index.specs.Index.{orderOf, orderBytes, offsetOf, entryBytes,
 
 -- what stands inside, read from its start
 module _ (a m z : List ℕ) (at : ℕ) where
-  u16-inside : at + 2 ≤ length m → u16At (a ++ (m ++ z)) (length a + at) ≡ u16At m at
-  u16-inside h = u16-second a (m ++ z) at ∙ u16-first m z at h
-
   u32-inside : at + 4 ≤ length m → u32At (a ++ (m ++ z)) (length a + at) ≡ u32At m at
   u32-inside h = u32-second a (m ++ z) at ∙ u32-first m z at h
 
@@ -79,7 +76,7 @@ module _ (b : Book) where
 
     -- ---- its order
 
-    in-order : (at : ℕ) → at + 2 ≤ length (orderBytes b stage) → u16At (indexImage b) (offsetOf b stage + at) ≡ u16At (orderBytes b stage) at
+    in-order : (at : ℕ) → at + 4 ≤ length (orderBytes b stage) → u32At (indexImage b) (offsetOf b stage + at) ≡ u32At (orderBytes b stage) at
     unfolding indexImage offsetOf
     in-order at h =
         let (r, p) = flat-around (b .stages) stage (orderBytes b) known in
@@ -87,22 +84,22 @@ module _ (b : Book) where
         let a : List ℕ = (header ++ entries) ++ f in
         let n : length a ≡ offsetOf b stage = length-append (header ++ entries) f ∙ rw (length-append header entries, length-header b, length-entries b (b .stages)) in
         let q : (header ++ entries) ++ orders ≡ a ++ (orderBytes b stage ++ r) = rw p (simp append-assoc) in
-        ap (λ (l : List ℕ). u16At l (offsetOf b stage + at)) q
-        ∙ ap (λ (k : ℕ). u16At (a ++ (orderBytes b stage ++ r)) (k + at)) (sym n)
-        ∙ u16-inside a (orderBytes b stage) r at h
+        ap (λ (l : List ℕ). u32At l (offsetOf b stage + at)) q
+        ∙ ap (λ (k : ℕ). u32At (a ++ (orderBytes b stage ++ r)) (k + at)) (sym n)
+        ∙ u32-inside a (orderBytes b stage) r at h
 
-    pub read-rule : (j : ℕ) → j < length (orderOf b stage) → u16At (indexImage b) (offsetOf b stage + indexRule * j) ≡ getD (orderOf b stage) j 0
+    pub read-rule : (j : ℕ) → j < length (orderOf b stage) → u32At (indexImage b) (offsetOf b stage + indexRule * j) ≡ getD (orderOf b stage) j 0
     unfolding orderBytes
     read-rule j h =
         let o : List ℕ = orderOf b stage in
-        let g : ℕ → List ℕ = λ i. bytes16 (getD o i 0) in
+        let g : ℕ → List ℕ = λ i. bytes32 (getD o i 0) in
         let (r, p) = flat-around (length o) j g h in
-        let n : length (flat j g) ≡ indexRule * j = length-parts j indexRule g (λ e. length-bytes16 (getD o e 0)) in
+        let n : length (flat j g) ≡ indexRule * j = length-parts j indexRule g (λ e. length-bytes32 (getD o e 0)) in
         in-order (indexRule * j) (omega (arith, length-order b stage))
-        ∙ ap (λ (l : List ℕ). u16At l (indexRule * j)) (packed-flat bytes16 0 o ∙ p)
-        ∙ ap (u16At (flat j g ++ (g j ++ r))) (omega arith)
-        ∙ u16-inside (flat j g) (g j) r 0 (omega (arith, length-bytes16 (getD o j 0)))
-        ∙ u16-bytes (getD o j 0)
+        ∙ ap (λ (l : List ℕ). u32At l (indexRule * j)) (packed-flat bytes32 0 o ∙ p)
+        ∙ ap (u32At (flat j g ++ (g j ++ r))) (omega arith)
+        ∙ u32-inside (flat j g) (g j) r 0 (omega (arith, length-bytes32 (getD o j 0)))
+        ∙ u32-bytes (getD o j 0)
 
 -- ---- every number fits its bits
 
@@ -117,5 +114,5 @@ module _ (s : List ℕ) (g : WellFormed s) (n : NoLoops (bookOf s)) where
       let few : stagesIn s ≤ maxEvents = g .headed .counted .stages in
       omega (arith, offset-is (bookOf s) stage, total-le stage maxRules (λ t. length (orderOf (bookOf s) t)) (λ t l. count-small t (omega arith)))
 
-  pub rule-small : (stage j : ℕ) → j < length (orderOf (bookOf s) stage) → getD (orderOf (bookOf s) stage) j 0 < 2 ^ 16
+  pub rule-small : (stage j : ℕ) → j < length (orderOf (bookOf s) stage) → getD (orderOf (bookOf s) stage) j 0 < 2 ^ 32
   rule-small stage j h = omega (arith, order-counted (rulesOf s stage) j 0 h .0, count-is s stage, rules-few s g)

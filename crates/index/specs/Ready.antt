@@ -11,18 +11,16 @@ use Rattle.book.specs.WellRead.{Opened}
 use Rattle.book.specs.declared.Counts.{Counts}
 use Rattle.order_theory.specs.Order.{NoLoop}
 use Rattle.rule_order.specs.Nets.{rulesOf}
-use Rattle.texts.specs.Noted.{References}
 use Rattle.index.specs.Index.{orderBytes, indexImage, NoLoops}
 use Rattle.index.specs.Sizes.{startFrom, entryFrom, Sized, StageCounts, counts-sized, entries-are, bytes-needed}
 
--- a book without a loop for any stage, its counts, the marks that its texts name, and how many rules count for each stage
-pub record IndexReady (s : List ℕ) (h : Counts) (refs table : List ℕ) (common : ℕ) : Type 0 where
+-- a book without a loop for any stage, its counts, and how many rules count for each stage
+pub record IndexReady (s : List ℕ) (h : Counts) (table : List ℕ) (common : ℕ) : Type 0 where
   pub opened : Opened s h
-  pub references : References s refs
   pub acyclic : NoLoops (bookOf s)
   pub counted : StageCounts s table common
 
-module _ (s : List ℕ) (h : Counts) (refs table : List ℕ) (common : ℕ) (g : IndexReady s h refs table common) where
+module _ (s : List ℕ) (h : Counts) (table : List ℕ) (common : ℕ) (g : IndexReady s h table common) where
   pub ready-stages : h .stages ≡ stagesIn s
   ready-stages = ap (λ (k : Counts). k .stages) (g .opened .counts)
 

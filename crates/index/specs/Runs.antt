@@ -1,12 +1,12 @@
 -- The runs that the image is written and compared by: a pair of numbers, where an order starts, an order rule by rule. Assumes nothing.
 use mathlib.Core.Path.{_≡_, _∙_}
 use mathlib.Core.List.{List, _++_}
-use Prim.Native.Nat.{ℕ, _+_, _*_, _≤_, _<_}
+use Prim.Native.Nat.{ℕ, _+_, _*_, _^_, _≤_, _<_}
 use native.Mathlib.Omega.{arith}
 use lib.ListN.{length, getD, length-append}
 use Rattle.paper.specs.Limits.{maxRules, indexHeader, indexStage, indexRule}
 use Rattle.general.specs.Lists.{total, total-le, total-step, flat, packed-flat}
-use Rattle.wire.specs.Wire.{bytes16, bytes32}
+use Rattle.wire.specs.Wire.{bytes32}
 use Rattle.wire.specs.Laws.{length-bytes32}
 use Rattle.order_theory.specs.Running.{runningOrder}
 use Rattle.book.specs.Image.{rulesIn, bookOf}
@@ -26,17 +26,17 @@ module _ (stages : ℕ) (table : List ℕ) (common : ℕ) where
   unfolding startFrom
   start-more k = rw (total-step k (orderSize table common)) (omega arith)
 
-  pub start-small : (k : ℕ) → Sized stages table common → k ≤ stages → startFrom stages table common k < 2000000
+  pub start-small : (k : ℕ) → Sized stages table common → k ≤ stages → startFrom stages table common k < 2 ^ 32
   unfolding startFrom
   start-small k z h = let l = z .few in omega (arith, total-le k maxRules (orderSize table common) (λ t i. z .each t (omega arith)))
 
 module _ (s : List ℕ) (stage : ℕ) where
   abbrev pub ruleAt : ℕ → List ℕ
-  ruleAt j = bytes16 (getD (runningOrder (rulesOf s stage)) j (rulesIn s))
+  ruleAt j = bytes32 (getD (runningOrder (rulesOf s stage)) j (rulesIn s))
 
   abbrev pub ordered : ℕ
   ordered = length (runningOrder (rulesOf s stage))
 
   pub order-runs : orderBytes (bookOf s) stage ≡ flat ordered ruleAt
   unfolding orderBytes
-  order-runs = packed-flat bytes16 (rulesIn s) (runningOrder (rulesOf s stage))
+  order-runs = packed-flat bytes32 (rulesIn s) (runningOrder (rulesOf s stage))

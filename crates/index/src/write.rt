@@ -9,7 +9,6 @@ ghost use Rattle.wire.specs.Wire.{bytes32};
 ghost use Rattle.order_theory.specs.Order.{NoLoop};
 ghost use Rattle.book.specs.Image.{rulesIn, bookOf};
 ghost use Rattle.book.specs.WellFormed.{WellFormed};
-ghost use Rattle.texts.specs.Noted.{References};
 ghost use Rattle.rule_order.specs.Nets.{rulesOf};
 ghost use Rattle.index.specs.Index.{orderBytes, indexImage};
 ghost use Rattle.index.specs.Sizes.{entryFrom, Sized};
@@ -20,6 +19,7 @@ use ordering::scan::next_rule;
 use paper::INDEX_HEADER;
 use paper::INDEX_RULE;
 use paper::INDEX_STAGE;
+use paper::MAX_CONDITIONS;
 use paper::MAX_EVENTS;
 use paper::MAX_MARKS;
 use texts::references::MARK_WORDS;
@@ -64,38 +64,29 @@ fn put_entries(
     next
 }
 
-// The order of a stage, rule by rule. One pass over the rules, and the scan. Stack: about 2 KiB.
+// The order of a stage, rule by rule, in four lent arrays. One pass over the rules, and the scan.
 pub fn put_order(
     image: &[u8],
     rules: usize,
     stage: u32,
-    refs: &[u64],
+    counts: &mut [u32; MAX_MARKS],
+    waits: &mut [u64; MARK_WORDS],
+    written: &mut [u64; RULE_WORDS],
+    free: &mut [u32; MAX_CONDITIONS],
     room: &mut [u8],
     at: usize,
 ) -> usize
-    requires { ⌜ (WellFormed (now image)) × (rules ≡ rulesIn (now image)) × (References (now image) (now refs)) × (NoLoop (rulesOf (now image) stage))
+    requires { ⌜ (WellFormed (now image)) × (rules ≡ rulesIn (now image)) × (NoLoop (rulesOf (now image) stage))
         × Fits (now room) at (orderBytes (bookOf (now image)) stage) ⌝ }
     ensures { λ r. ⌜ Wrote (now (room .entry)) at (orderBytes (bookOf (now (image .entry))) stage) r (now (room .exit)) ⌝ }
 {
-    let mut counts = [0u16; MAX_MARKS];
-    let mut waits = [0u64; MARK_WORDS];
-    let mut written = [0u64; RULE_WORDS];
-    let counted = count_targets(image, rules, stage, &mut counts, &mut waits, &mut written);
+    let counted = count_targets(image, rules, stage, counts, waits, written, free);
     let mut next = at;
     let mut here: usize = 0;
     let mut passed = rules;
     for j in 0..counted {
-        let scan = next_rule(
-            image,
-            rules,
-            refs,
-            here,
-            passed,
-            &mut counts,
-            &mut waits,
-            &mut written,
-        );
-        wire::put16(room, next, scan.rule as u16);
+        let scan = next_rule(image, rules, here, passed, counts, waits, written, free);
+        wire::put32(room, next, scan.rule as u32);
         next += INDEX_RULE;
         here = scan.at;
         passed = scan.passed;
@@ -107,17 +98,30 @@ fn put_orders(
     image: &[u8],
     rules: usize,
     stages: u32,
-    refs: &[u64],
+    counts: &mut [u32; MAX_MARKS],
+    waits: &mut [u64; MARK_WORDS],
+    written: &mut [u64; RULE_WORDS],
+    free: &mut [u32; MAX_CONDITIONS],
     room: &mut [u8],
     at: usize,
 ) -> usize
-    requires { ⌜ (WellFormed (now image)) × (rules ≡ rulesIn (now image)) × (References (now image) (now refs)) × ((t : ℕ) → t < stages → NoLoop (rulesOf (now image) t))
+    requires { ⌜ (WellFormed (now image)) × (rules ≡ rulesIn (now image)) × ((t : ℕ) → t < stages → NoLoop (rulesOf (now image) t))
         × Fits (now room) at (flat stages (orderBytes (bookOf (now image)))) ⌝ }
     ensures { λ r. ⌜ Wrote (now (room .entry)) at (flat stages (orderBytes (bookOf (now (image .entry))))) r (now (room .exit)) ⌝ }
 {
     let mut next = at;
     for stage in 0..stages {
-        next = put_order(image, rules, stage, refs, room, next);
+        next = put_order(
+            image,
+            rules,
+            stage,
+            counts,
+            waits,
+            written,
+            free,
+            room,
+            next,
+        );
     }
     next
 }
@@ -125,16 +129,29 @@ fn put_orders(
 // The whole index of a book without a loop for any stage, from the start of a room that it fits.
 pub fn put_index(
     image: &[u8],
-    counts: Counts,
-    refs: &[u64],
+    head: Counts,
     table: &[u32; MAX_EVENTS],
     common: usize,
+    counts: &mut [u32; MAX_MARKS],
+    waits: &mut [u64; MARK_WORDS],
+    written: &mut [u64; RULE_WORDS],
+    free: &mut [u32; MAX_CONDITIONS],
     room: &mut [u8],
 ) -> usize
-    requires { ⌜ IndexReady (now image) counts (now refs) (now table) common × Fits (now room) 0 (indexImage (bookOf (now image))) ⌝ }
+    requires { ⌜ IndexReady (now image) head (now table) common × Fits (now room) 0 (indexImage (bookOf (now image))) ⌝ }
     ensures { λ r. ⌜ Wrote (now (room .entry)) 0 (indexImage (bookOf (now (image .entry)))) r (now (room .exit)) ⌝ }
 {
-    let a = put_pair(room, 0, counts.stages, counts.rules);
-    let b = put_entries(counts.stages as usize, common, table, room, a);
-    put_orders(image, counts.rules as usize, counts.stages, refs, room, b)
+    let a = put_pair(room, 0, head.stages, head.rules);
+    let b = put_entries(head.stages as usize, common, table, room, a);
+    put_orders(
+        image,
+        head.rules as usize,
+        head.stages,
+        counts,
+        waits,
+        written,
+        free,
+        room,
+        b,
+    )
 }

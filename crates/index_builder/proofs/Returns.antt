@@ -13,7 +13,6 @@ use Rattle.book.specs.Image.{rulesIn, bookOf}
 use Rattle.book.specs.Judging.{countsOf}
 use Rattle.book.specs.WellFormed.{WellFormed}
 use Rattle.book.specs.declared.Counts.{Counts}
-use Rattle.texts.specs.Noted.{References}
 use Rattle.judge.specs.Head.{headAnswer, head-refused}
 use Rattle.judge.specs.Checking.{bookAnswer, BookPasses, book-passes, stages-many}
 use Rattle.judge.proofs.Returns.{book-refused}
@@ -26,24 +25,23 @@ use Rattle.index_builder.specs.Building.{indexOf, passes-zero, roomAnswe
 -- ---- behind 20 to 26
 
 -- what writing the index and comparing one ask, of a book that was judged
-pub judged-so : (s : List ℕ) (b : Answer) → b ≡ bookAnswer s → b .code ≡ 0 → (h : Counts) → h ≡ countsOf s → (refs : List ℕ) → (b .code ≡ 0 → References s refs)
-    → (BookPasses s) × (h ≡ countsOf s) × (References s refs)
-judged-so s b e z h c refs r = (book-passes s (sym (ap (λ (x : Answer). x .code) e) ∙ z), c, r z)
+pub judged-so : (s : List ℕ) (b : Answer) → b ≡ bookAnswer s → b .code ≡ 0 → (h : Counts) → h ≡ countsOf s → (BookPasses s) × (h ≡ countsOf s)
+judged-so s b e z h c = (book-passes s (sym (ap (λ (x : Answer). x .code) e) ∙ z), c)
 
-module _ (s : List ℕ) (h : Counts) (refs : List ℕ) (p : (BookPasses s) × (h ≡ countsOf s) × (References s refs)) where
+module _ (s : List ℕ) (h : Counts) (p : (BookPasses s) × (h ≡ countsOf s)) where
   pub counts-asks : (table : List ℕ) → table ≡ replicate maxEvents 0 → (WellFormed s) × (h .rules ≡ rulesIn s) × (table ≡ replicate maxEvents 0)
   counts-asks table t = (p .0 .formed, ap (λ (x : Counts). x .rules) (p .1), t)
 
   module _ (table : List ℕ) (common : ℕ) (t : StageCounts s table common) where
-    pub index-ready : IndexReady s h refs table common
-    index-ready = record { opened = record { formed = p .0 .formed; counts = p .1 }; references = p .2; acyclic = p .0 .acyclic; counted = t }
+    pub index-ready : IndexReady s h table common
+    index-ready = record { opened = record { formed = p .0 .formed; counts = p .1 }; acyclic = p .0 .acyclic; counted = t }
 
     pub index-sized : Sized (h .stages) table common
-    index-sized = ready-sized s h refs table common index-ready
+    index-sized = ready-sized s h table common index-ready
 
     module _ (need : ℕ) (n : need ≡ startFrom (h .stages) table common (h .stages)) where
       pub need-is : need ≡ length (indexOf s)
-      need-is = n ∙ ready-length s h refs table common index-ready
+      need-is = n ∙ ready-length s h table common index-ready
 
       pub need-small : need < 2 ^ 32
       need-small = omega (arith, need-is, index-ends (bookOf s), offset-small s (p .0 .formed) (p .0 .acyclic) (bookOf s .stages) (rw (stages-many s) (omega arith)))

@@ -1,31 +1,34 @@
-// The index of a book whose head passed, built in arrays by the book's size.
+// The index of a book whose head passed, built in lent arrays.
 ghost use mathlib.Core.Path.{_≡_};
-ghost use Prim.Native.Nat.{_*_, _≤_};
 ghost use lib.ListN.{length};
-ghost use Rattle.book.specs.Image.{marksIn, conditionsIn};
 ghost use Rattle.book.specs.Judging.{countsOf};
-ghost use Rattle.book.specs.Marks.{markWords};
-ghost use Rattle.book.specs.WellFormed.{Headed};
-ghost use Rattle.texts.specs.Noted.{References};
 ghost use Rattle.judge.specs.Checking.{BookPasses};
-ghost use Rattle.judge.specs.Head.{Begun, smallMarks, smallConditions};
+ghost use Rattle.judge.specs.Head.{Begun};
 ghost use Rattle.index_builder.specs.Building.{building, builtRoom};
 use book::Counts;
 use index::sizes::index_size;
 use index::sizes::stage_counts;
 use index::write::put_index;
 use judge::judge_book;
-use judge::sizes::SMALL_REFS;
-use judge::sizes::SMALL_WORK;
-use judge::sizes::WORK;
 use paper::Answer;
 use paper::INDEX_ROOM;
+use paper::MAX_CONDITIONS;
 use paper::MAX_EVENTS;
-use rule_order::references::REFS;
+use paper::MAX_MARKS;
+use texts::references::MARK_WORDS;
+use unwritten::written::RULE_WORDS;
 
 // 35, or 0 and the index in the room, of a book that passed.
-fn write_in(book: &[u8], counts: Counts, refs: &[u64], room: &mut [u8]) -> Answer
-    requires { ⌜ (BookPasses (now book)) × (counts ≡ countsOf (now book)) × (References (now book) (now refs)) ⌝ }
+fn write_in(
+    book: &[u8],
+    counts: Counts,
+    targeted: &mut [u32; MAX_MARKS],
+    waits: &mut [u64; MARK_WORDS],
+    written: &mut [u64; RULE_WORDS],
+    free: &mut [u32; MAX_CONDITIONS],
+    room: &mut [u8],
+) -> Answer
+    requires { ⌜ (BookPasses (now book)) × (counts ≡ countsOf (now book)) ⌝ }
     ensures { λ r. ⌜ (r ≡ building (now (book .entry)) (length (now (room .entry)))) × (now (room .exit) ≡ builtRoom (now (book .entry)) (now (room .entry))) ⌝ }
 {
     let mut table = [0u32; MAX_EVENTS];
@@ -34,7 +37,17 @@ fn write_in(book: &[u8], counts: Counts, refs: &[u64], room: &mut [u8]) -> Answe
     if room.len() < need {
         return paper::refused(INDEX_ROOM, need as u32, 0);
     }
-    put_index(book, counts, refs, &table, common, room);
+    put_index(
+        book,
+        counts,
+        &table,
+        common,
+        targeted,
+        waits,
+        written,
+        free,
+        room,
+    );
     paper::granted()
 }
 
@@ -42,34 +55,44 @@ fn write_in(book: &[u8], counts: Counts, refs: &[u64], room: &mut [u8]) -> Answe
 fn build_in(
     book: &[u8],
     counts: Counts,
-    refs: &mut [u64],
-    work: &mut [u64],
+    targeted: &mut [u32; MAX_MARKS],
+    waits: &mut [u64; MARK_WORDS],
+    written: &mut [u64; RULE_WORDS],
+    free: &mut [u32; MAX_CONDITIONS],
+    reached: &mut [u64; MAX_MARKS],
+    asked: &mut [u64; MAX_CONDITIONS],
     room: &mut [u8],
 ) -> Answer
-    requires { ⌜ (Begun (now book) counts (now refs)) × (marksIn (now book) * markWords ≤ length (now work)) ⌝ }
+    requires { ⌜ Begun (now book) counts ⌝ }
     ensures { λ r. ⌜ (r ≡ building (now (book .entry)) (length (now (room .entry)))) × (now (room .exit) ≡ builtRoom (now (book .entry)) (now (room .entry))) ⌝ }
 {
-    let answer = judge_book(book, counts, refs, work);
+    let answer = judge_book(book, counts, targeted, waits, written, free, reached, asked);
     if answer.code != 0 {
         return answer;
     }
-    write_in(book, counts, refs, room)
+    write_in(book, counts, targeted, waits, written, free, room)
 }
 
-pub fn build_small(book: &[u8], counts: Counts, room: &mut [u8]) -> Answer
-    requires { ⌜ (Headed (now book)) × (counts ≡ countsOf (now book)) × (marksIn (now book) ≤ smallMarks) × (conditionsIn (now book) ≤ smallConditions) ⌝ }
+// The arrays that a book is judged in and its orders are made in.
+pub fn build_book(book: &[u8], counts: Counts, room: &mut [u8]) -> Answer
+    requires { ⌜ Begun (now book) counts ⌝ }
     ensures { λ r. ⌜ (r ≡ building (now (book .entry)) (length (now (room .entry)))) × (now (room .exit) ≡ builtRoom (now (book .entry)) (now (room .entry))) ⌝ }
 {
-    let mut refs = [0u64; SMALL_REFS];
-    let mut work = [0u64; SMALL_WORK];
-    build_in(book, counts, &mut refs, &mut work, room)
-}
-
-pub fn build_large(book: &[u8], counts: Counts, room: &mut [u8]) -> Answer
-    requires { ⌜ (Headed (now book)) × (counts ≡ countsOf (now book)) ⌝ }
-    ensures { λ r. ⌜ (r ≡ building (now (book .entry)) (length (now (room .entry)))) × (now (room .exit) ≡ builtRoom (now (book .entry)) (now (room .entry))) ⌝ }
-{
-    let mut refs = [0u64; REFS];
-    let mut work = [0u64; WORK];
-    build_in(book, counts, &mut refs, &mut work, room)
+    let mut targeted = [0u32; MAX_MARKS];
+    let mut waits = [0u64; MARK_WORDS];
+    let mut written = [0u64; RULE_WORDS];
+    let mut free = [0u32; MAX_CONDITIONS];
+    let mut reached = [0u64; MAX_MARKS];
+    let mut asked = [0u64; MAX_CONDITIONS];
+    build_in(
+        book,
+        counts,
+        &mut targeted,
+        &mut waits,
+        &mut written,
+        &mut free,
+        &mut reached,
+        &mut asked,
+        room,
+    )
 }

@@ -6,13 +6,11 @@ ghost use lib.ListN.{length};
 ghost use Rattle.index_builder.specs.Building.{building, builtRoom};
 use book::header::counts_at;
 use judge::image::judge_head;
-use judge::sizes::is_small;
 use paper::Answer;
 
 // The index of a book at the start of the room: 20 to 26 and 35, or 0 and the image.
-// Cost: the passes of `judge::judge_book`, one over the rules for what counts, and for each stage one over the rules and the scan of its running
-// order. Stack: the arrays that the book is judged in, 3 KiB for one of at most 64 marks and 32 conditions and 16 for any other, a table of 256
-// bytes, and 2 KiB in the running order.
+// Cost: the passes of `judge::judge_book` (`judge::check` says which), one over the rules for what counts, and for each stage one over the rules and the scan
+// of its running order, which reads each text once. Stack: 41 KiB for the arrays that the book is judged in, 4 in the search for clashes, and a table of 1 KiB.
 pub fn build(book: &[u8], room: &mut [u8]) -> Answer
     ensures { λ r. ⌜ (r ≡ building (now (book .entry)) (length (now (room .entry)))) × (now (room .exit) ≡ builtRoom (now (book .entry)) (now (room .entry))) ⌝ }
 {
@@ -20,9 +18,5 @@ pub fn build(book: &[u8], room: &mut [u8]) -> Answer
     if judged.code != 0 {
         return judged;
     }
-    let h = counts_at(book);
-    if is_small(h) {
-        return building::build_small(book, h, room);
-    }
-    building::build_large(book, h, room)
+    building::build_book(book, counts_at(book), room)
 }

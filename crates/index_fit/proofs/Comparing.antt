@@ -3,14 +3,14 @@
 use mathlib.Core.Path.{_≡_, sym, ap, _∙_}
 use mathlib.Core.Bool.{Bool, true, false, not, _&&_}
 use mathlib.Core.List.{List, _++_}
-use Prim.Native.Nat.{ℕ, suc, _+_, _*_, _/_, _%_, _≤_, _<_}
+use Prim.Native.Nat.{ℕ, suc, _+_, _*_, _/_, _%_, _^_, _≤_, _<_}
 use native.Mathlib.Nat.{zero-add}
 use native.Mathlib.Numerals.{add-one}
 use native.Mathlib.Omega.{arith}
 use lib.Dec.{eqb}
 use lib.ListN.{length, getD, length-append}
 use borrow.Author.Tests.{eqb-true, eq-eqb, not-true, not-false}
-use Rattle.paper.specs.Limits.{maxRules, indexHeader, indexStage, indexRule}
+use Rattle.paper.specs.Limits.{indexHeader, indexStage, indexRule}
 use Rattle.general.specs.Cases.{contra, both, not-so, same-test}
 use Rattle.general.specs.Comparing.{sameBytes, same-so, same-shorter, standsAt, stands-append, stands-whole, Stand, stand-start, stand-fits, stand-more, stand-not, stand-done}
 use Rattle.general.specs.Lists.{flat, length-parts}
@@ -33,7 +33,7 @@ use Rattle.index.specs.Runs.{pair-length, start-first, start-more, start-small,
 -- ---- numbers
 
 module _ (s : List ℕ) (small : (i : ℕ) → getD s i 0 < 256) where
-  pub word-same : (at n : ℕ) → eqb (u16At s at) n ≡ standsAt s at (bytes16 n)
+  word-same : (at n : ℕ) → eqb (u16At s at) n ≡ standsAt s at (bytes16 n)
   unfolding u16At bytes16 standsAt
   word-same at n =
       same-test (eqb (u16At s at) n) (eqb (getD s at 0) (n % 256) && (eqb (getD s (suc at) 0) (n / 256) && true))
@@ -49,7 +49,7 @@ module _ (s : List ℕ) (small : (i : ℕ) → getD s i 0 < 256) where
   unfolding u16At
   u16-small at = omega (arith, small at, small (at + 1))
 
-  number-same : (at n : ℕ) → eqb (u32At s at) n ≡ standsAt s at (bytes32 n)
+  pub number-same : (at n : ℕ) → eqb (u32At s at) n ≡ standsAt s at (bytes32 n)
   unfolding u32At bytes32
   number-same at n =
       same-test (eqb (u32At s at) n) (eqb (u16At s at) (n % 65536) && eqb (u16At s (at + 2)) (n / 65536))
@@ -66,8 +66,8 @@ module _ (s : List ℕ) (small : (i : ℕ) → getD s i 0 < 256) where
   pair-same at x y a b p q =
       rw (p, q) (sym (stands-append s at (bytes32 x) (bytes32 y) ∙ rw (length-bytes32 x, ← number-same at x, ← number-same (at + 4) y)))
 
-  pub rule-same : (at n a : ℕ) → a ≡ u16At s at → eqb a n ≡ standsAt s at (bytes16 n)
-  rule-same at n a p = rw p (word-same at n)
+  pub rule-same : (at n a : ℕ) → a ≡ u32At s at → eqb a n ≡ standsAt s at (bytes32 n)
+  rule-same at n a p = rw p (number-same at n)
 
 -- ---- the entries
 
@@ -80,7 +80,7 @@ module _ (stages : ℕ) (table : List ℕ) (common : ℕ) (index : List ℕ) (at
   entering-first = record { stand = stand-start (entryFrom stages table common) stages index at; start = sym (start-first stages table common) }
 
   module _ (k next offset : ℕ) (i : Entering k next offset) where
-    pub entering-small : Sized stages table common → offset < 2000000
+    pub entering-small : Sized stages table common → offset < 2 ^ 32
     entering-small z = let s = i .start in omega (arith, start-small stages table common k z (i .stand .few))
 
     pub entering-fits : Fits index at (flat stages (entryFrom stages table common)) → k < stages → next + 8 ≤ length index
@@ -120,19 +120,19 @@ module _ (s : List ℕ) (stage : ℕ) (index : List ℕ) (from : ℕ) where
       record { many = e ∙ sym (order-length s stage g l); stand = stand-start (ruleAt s stage) (ordered s stage) index from; scan = scanned-first s stage passed counts waits written b }
 
   module _ (counted at passed : ℕ) (counts waits written : List ℕ) (j next : ℕ) (i : Following counted at passed counts waits written j next) where
-    pub following-fits : Fits index from (orderBytes (bookOf s) stage) → j < counted → next + 2 ≤ length index
+    pub following-fits : Fits index from (orderBytes (bookOf s) stage) → j < counted → next + indexRule ≤ length index
     following-fits f h =
         let e : counted ≡ ordered s stage = i .many in
-        omega (arith, stand-fits _ _ _ _ _ _ (i .stand) (omega arith) (rw (order-runs s stage) at f), length-bytes16 (getD (runningOrder (rulesOf s stage)) j (rulesIn s)))
+        omega (arith, stand-fits _ _ _ _ _ _ (i .stand) (omega arith) (rw (order-runs s stage) at f), length-bytes32 (getD (runningOrder (rulesOf s stage)) j (rulesIn s)))
 
     pub following-done : counted ≤ j → true ≡ standsAt index from (orderBytes (bookOf s) stage)
     following-done h = let e : counted ≡ ordered s stage = i .many in rw (order-runs s stage) (stand-done _ _ _ _ _ _ (i .stand) (omega arith))
 
     module _ (rule at′ passed′ : ℕ) (counts′ waits′ written′ : List ℕ) (f : Turn s at passed counts waits written rule at′ passed′ counts′ waits′ written′) where
-      pub following-small : WellFormed s → rule ≤ maxRules
+      pub following-small : WellFormed s → rule < 2 ^ 32
       following-small g = let e = f .finds stage j (i .scan) .next in omega (arith, order-few s stage j, rules-few s g)
 
-      module _ (b : Bool) (h : j < counted) (t : b ≡ standsAt index next (bytes16 rule)) where
+      module _ (b : Bool) (h : j < counted) (t : b ≡ standsAt index next (bytes32 rule)) where
         inside : j < ordered s stage
         inside = let e : counted ≡ ordered s stage = i .many in omega arith
 
@@ -146,13 +146,13 @@ module _ (s : List ℕ) (stage : ℕ) (index : List ℕ) (from : ℕ) where
         following-more x =
             record {
               many = i .many;
-              stand = stand-more _ _ _ _ _ _ (i .stand) (next + indexRule) b inside rule-stands x (omega (arith, length-bytes16 (getD (runningOrder (rulesOf s stage)) j (rulesIn s))));
+              stand = stand-more _ _ _ _ _ _ (i .stand) (next + indexRule) b inside rule-stands x (omega (arith, length-bytes32 (getD (runningOrder (rulesOf s stage)) j (rulesIn s))));
               scan = f .finds stage j (i .scan) .goes inside;
             }
 
 -- ---- the orders and the whole
 
-module _ (s : List ℕ) (h : Counts) (refs table : List ℕ) (common : ℕ) (index : List ℕ) (g : IndexReady s h refs table common) where
+module _ (s : List ℕ) (h : Counts) (table : List ℕ) (common : ℕ) (index : List ℕ) (g : IndexReady s h table common) where
   abbrev front : List ℕ
   front = bytes32 (h .stages) ++ bytes32 (h .rules)
 
@@ -165,10 +165,10 @@ module _ (s : List ℕ) (h : Counts) (refs table : List ℕ) (common : ℕ) (ind
   order-takes : (k n : ℕ) → k < h .stages → n ≡ orderSize table common k → length (orderBytes (bookOf s) k) ≡ indexRule * n
   order-takes k n l e =
       length-order (bookOf s) k ∙ ap
-      (λ (m : ℕ). indexRule * m) (sym (e ∙ size-is s table common (g .opened .formed) (g .counted) (g .acyclic) k (rw (ready-stages s h refs table common g) at l)))
+      (λ (m : ℕ). indexRule * m) (sym (e ∙ size-is s table common (g .opened .formed) (g .counted) (g .acyclic) k (rw (ready-stages s h table common g) at l)))
 
   pub order-counts : (k n : ℕ) → k < h .stages → n ≡ orderSize table common k → n ≡ countedRules (rulesOf s k)
-  order-counts k n l e = e ∙ g .counted .each k (rw (ready-stages s h refs table common g) at l)
+  order-counts k n l e = e ∙ g .counted .each k (rw (ready-stages s h table common g) at l)
 
   module _ (at k next : ℕ) (i : Stand (orderBytes (bookOf s)) (h .stages) index at k next) where
     pub orders-fits : Fits index at orders → k < h .stages → Fits index next (orderBytes (bookOf s) k)
@@ -182,7 +182,7 @@ module _ (s : List ℕ) (h : Counts) (refs table : List ℕ) (common : ℕ) (ind
     orders-small n f l e = omega (arith, orders-fits f l, order-takes k n l e)
 
   pub same-long : (n : ℕ) → n ≡ startFrom (h .stages) table common (h .stages) → (length index ≡ n → ⊥) → false ≡ sameBytes index (indexImage (bookOf s))
-  same-long n e x = sym (same-shorter index (indexImage (bookOf s)) (λ q. x (q ∙ sym (e ∙ ready-length s h refs table common g))))
+  same-long n e x = sym (same-shorter index (indexImage (bookOf s)) (λ q. x (q ∙ sym (e ∙ ready-length s h table common g))))
 
   entries-length : length entries ≡ indexStage * h .stages
   unfolding entryFrom
@@ -190,13 +190,13 @@ module _ (s : List ℕ) (h : Counts) (refs table : List ℕ) (common : ℕ) (ind
 
   runs-long : length (indexImage (bookOf s)) ≡ indexHeader + indexStage * h .stages + length orders
   runs-long =
-      ap length (image-runs s h refs table common g)
+      ap length (image-runs s h table common g)
       ∙ length-append (front ++ entries) orders
       ∙ rw (length-append front entries, pair-length (h .stages) (h .rules), entries-length)
 
   module _ (n : ℕ) (e : n ≡ startFrom (h .stages) table common (h .stages)) (l : n ≤ length index) where
     reaches : length (indexImage (bookOf s)) ≤ length index
-    reaches = omega (arith, ready-length s h refs table common g)
+    reaches = omega (arith, ready-length s h table common g)
 
     pub same-fits-1 : 8 ≤ length index
     same-fits-1 = omega (arith, reaches, runs-long)
@@ -211,7 +211,7 @@ module _ (s : List ℕ) (h : Counts) (refs table : List ℕ) (common : ℕ) (ind
       → sameBytes index (indexImage (bookOf s)) ≡ ((standsAt index 0 front && standsAt index indexHeader entries) && standsAt index (indexHeader + indexStage * h .stages) orders)
   by-runs long =
       sym (stands-whole index (indexImage (bookOf s)) long)
-      ∙ ap (standsAt index 0) (image-runs s h refs table common g)
+      ∙ ap (standsAt index 0) (image-runs s h table common g)
       ∙ stands-append index 0 (front ++ entries) orders
       ∙ rw (stands-append index 0 front entries, length-append front entries, pair-length (h .stages) (h .rules), entries-length, zero-add 8, zero-add (8 + indexStage * h .stages))
 
@@ -231,4 +231,4 @@ module _ (s : List ℕ) (h : Counts) (refs table : List ℕ) (common : ℕ) (ind
 
       pub same-whole : not b ≡ false → (n : ℕ) → n ≡ startFrom (h .stages) table common (h .stages) → length index ≡ n → (c : Bool)
           → c ≡ standsAt index (indexHeader + indexStage * h .stages) orders → c ≡ sameBytes index (indexImage (bookOf s))
-      same-whole z n e l c r = sym (by-runs (l ∙ e ∙ ready-length s h refs table common g) ∙ rw (← p, ← q, not-false a y, not-false b z, ← r))
+      same-whole z n e l c r = sym (by-runs (l ∙ e ∙ ready-length s h table common g) ∙ rw (← p, ← q, not-false a y, not-false b z, ← r))

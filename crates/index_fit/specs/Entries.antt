@@ -3,7 +3,6 @@ use mathlib.Core.Path.{_≡_, refl, sym, ap, _∙_}
 use mathlib.Core.Bool.{true}
 use mathlib.Core.List.{List, [], _∷_}
 use Prim.Native.Nat.{ℕ, zero, suc, _+_}
-use native.Mathlib.Omega.{arith}
 use lib.Dec.{eqb}
 use lib.ListN.{length}
 use borrow.Author.Tests.{eqb-true, eq-eqb}
@@ -11,8 +10,8 @@ use Rattle.paper.specs.Limits.{indexRule}
 use Rattle.general.specs.Cases.{both, same-test}
 use Rattle.general.specs.Comparing.{standsAt, stands-append}
 use Rattle.general.specs.Lists.{packed}
-use Rattle.wire.specs.Wire.{u16At, bytes16}
-use Rattle.wire.specs.Laws.{length-bytes16}
+use Rattle.wire.specs.Wire.{u32At, bytes32}
+use Rattle.wire.specs.Laws.{length-bytes32}
 use Rattle.order_theory.specs.Order.{countedRules}
 use Rattle.order_theory.specs.Running.{runningOrder}
 use Rattle.order_theory.specs.Rising.{Rising, rises, order-rises}
@@ -20,31 +19,31 @@ use Rattle.book.specs.Image.{bookOf}
 use Rattle.rule_order.specs.Nets.{rulesOf}
 use Rattle.index.specs.Index.{orderBytes}
 
--- k rules, 16 bits each
+-- k rules, 32 bits each
 unfoldable pub entriesAt : List ℕ → ℕ → ℕ → List ℕ
 entriesAt index at zero = []
-entriesAt index at (suc k) = u16At index at ∷ entriesAt index (at + indexRule) k
+entriesAt index at (suc k) = u32At index at ∷ entriesAt index (at + indexRule) k
 
 pub length-entries : (index : List ℕ) (k at : ℕ) → length (entriesAt index at k) ≡ k
 unfolding entriesAt
 length-entries index zero at = refl
 length-entries index (suc k) at = ap suc (length-entries index k (at + indexRule))
 
-module _ (index : List ℕ) (same : (at n : ℕ) → eqb (u16At index at) n ≡ standsAt index at (bytes16 n)) where
+module _ (index : List ℕ) (same : (at n : ℕ) → eqb (u32At index at) n ≡ standsAt index at (bytes32 n)) where
   -- a list stands there exactly if it is the entries
-  stands-entries : (l : List ℕ) (at : ℕ) → (standsAt index at (packed bytes16 l) ≡ true) → entriesAt index at (length l) ≡ l
+  stands-entries : (l : List ℕ) (at : ℕ) → (standsAt index at (packed bytes32 l) ≡ true) → entriesAt index at (length l) ≡ l
   unfolding packed entriesAt
   stands-entries [] at h = refl
   stands-entries (r ∷ l) at h =
-      let (a, b) = both (standsAt index at (bytes16 r)) (standsAt index (at + length (bytes16 r)) (packed bytes16 l)) (sym (stands-append index at (bytes16 r) (packed bytes16 l)) ∙ h) in
-      rw (eqb-true (u16At index at) r (same at r ∙ a), stands-entries l (at + indexRule) (rw (length-bytes16 r) at b))
+      let (a, b) = both (standsAt index at (bytes32 r)) (standsAt index (at + length (bytes32 r)) (packed bytes32 l)) (sym (stands-append index at (bytes32 r) (packed bytes32 l)) ∙ h) in
+      rw (eqb-true (u32At index at) r (same at r ∙ a), stands-entries l (at + indexRule) (rw (length-bytes32 r) at b))
 
-  entries-stand : (k at : ℕ) → standsAt index at (packed bytes16 (entriesAt index at k)) ≡ true
+  entries-stand : (k at : ℕ) → standsAt index at (packed bytes32 (entriesAt index at k)) ≡ true
   unfolding packed entriesAt standsAt
   entries-stand zero at = refl
   entries-stand (suc k) at =
-      stands-append index at (bytes16 (u16At index at)) (packed bytes16 (entriesAt index (at + indexRule) k))
-      ∙ rw (length-bytes16 (u16At index at), ← same at (u16At index at), eq-eqb (u16At index at) (u16At index at) refl) (entries-stand k (at + indexRule))
+      stands-append index at (bytes32 (u32At index at)) (packed bytes32 (entriesAt index (at + indexRule) k))
+      ∙ rw (length-bytes32 (u32At index at), ← same at (u32At index at), eq-eqb (u32At index at) (u32At index at) refl) (entries-stand k (at + indexRule))
 
   pub order-stands : (s : List ℕ) (stage at : ℕ) → Rising (rulesOf s stage) → length (runningOrder (rulesOf s stage)) ≡ countedRules (rulesOf s stage)
       → rises (rulesOf s stage) 0 (entriesAt index at (countedRules (rulesOf s stage))) ≡ standsAt index at (orderBytes (bookOf s) stage)
@@ -52,6 +51,6 @@ module _ (index : List ℕ) (same : (at n : ℕ) → eqb (u16At index at) n ≡ 
   order-stands s stage at g n =
       let k : ℕ = countedRules (rulesOf s stage) in
       let t = order-rises (rulesOf s stage) g (entriesAt index at k) (length-entries index k at) in
-      same-test (rises (rulesOf s stage) 0 (entriesAt index at k)) (standsAt index at (packed bytes16 (runningOrder (rulesOf s stage))))
+      same-test (rises (rulesOf s stage) 0 (entriesAt index at k)) (standsAt index at (packed bytes32 (runningOrder (rulesOf s stage))))
       (λ h. rw (← t .0 h) (entries-stand k at))
       (λ h. t .1 (rw (← n) (stands-entries (runningOrder (rulesOf s stage)) at h)))

@@ -1,2 +1,4 @@
 -- The root of the crate's specs.
 pub mod Entries
+pub mod Ascending
+pub mod Stored

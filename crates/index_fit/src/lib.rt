@@ -6,15 +6,15 @@ ghost use mathlib.Core.Bool.{true};
 ghost use mathlib.Core.List.{_++_};
 ghost use Prim.Native.Nat.{_+_, _≤_};
 ghost use lib.ListN.{length};
+ghost use Rattle.paper.specs.Limits.{indexRule};
 ghost use Rattle.general.specs.Comparing.{sameBytes, standsAt};
 ghost use Rattle.general.specs.Lists.{flat};
 ghost use Rattle.general.specs.Writing.{Fits};
-ghost use Rattle.wire.specs.Wire.{bytes16, bytes32};
+ghost use Rattle.wire.specs.Wire.{bytes32};
 ghost use Rattle.order_theory.specs.Order.{countedRules, NoLoop};
 ghost use Rattle.order_theory.specs.Rising.{Rising};
 ghost use Rattle.book.specs.Image.{rulesIn, bookOf};
 ghost use Rattle.book.specs.WellFormed.{WellFormed};
-ghost use Rattle.texts.specs.Noted.{References};
 ghost use Rattle.rule_order.specs.Nets.{rulesOf};
 ghost use Rattle.index.specs.Index.{orderBytes, indexImage};
 ghost use Rattle.index.specs.Sizes.{entryFrom, Sized};
@@ -28,6 +28,7 @@ use ordering::scan::next_rule;
 use paper::INDEX_HEADER;
 use paper::INDEX_RULE;
 use paper::INDEX_STAGE;
+use paper::MAX_CONDITIONS;
 use paper::MAX_EVENTS;
 use paper::MAX_MARKS;
 use texts::references::MARK_WORDS;
@@ -67,45 +68,36 @@ fn entries_same(
 }
 
 // A rule of an order.
-fn rule_same(index: &[u8], at: usize, rule: u16) -> bool
-    requires { ⌜ at + 2 ≤ length (now index) ⌝ }
-    ensures { λ r. ⌜ r ≡ standsAt (now (index .entry)) at (bytes16 rule) ⌝ }
+fn rule_same(index: &[u8], at: usize, rule: u32) -> bool
+    requires { ⌜ at + indexRule ≤ length (now index) ⌝ }
+    ensures { λ r. ⌜ r ≡ standsAt (now (index .entry)) at (bytes32 rule) ⌝ }
 {
-    wire::u16_at(index, at) == rule
+    wire::u32_at(index, at) == rule
 }
 
-// The order of a stage, rule by rule, to the first that differs. One pass over the rules, and the scan. Stack: about 2 KiB.
+// The order of a stage, rule by rule, to the first that differs, made in four lent arrays. One pass over the rules, and the scan.
 pub fn order_same(
     image: &[u8],
     rules: usize,
     stage: u32,
-    refs: &[u64],
+    counts: &mut [u32; MAX_MARKS],
+    waits: &mut [u64; MARK_WORDS],
+    written: &mut [u64; RULE_WORDS],
+    free: &mut [u32; MAX_CONDITIONS],
     index: &[u8],
     at: usize,
 ) -> bool
-    requires { ⌜ (WellFormed (now image)) × (rules ≡ rulesIn (now image)) × (References (now image) (now refs)) × (NoLoop (rulesOf (now image) stage))
+    requires { ⌜ (WellFormed (now image)) × (rules ≡ rulesIn (now image)) × (NoLoop (rulesOf (now image) stage))
         × Fits (now index) at (orderBytes (bookOf (now image)) stage) ⌝ }
     ensures { λ r. ⌜ r ≡ standsAt (now (index .entry)) at (orderBytes (bookOf (now (image .entry))) stage) ⌝ }
 {
-    let mut counts = [0u16; MAX_MARKS];
-    let mut waits = [0u64; MARK_WORDS];
-    let mut written = [0u64; RULE_WORDS];
-    let counted = count_targets(image, rules, stage, &mut counts, &mut waits, &mut written);
+    let counted = count_targets(image, rules, stage, counts, waits, written, free);
     let mut next = at;
     let mut here: usize = 0;
     let mut passed = rules;
     for j in 0..counted {
-        let scan = next_rule(
-            image,
-            rules,
-            refs,
-            here,
-            passed,
-            &mut counts,
-            &mut waits,
-            &mut written,
-        );
-        if !rule_same(index, next, scan.rule as u16) {
+        let scan = next_rule(image, rules, here, passed, counts, waits, written, free);
+        if !rule_same(index, next, scan.rule as u32) {
             return false;
         }
         next += INDEX_RULE;
@@ -121,12 +113,15 @@ fn stage_same(
     rules: usize,
     stage: u32,
     counted: usize,
-    refs: &[u64],
     rising: bool,
+    counts: &mut [u32; MAX_MARKS],
+    waits: &mut [u64; MARK_WORDS],
+    written: &mut [u64; RULE_WORDS],
+    free: &mut [u32; MAX_CONDITIONS],
     index: &[u8],
     at: usize,
 ) -> bool
-    requires { ⌜ (WellFormed (now image)) × (rules ≡ rulesIn (now image)) × (References (now image) (now refs)) × (NoLoop (rulesOf (now image) stage))
+    requires { ⌜ (WellFormed (now image)) × (rules ≡ rulesIn (now image)) × (NoLoop (rulesOf (now image) stage))
         × (counted ≡ countedRules (rulesOf (now image) stage)) × (rising ≡ true → Rising (rulesOf (now image) stage))
         × Fits (now index) at (orderBytes (bookOf (now image)) stage) ⌝ }
     ensures { λ r. ⌜ r ≡ standsAt (now (index .entry)) at (orderBytes (bookOf (now (image .entry))) stage) ⌝ }
@@ -134,24 +129,27 @@ fn stage_same(
     if rising {
         return entries_rise(image, rules, stage, counted, index, at);
     }
-    order_same(image, rules, stage, refs, index, at)
+    order_same(image, rules, stage, counts, waits, written, free, index, at)
 }
 
 fn orders_same(
     image: &[u8],
-    counts: Counts,
-    refs: &[u64],
+    head: Counts,
     table: &[u32; MAX_EVENTS],
     common: usize,
+    counts: &mut [u32; MAX_MARKS],
+    waits: &mut [u64; MARK_WORDS],
+    written: &mut [u64; RULE_WORDS],
+    free: &mut [u32; MAX_CONDITIONS],
     index: &[u8],
     at: usize,
 ) -> bool
-    requires { ⌜ IndexReady (now image) counts (now refs) (now table) common × Fits (now index) at (flat (counts .stages) (orderBytes (bookOf (now image)))) ⌝ }
-    ensures { λ r. ⌜ r ≡ standsAt (now (index .entry)) at (flat (counts .stages) (orderBytes (bookOf (now (image .entry))))) ⌝ }
+    requires { ⌜ IndexReady (now image) head (now table) common × Fits (now index) at (flat (head .stages) (orderBytes (bookOf (now image)))) ⌝ }
+    ensures { λ r. ⌜ r ≡ standsAt (now (index .entry)) at (flat (head .stages) (orderBytes (bookOf (now (image .entry))))) ⌝ }
 {
-    let rules = counts.rules as usize;
-    let stages = counts.stages as usize;
-    let rising = ascends(image, rules, refs);
+    let rules = head.rules as usize;
+    let stages = head.stages as usize;
+    let rising = ascends(image, head, counts, free);
     let mut next = at;
     for stage in 0..stages {
         let counted = order_size(table, common, stage);
@@ -160,8 +158,11 @@ fn orders_same(
             rules,
             stage as u32,
             counted,
-            refs,
             rising,
+            counts,
+            waits,
+            written,
+            free,
             index,
             next,
         ) {
@@ -175,25 +176,39 @@ fn orders_same(
 // Whether the index is the book's, byte for byte and in length.
 pub fn index_same(
     image: &[u8],
-    counts: Counts,
-    refs: &[u64],
+    head: Counts,
     table: &[u32; MAX_EVENTS],
     common: usize,
+    counts: &mut [u32; MAX_MARKS],
+    waits: &mut [u64; MARK_WORDS],
+    written: &mut [u64; RULE_WORDS],
+    free: &mut [u32; MAX_CONDITIONS],
     index: &[u8],
 ) -> bool
-    requires { ⌜ IndexReady (now image) counts (now refs) (now table) common ⌝ }
+    requires { ⌜ IndexReady (now image) head (now table) common ⌝ }
     ensures { λ r. ⌜ r ≡ sameBytes (now (index .entry)) (indexImage (bookOf (now (image .entry)))) ⌝ }
 {
-    let stages = counts.stages as usize;
+    let stages = head.stages as usize;
     if index.len() != index_size(stages, common, table) {
         return false;
     }
-    if !pair_same(index, 0, counts.stages, counts.rules) {
+    if !pair_same(index, 0, head.stages, head.rules) {
         return false;
     }
     if !entries_same(stages, common, table, index, INDEX_HEADER) {
         return false;
     }
     let at = INDEX_HEADER + INDEX_STAGE * stages;
-    orders_same(image, counts, refs, table, common, index, at)
+    orders_same(
+        image,
+        head,
+        table,
+        common,
+        counts,
+        waits,
+        written,
+        free,
+        index,
+        at,
+    )
 }

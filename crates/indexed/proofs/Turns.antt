@@ -9,7 +9,7 @@ use lib.ListN.{length, getD, drop}
 use Rattle.paper.specs.Limits.{maxMarks, indexHeader, indexStage, indexRule}
 use Rattle.general.specs.Cases.{cases}
 use Rattle.general.specs.Lists.{flat-part}
-use Rattle.wire.specs.Wire.{u16At, u32At}
+use Rattle.wire.specs.Wire.{u32At}
 use Rattle.order_theory.specs.Snapshots.{stepL, runL-on, runL-end}
 use Rattle.book.specs.Text.{snapOf}
 use Rattle.book.specs.Book.{ruleOf, textOf}
@@ -69,10 +69,10 @@ module _ (s index : List ℕ) (h : Counts) (stage : ℕ) (o : Opened s h) (n : N
       pub count-fits : (looked : ℕ) → looked ≡ j → looked + 1 < 2 ^ 32
       count-fits looked e = omega (arith, many-small)
 
-      pub rule-inside-index : at + indexRule * j + 2 ≤ length index
+      pub rule-inside-index : at + indexRule * j + indexRule ≤ length index
       rule-inside-index = omega (arith, at-is, many-is, order-ends)
 
-      pub entry : (r : ℕ) → r ≡ u16At index (at + indexRule * j) → Entry s stage many j r
+      pub entry : (r : ℕ) → r ≡ u32At index (at + indexRule * j) → Entry s stage many j r
       entry r q =
           let e : many ≡ length (orderOf (bookOf s) stage) = many-is in
           let x : r ≡ getD (orderOf (bookOf s) stage) j 0 = q ∙ rw (fit, at-is) (read-rule (bookOf s) stage its j (omega arith)) in

@@ -149,7 +149,7 @@ pub looked-count : (s : List ℕ) (marks : List Bool) (stage : ℕ) → lookedAt
 unfolding lookedAt
 looked-count s marks stage = looks-length (bookOf s) (snapOf marks) stage (goes-run (bookOf s) (snapOf marks) stage (orderOf (bookOf s) stage) (snapOf marks))
 
--- at most 8,384
+-- at most as many as a book may have
 pub looked-most : (s : List ℕ) → WellFormed s → NoLoops (bookOf s) → (marks : List Bool) (stage : ℕ) → stage < stagesIn s → lookedAt s marks stage ≤ maxRules
 looked-most s g n marks stage h = rw (looked-count s marks stage) (count-small s g n stage h)
 

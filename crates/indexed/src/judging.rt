@@ -1,17 +1,13 @@
 // What is refused before a rule has its turn: 20 to 26 and 34 of the book and the index, 28 to 30 of the snapshot and the stage.
 ghost use mathlib.Core.Path.{_≡_};
 ghost use mathlib.Core.List.{List};
-ghost use Prim.Native.Nat.{ℕ, _*_, _≤_};
-ghost use lib.ListN.{length};
+ghost use Prim.Native.Nat.{ℕ, _≤_};
 ghost use Rattle.paper.specs.Limits.{maxEvents};
-ghost use Rattle.book.specs.Image.{stagesIn, marksIn, conditionsIn};
+ghost use Rattle.book.specs.Image.{stagesIn};
 ghost use Rattle.book.specs.Judging.{countsOf};
-ghost use Rattle.book.specs.Marks.{markWords};
-ghost use Rattle.book.specs.WellFormed.{Headed};
 ghost use Rattle.general.specs.Comparing.{sameBytes};
-ghost use Rattle.texts.specs.Noted.{References};
 ghost use Rattle.judge.specs.Checking.{BookPasses};
-ghost use Rattle.judge.specs.Head.{Begun, smallMarks, smallConditions};
+ghost use Rattle.judge.specs.Head.{Begun};
 ghost use Rattle.index_builder.specs.Building.{indexOf};
 ghost use Rattle.indexed.specs.Indexed.{indexAnswer, openAnswer, marksAnswer};
 use book::Counts;
@@ -20,28 +16,44 @@ use index::sizes::stage_counts;
 use index_fit::index_same;
 use judge::image::judge_head;
 use judge::judge_book;
-use judge::sizes::SMALL_REFS;
-use judge::sizes::SMALL_WORK;
-use judge::sizes::WORK;
-use judge::sizes::is_small;
 use paper::Answer;
 use paper::INDEX_UNFIT;
 use paper::MARK_ABOVE;
+use paper::MAX_CONDITIONS;
 use paper::MAX_EVENTS;
 use paper::MAX_MARKS;
 use paper::NO_SUCH_STAGE;
 use paper::STAGE_CLOSED;
-use rule_order::references::REFS;
 use runner::judging::any_from;
+use texts::references::MARK_WORDS;
+use unwritten::written::RULE_WORDS;
 
 // Whether these bytes are the index of a book that passed.
-fn index_fits(book: &[u8], counts: Counts, refs: &[u64], index: &[u8]) -> bool
-    requires { ⌜ (BookPasses (now book)) × (counts ≡ countsOf (now book)) × (References (now book) (now refs)) ⌝ }
+fn index_fits(
+    book: &[u8],
+    counts: Counts,
+    targeted: &mut [u32; MAX_MARKS],
+    waits: &mut [u64; MARK_WORDS],
+    written: &mut [u64; RULE_WORDS],
+    free: &mut [u32; MAX_CONDITIONS],
+    index: &[u8],
+) -> bool
+    requires { ⌜ (BookPasses (now book)) × (counts ≡ countsOf (now book)) ⌝ }
     ensures { λ r. ⌜ r ≡ sameBytes (now (index .entry)) (indexOf (now (book .entry))) ⌝ }
 {
     let mut table = [0u32; MAX_EVENTS];
     let common = stage_counts(book, counts.rules as usize, &mut table);
-    index_same(book, counts, refs, &table, common, index)
+    index_same(
+        book,
+        counts,
+        &table,
+        common,
+        targeted,
+        waits,
+        written,
+        free,
+        index,
+    )
 }
 
 // 23 to 26 and 34, behind a head that passed.
@@ -49,38 +61,48 @@ fn judge_index_in(
     book: &[u8],
     counts: Counts,
     index: &[u8],
-    refs: &mut [u64],
-    work: &mut [u64],
+    targeted: &mut [u32; MAX_MARKS],
+    waits: &mut [u64; MARK_WORDS],
+    written: &mut [u64; RULE_WORDS],
+    free: &mut [u32; MAX_CONDITIONS],
+    reached: &mut [u64; MAX_MARKS],
+    asked: &mut [u64; MAX_CONDITIONS],
 ) -> Answer
-    requires { ⌜ (Begun (now book) counts (now refs)) × (marksIn (now book) * markWords ≤ length (now work)) ⌝ }
+    requires { ⌜ Begun (now book) counts ⌝ }
     ensures { λ r. ⌜ r ≡ indexAnswer (now (book .entry)) (now (index .entry)) ⌝ }
 {
-    let answer = judge_book(book, counts, refs, work);
+    let answer = judge_book(book, counts, targeted, waits, written, free, reached, asked);
     if answer.code != 0 {
         return answer;
     }
-    if index_fits(book, counts, refs, index) {
+    if index_fits(book, counts, targeted, waits, written, free, index) {
         return paper::granted();
     }
     paper::refused(INDEX_UNFIT, 0, 0)
 }
 
-fn judge_index_small(book: &[u8], counts: Counts, index: &[u8]) -> Answer
-    requires { ⌜ (Headed (now book)) × (counts ≡ countsOf (now book)) × (marksIn (now book) ≤ smallMarks) × (conditionsIn (now book) ≤ smallConditions) ⌝ }
+// The arrays that a book and its index are judged in.
+fn judge_index_of(book: &[u8], counts: Counts, index: &[u8]) -> Answer
+    requires { ⌜ Begun (now book) counts ⌝ }
     ensures { λ r. ⌜ r ≡ indexAnswer (now (book .entry)) (now (index .entry)) ⌝ }
 {
-    let mut refs = [0u64; SMALL_REFS];
-    let mut work = [0u64; SMALL_WORK];
-    judge_index_in(book, counts, index, &mut refs, &mut work)
-}
-
-fn judge_index_large(book: &[u8], counts: Counts, index: &[u8]) -> Answer
-    requires { ⌜ (Headed (now book)) × (counts ≡ countsOf (now book)) ⌝ }
-    ensures { λ r. ⌜ r ≡ indexAnswer (now (book .entry)) (now (index .entry)) ⌝ }
-{
-    let mut refs = [0u64; REFS];
-    let mut work = [0u64; WORK];
-    judge_index_in(book, counts, index, &mut refs, &mut work)
+    let mut targeted = [0u32; MAX_MARKS];
+    let mut waits = [0u64; MARK_WORDS];
+    let mut written = [0u64; RULE_WORDS];
+    let mut free = [0u32; MAX_CONDITIONS];
+    let mut reached = [0u64; MAX_MARKS];
+    let mut asked = [0u64; MAX_CONDITIONS];
+    judge_index_in(
+        book,
+        counts,
+        index,
+        &mut targeted,
+        &mut waits,
+        &mut written,
+        &mut free,
+        &mut reached,
+        &mut asked,
+    )
 }
 
 // 20 to 26 and 34.
@@ -91,11 +113,7 @@ pub fn judge_index(book: &[u8], index: &[u8]) -> Answer
     if judged.code != 0 {
         return judged;
     }
-    let h = counts_at(book);
-    if is_small(h) {
-        return judge_index_small(book, h, index);
-    }
-    judge_index_large(book, h, index)
+    judge_index_of(book, counts_at(book), index)
 }
 
 // 29 and 30, of a book of so many stages.

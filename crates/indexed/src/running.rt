@@ -2,7 +2,8 @@
 ghost use mathlib.Core.Path.{_≡_};
 ghost use Prim.Native.Nat.{_+_, _≤_, _<_};
 ghost use lib.ListN.{length};
-ghost use Rattle.wire.specs.Wire.{u16At};
+ghost use Rattle.paper.specs.Limits.{indexRule};
+ghost use Rattle.wire.specs.Wire.{u32At};
 ghost use Rattle.book.specs.Image.{bookOf};
 ghost use Rattle.book.specs.WellRead.{Opened};
 ghost use Rattle.runner.specs.Completing.{through};
@@ -20,10 +21,10 @@ use paper::MAX_MARKS;
 
 // The rule that an order has at a place of the index.
 fn entry_at(index: &[u8], at: usize) -> usize
-    requires { ⌜ at + 2 ≤ length (now index) ⌝ }
-    ensures { λ r. ⌜ r ≡ u16At (now (index .entry)) at ⌝ }
+    requires { ⌜ at + indexRule ≤ length (now index) ⌝ }
+    ensures { λ r. ⌜ r ≡ u32At (now (index .entry)) at ⌝ }
 {
-    wire::u16_at(index, at) as usize
+    wire::u32_at(index, at) as usize
 }
 
 // What the turns leave: the snapshot, and how many rules had one.
@@ -33,7 +34,7 @@ pub struct Turned {
 }
 
 // The turns of a completion; `start` has the marks at the start of the completion. A rule whose target has its value already cannot alter
-// it, so its condition is not evaluated; one that fires goes through `applied`, whose one store is in place and which copies the 256 marks.
+// it, so its condition is not evaluated; one that fires goes through `applied`, whose one store is in place and which copies the marks.
 pub fn go_through_index(
     book: &[u8],
     counts: Counts,

@@ -64,7 +64,7 @@ pub opens-known : (s : List ℕ) (marks : List Bool) (stage : ℕ) → opens s m
 unfolding openAnswer
 opens-known s marks stage e = cases (ltb stage (stagesIn s)) (λ h. ltb-true stage (stagesIn s) h) (λ h. contra (rw h at e) refl)
 
--- the sum is at most 8,384 for each entry, and so never exceeds 32 bits
+-- the sum is at most as many for each entry as a book may have rules, and so never exceeds 32 bits
 module _ (s : List ℕ) (g : WellFormed s) (n : NoLoops (bookOf s)) where
   pub looked-in-most : (list : List ℕ) (marks : List Bool) → lookedIn s marks list ≤ length list * maxRules
   unfolding lookedIn
@@ -125,7 +125,7 @@ pub data InTurn (s index : List ℕ) : Snapshot → List ℕ → ℕ → Snapsho
   stops : {x : Snapshot} {t : ℕ} {list : List ℕ} → (completingIndexed s index x t .answer .code ≡ 0 → ⊥) → InTurn s index x (t ∷ list) 0 (completingIndexed s index x t .snapshot) 0
 
 module _ (s index : List ℕ) (p : Passes s) (q : index ≡ indexOf s) where
-  -- a completion of an open stage keeps 256 marks that belong to the book
+  -- a completion of an open stage keeps as many marks, and they belong to the book
   module _ (x : Snapshot) (t : ℕ) (o : Open s x t) where
     order-fits : Fit (rulesOf s t) (orderOf (bookOf s) t)
     order-fits = order-fit s (p .formed) t (acyclic-at s t (p .acyclic) (o .known))

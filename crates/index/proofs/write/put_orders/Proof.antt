@@ -8,10 +8,11 @@ use Rattle.index.proofs.write.put_orders.Statement.{statement}
 use Rattle.index.proofs.write.put_orders.Tie as tie
 
 abbrev Inv-loop : tie.InvT-loop
-Inv-loop image rules stages refs room₀ at next₀ stage₀ room next stage = Runs (orderBytes (bookOf image)) stages room₀ at stage next room
+Inv-loop image rules stages counts₀ waits₀ written₀ free₀ room₀ at next₀ stage₀ counts waits written free room next stage =
+    Runs (orderBytes (bookOf image)) stages room₀ at stage next room
 
 abbrev μ-loop : tie.MeasureT-loop
-μ-loop image rules stages refs room₀ at next₀ stage₀ room next stage = stages - stage
+μ-loop image rules stages counts₀ waits₀ written₀ free₀ room₀ at next₀ stage₀ counts waits written free room next stage = stages - stage
 
 pub put-orders-spec : {M : Type 1} → statement M
 put-orders-spec =
@@ -20,9 +21,9 @@ put-orders-spec =
     Inv-loop
     μ-loop
     (λ c. search runs-start)
-    (λ c κs. let p = c .before .before .before .before .before .before .pre in
-    (p .0, p .1, p .2, p .3 _ (c .before .loop-test .taken), runs-fits _ _ _ _ _ _ _ (c .before .before .loop .inv) (c .before .loop-test .taken) (p .4)))
+    (λ c κs. let p = c .before .before .before .before .before .before .before .before .before .pre in
+    (p .0, p .1, p .2 _ (c .before .before .before .before .before .loop-test .taken), runs-fits _ _ _ _ _ _ _ (c .before .before .before .before .before .before .loop .inv) (c .before .before .before .before .before .loop-test .taken) (p .3)))
     (λ c. search needs) (λ c. search needs)
-    (λ c. runs-more _ _ _ _ _ _ _ (c .before .before .before .before .before .loop .inv) _ _ (c .before .before .before .before .loop-test .taken) (c .before .before .put-order .ensures))
+    (λ c. runs-more _ _ _ _ _ _ _ (c .before .before .before .before .before .before .before .before .before .loop .inv) _ _ (c .before .before .before .before .before .before .before .before .loop-test .taken) (c .before .before .put-order .ensures))
     (λ c. runs-length _ _ _ _ _ _ _ (c .before .loop .inv))
     (λ c. search runs-done))

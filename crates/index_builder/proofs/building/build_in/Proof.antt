@@ -8,8 +8,8 @@ pub build-in-spec : {M : Type 1} → statement M
 build-in-spec =
     tie.close
     (tie.spec
-    (λ c κs. search needs) (λ c. search needs) (λ c. search needs)
-    (λ c. build-book _ _ _ (c .before .before .before .before .before .before .judge-book .ensures .0) (c .if1 .taken))
-    (λ c κs. judged-so _ _ (c .before .before .before .before .before .before .before .before .judge-book .ensures .0) (c .before .before .if1 .left) _ (c .before .before .before .before .before .before .before .before .before .before .before .before .before .before .before .pre .0 .counts) _ (c .before .before .before .before .before .before .before .before .judge-book .ensures .1))
-    (λ c. search needs) (λ c. search needs) (λ c. search needs)
+    (λ c κs. search needs)
+    (λ c. build-book _ _ _ (c .before .before .judge-book .ensures) (c .if1 .taken))
+    (λ c κs. judged-so _ _ (c .before .before .before .before .before .before .before .judge-book .ensures) (c .before .before .before .before .before .if1 .left) _ (c .before .before .before .before .before .before .before .before .before .before .before .before .before .before .before .before .pre .counts))
+    (λ c. search needs)
     (λ c. c .before .before .write-in .ensures))

@@ -1,17 +1,19 @@
 -- `index_fit::rising::ascends` meets its contract. Assumes nothing.
-use mathlib.Core.Path.{refl, sym, _∙_}
+use mathlib.Core.Path.{refl}
+use Prim.Native.Nat.{_-_}
 use native.Mathlib.Omega.{arith}
+use borrow.Author.Tests.{not-false}
 use Rattle.general.specs.Cases.{contra}
-use Rattle.index_fit.proofs.Ascending.{Later, later-first, later-more, later-last}
+use Rattle.index_fit.proofs.Ascending.{opened-rules, Lifting, lifting-first, lifting-more, lifting-last}
 use borrow.Author.Needs.{needs}
 use Rattle.index_fit.proofs.rising.ascends.Statement.{statement}
 use Rattle.index_fit.proofs.rising.ascends.Tie as tie
 
 abbrev Inv-loop : tie.InvT-loop
-Inv-loop image rules refs later₀ r₀ later r = Later image r later
+Inv-loop image last asked rules r₀ r = Lifting image last r
 
 abbrev μ-loop : tie.MeasureT-loop
-μ-loop image rules refs later₀ r₀ later r = r
+μ-loop image last asked rules r₀ r = rules - r
 
 pub ascends-spec : {M : Type 1} → statement M
 ascends-spec =
@@ -19,13 +21,14 @@ ascends-spec =
     (tie.spec
     Inv-loop
     μ-loop
-    (λ c. let p = c .before .before .pre in later-first _ (p .0) _ _ (p .1) refl)
     (λ c. search needs)
-    (λ c κs. let p = c .before .before .before .before .before .pre in (p .0, omega (arith, c .before .before .loop .inv .few, c .before .loop-test .taken)))
-    (λ c κs. let b = c .before .before .before in let p = b .before .before .before .before .pre in (p .0, p .2, omega (arith, b .before .loop .inv .few, b .loop-test .taken)))
+    (λ c κs. (c .before .before .before .pre .formed, opened-rules _ _ (c .before .before .before .pre)))
+    (λ c κs. c .before .before .before .before .before .before .pre)
+    (λ c. lifting-first _ _)
+    (λ c κs. (c .before .before .before .before .before .before .before .before .before .before .pre .formed, omega (arith, opened-rules _ _ (c .before .before .before .before .before .before .before .before .before .before .pre), c .before .loop-test .taken)))
     (λ c e. contra e refl)
-    (λ c. search needs)
-    (λ c. let b = c .before .before .before .before .before in
-    later-more _ (b .before .before .before .before .pre .0) _ _ _ (b .before .loop .inv) (omega (arith, b .loop-test .taken)) _ (c .before .before .before .put-target .ensures)
-    (sym (c .before .rule-touches .ensures) ∙ c .if1 .left))
-    (λ c e. later-last _ (c .before .before .before .before .pre .0) _ _ (c .before .loop .inv) (search needs)))
+    (λ c κs. (c .before .before .before .before .before .before .before .before .before .before .before .before .before .pre .formed, omega (arith, opened-rules _ _ (c .before .before .before .before .before .before .before .before .before .before .before .before .before .pre), c .before .before .before .before .loop-test .taken)))
+    (λ c e. contra e refl)
+    (λ c. search needs) (λ c. search needs)
+    (λ c. lifting-more _ _ _ (c .before .before .before .before .before .before .before .before .before .before .before .before .before .before .before .pre .formed) (c .before .before .before .before .before .before .before .before .last-texts .ensures) _ (c .before .before .before .before .before .before .before .loop .inv) (c .before .before .before .before .mark-ascends .ensures (not-false _ (c .before .before .before .if1 .left))) (c .before .text-ascends .ensures (not-false _ (c .if2 .left))))
+    (λ c e. lifting-last _ _ _ (c .before .before .before .before .before .before .before .before .before .pre .formed) (c .before .before .last-texts .ensures) _ _ (opened-rules _ _ (c .before .before .before .before .before .before .before .before .before .pre)) (c .before .before .before .before .before .last-targets .ensures) (c .before .loop .inv) (c .loop-test .left)))

@@ -10,6 +10,6 @@ index-fits-spec =
     tie.close
     (tie.spec
     (λ c. search needs)
-    (λ c κs. counts-asks _ _ _ (c .before .before .before .before .before .pre) _ refl)
-    (λ c κs. index-ready _ _ _ (c .before .before .before .before .before .before .before .pre) _ _ (c .before .stage-counts .ensures))
+    (λ c κs. counts-asks _ _ (c .before .before .before .before .pre) _ refl)
+    (λ c κs. index-ready _ _ (c .before .before .before .before .before .before .before .before .before .before .pre) _ _ (c .before .before .before .before .before .stage-counts .ensures))
     (λ c. c .index-same .ensures))

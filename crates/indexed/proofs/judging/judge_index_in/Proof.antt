@@ -9,10 +9,10 @@ pub judge-index-in-spec : {M : Type 1} → statement M
 judge-index-in-spec =
     tie.close
     (tie.spec
-    (λ c κs. search needs) (λ c. search needs) (λ c. search needs)
-    (λ c. index-book _ _ _ (c .before .before .before .before .before .before .judge-book .ensures .0) (c .if1 .taken))
-    (λ c κs. judged-so _ _ (c .before .before .before .before .before .before .before .judge-book .ensures .0) (c .before .if1 .left) _ (c .before .before .before .before .before .before .before .before .before .before .before .before .before .before .pre .0 .counts) _ (c .before .before .before .before .before .before .before .judge-book .ensures .1))
-    (λ c κs. search needs) (λ c. search needs) (λ c. search needs)
-    (λ c. index-fits _ _ _ (c .before .before .before .before .before .before .before .before .before .before .judge-book .ensures .0) (c .before .before .before .before .if1 .left) _ (c .before .before .index-fits .ensures) _ (c .before .if2 .taken) (c .granted .ensures))
-    (λ c κs. search needs) (λ c. search needs) (λ c. search needs)
-    (λ c. index-differs _ _ _ (c .before .before .before .before .before .before .before .before .before .before .judge-book .ensures .0) (c .before .before .before .before .if1 .left) _ (c .before .before .index-fits .ensures) _ (c .before .if2 .left) (c .refused .ensures)))
+    (λ c κs. search needs)
+    (λ c. index-book _ _ _ (c .before .before .judge-book .ensures) (c .if1 .taken))
+    (λ c κs. judged-so _ _ (c .before .before .before .before .before .before .judge-book .ensures) (c .before .before .before .before .if1 .left) _ (c .before .before .before .before .before .before .before .before .before .before .before .before .before .before .before .pre .counts))
+    (λ c κs. search needs)
+    (λ c. index-fits _ _ _ (c .before .before .before .before .before .before .before .before .before .judge-book .ensures) (c .before .before .before .before .before .before .before .if1 .left) _ (c .before .before .index-fits .ensures) _ (c .before .if2 .taken) (c .granted .ensures))
+    (λ c κs. search needs)
+    (λ c. index-differs _ _ _ (c .before .before .before .before .before .before .before .before .before .judge-book .ensures) (c .before .before .before .before .before .before .before .if1 .left) _ (c .before .before .index-fits .ensures) _ (c .before .if2 .left) (c .refused .ensures)))
