@@ -7,7 +7,7 @@ use lib.ListN.{length}
 use Rattle.paper.specs.Limits.{andWord, orWord, notWord}
 use Rattle.sets.specs.Set.{has}
 use Rattle.flat_chart.specs.Chart.{condition, response, milestone, include, exclude, setOf}
-use Rattle.flat_chart.specs.declared.FlatChart.{FlatChart}
+use Rattle.flat_chart.specs.Flat.{FlatChart}
 use Rattle.book.specs.Book.{Book, Condition, noCondition, textOf}
 use Rattle.general.specs.Lists.{flat, each, getD-each, cut-flat, All, all-append, append-all, all-flat, flat-all}
 use Rattle.book.specs.declared.Rule.{Rule}

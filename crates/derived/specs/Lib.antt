@@ -5,6 +5,7 @@ pub mod Meaning
 pub mod OneChart
 pub mod Members
 pub mod Sizes
+pub mod Largest
 pub mod WritingLoops
 pub mod Parts
 pub mod RuleBytes

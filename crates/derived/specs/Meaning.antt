@@ -10,7 +10,7 @@ use Rattle.general.specs.Lists.{flat, All, all-append, append-all, all-flat, fl
 use Rattle.sets.specs.Set.{has}
 use Rattle.flat_chart.specs.Chart.{condition, response, milestone, include, exclude, setOf, In, Fit}
 use Rattle.graph.specs.Overruled.{standingAt}
-use Rattle.flat_chart.specs.declared.FlatChart.{FlatChart}
+use Rattle.flat_chart.specs.Flat.{FlatChart}
 use Rattle.book.specs.declared.Rule.{Rule}
 use Rattle.book.specs.declared.Trigger.the-variants.{None, Completed}
 use Rattle.derived.specs.Derived.{executedMark, includedMark, answeredMark, on, listed, clause, inclusion, responding, answering, settingExecuted, textFor}

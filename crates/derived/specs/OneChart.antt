@@ -10,7 +10,7 @@ use Rattle.general.specs.Lists.{All}
 use Rattle.sets.specs.Set.{has}
 use Rattle.sets.specs.Laws.{ext}
 use Rattle.flat_chart.specs.Chart.{Kind, condition, response, milestone, include, exclude, In, Fit}
-use Rattle.flat_chart.specs.declared.FlatChart.{FlatChart}
+use Rattle.flat_chart.specs.Flat.{FlatChart}
 use Rattle.book.specs.Book.{Book, textOf}
 use Rattle.derived.specs.Derived.{executedMark, includedMark, answeredMark, derivedRules, derivedText, derivedBook, derived-text}
 use Rattle.derived.specs.Overruled.{standingOf, stands-in, stands-past}

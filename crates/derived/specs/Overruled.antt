@@ -15,8 +15,8 @@ use Rattle.sets.specs.Laws.{has-minus, has-empty, none-zero}
 use Rattle.flat_chart.specs.Chart.{Kind, condition, response, milestone, include, exclude, setOf, In, Fit}
 use Rattle.graph.specs.Overruled.{standingAt, standing, standing-set, standing-steps}
 use Rattle.graph.specs.Steps.{after}
-use Rattle.flat_chart.specs.declared.FlatChart.{FlatChart}
-use Rattle.graph.specs.declared.Marking.{Marking}
+use Rattle.flat_chart.specs.Flat.{FlatChart}
+use Rattle.graph.specs.Flat.{Marking}
 use Rattle.book.specs.declared.Rule.{Rule}
 use Rattle.book.specs.declared.Trigger.{Trigger}
 use Rattle.book.specs.declared.Trigger.the-variants.{None, Completed, BecomeYes, BecomeNo}

@@ -4,13 +4,14 @@ use mathlib.Core.Path.{_≡_}
 use mathlib.Core.Bool.{true}
 use mathlib.Core.List.{List, [], _∷_}
 use lib.ListN.{length, getD}
+use Rattle.paper.specs.Limits.{notWord, orWord, andWord}
 use Rattle.sets.specs.Set.{union, within}
 use Rattle.flat_chart.specs.Chart.{condition, response, milestone, Fit}
-use Rattle.flat_chart.specs.declared.FlatChart.{FlatChart}
+use Rattle.flat_chart.specs.Flat.{FlatChart}
 use Rattle.book.specs.Book.{Condition}
 use Rattle.general.specs.Lists.{flat}
 use Rattle.book.specs.declared.Rule.{Rule}
-use Rattle.derived.specs.Derived.{clause, completion, textFor}
+use Rattle.derived.specs.Derived.{completion, textFor}
 use Rattle.derived.specs.Sizes.{set-within, both-within}
 
 -- what e's completion does, where i, x and r are the tables of includes, excludes and responses
@@ -36,9 +37,9 @@ conditionMade start count = record { start = start; count = count }
 unfoldable pub conditionPart : ℕ → List ℕ → List ℕ → ℕ → List Condition
 conditionPart n t m e = conditionMade (length (flat e (textAt n t m))) (length (textAt n t m e)) ∷ []
 
--- a clause whose mark is base + f
+-- a clause whose marks are included + f and base + f
 unfoldable pub clauseFrom : ℕ → ℕ → ℕ → List ℕ
-clauseFrom n base f = clause n (λ k. base + k) f
+clauseFrom included base f = (included + f) ∷ (notWord ∷ ((base + f) ∷ (orWord ∷ (andWord ∷ []))))
 
 -- ---- a chart's own tables
 

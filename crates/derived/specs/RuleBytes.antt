@@ -8,16 +8,20 @@ use native.Mathlib.Omega.{arith}
 use lib.ListN.{length, set, getD}
 use lib.Seq.{sets}
 use Rattle.paper.specs.Limits.{maxEvents, ruleSize, conditionSize, wordSize, notWord, orWord, andWord}
-use Rattle.sets.specs.Set.{has, union}
+use Rattle.sets.specs.Set.{has, union, within}
+use Rattle.wide.specs.Words.{Words}
+use Rattle.wide.specs.Number.{wordsOf, setWords, number}
+use Rattle.wide.specs.declared.Set.{Set}
 use Rattle.wire.specs.Wire.{put16, put32, bytes16, bytes32}
 use Rattle.wire.specs.Laws.{length-bytes16}
 use Rattle.book.specs.Book.{Condition}
-use Rattle.general.specs.Lists.{total-step, total-same, flat, length-flat, packed, packed-one, packed-append, length-packed}
+use Rattle.general.specs.Lists.{total-step, total-same, flat, flat-same, length-flat, packed, packed-one, packed-append, length-packed}
 use Rattle.book.specs.ImageOf.{effectByte, ruleRecord, ruleBytes, length-rule, conditionBytes, length-condition}
 use Rattle.book.specs.declared.Rule.{Rule}
 use Rattle.derived.specs.Derived.{answeredMark, listed, on, settingExecuted, inclusion, responding, answering, completion, textFor, stageRules}
+use Rattle.derived.specs.Members.{has-word, listed-words}
 use Rattle.derived.specs.Sizes.{effect, effects, inclusion-effects, responding-effects, completionSize, completion-le, completionsSize, textSize, text-le, length-text, textsSize}
-use Rattle.derived.specs.Parts.{CompletionsIn, textAt, TextsIn, conditionMade, conditionPart, clauseFrom}
+use Rattle.derived.specs.Parts.{completionAt, CompletionsIn, textAt, TextsIn, conditionMade, conditionPart, clauseFrom}
 use Rattle.general.specs.Writing.{Fits, Wrote, wrote-none, wrote-length, then, fits-first, fits-then}
 
 -- ---- one rule
@@ -83,14 +87,51 @@ pub effect-wrote : {room after : List ℕ} (at e raise base f next : ℕ) (b : B
 unfolding effect
 effect-wrote at e raise base f next b p w = rw p at w
 
--- ---- everything on one completion: four runs
+-- ---- a run of rules on the members of a set, word by word
 
-module _ (n e i x r : ℕ) (room : List ℕ) (at : ℕ) where
+-- on the members in word i, where rs and ws are the words of raise and among
+unfoldable pub wordEffects : ℕ → List ℕ → List ℕ → ℕ → ℕ → List Rule
+wordEffects e rs ws base i = effects 64 e (getD rs i 0) (getD ws i 0) (base + i * 64)
+
+module _ (e : ℕ) (rs ws : List ℕ) (base i a b : ℕ) (p : a ≡ getD rs i 0) (q : b ≡ getD ws i 0) where
+  pub word-effects-fit : (room : List ℕ) (at : ℕ) → Fits room at (packed ruleBytes (wordEffects e rs ws base i)) → Fits room at (packed ruleBytes (effects 64 e a b (base + i * 64)))
+  unfolding wordEffects
+  word-effects-fit room at h = rw (p, q) h
+
+  pub word-effects : {room after : List ℕ} (at next : ℕ) → Wrote room at (packed ruleBytes (effects 64 e a b (base + i * 64))) next after
+      → Wrote room at (packed ruleBytes (wordEffects e rs ws base i)) next after
+  unfolding wordEffects
+  word-effects at next w = rw (← p, ← q) w
+
+module _ (n e : ℕ) (raise among : Set) (base : ℕ) (few : n ≤ maxEvents) (p : Words (wordsOf raise)) (q : Words (wordsOf among)) (in-n : within n (number among) ≡ true) where
+  effects-words : effects n e (number raise) (number among) base ≡ flat setWords (wordEffects e (wordsOf raise) (wordsOf among) base)
+  unfolding wordEffects effect
+  effects-words =
+      listed-words (effect e (number raise) base) n among q few in-n
+      ∙ flat-same setWords (λ i. flat 64 (listed (λ f. effect e (number raise) base (i * 64 + f)) (getD (wordsOf among) i 0))) (wordEffects e (wordsOf raise) (wordsOf among) base)
+      (λ i l. flat-same 64 (listed (λ f. effect e (number raise) base (i * 64 + f)) (getD (wordsOf among) i 0))
+      (listed (effect e (getD (wordsOf raise) i 0) (base + i * 64)) (getD (wordsOf among) i 0))
+      (λ f h. let z : base + (i * 64 + f) ≡ base + i * 64 + f = omega arith in rw (has-word raise p i f h, z)))
+
+  pub effects-fit : (room : List ℕ) (at : ℕ) → Fits room at (packed ruleBytes (effects n e (number raise) (number among) base))
+      → Fits room at (packed ruleBytes (flat setWords (wordEffects e (wordsOf raise) (wordsOf among) base)))
+  effects-fit room at h = rw effects-words at h
+
+  pub effects-wrote : {room after : List ℕ} (at next : ℕ) → Wrote room at (packed ruleBytes (flat setWords (wordEffects e (wordsOf raise) (wordsOf among) base))) next after
+      → Wrote room at (packed ruleBytes (effects n e (number raise) (number among) base)) next after
+  effects-wrote at next w = rw effects-words w
+
+-- ---- everything on one completion: four runs, where u is what e includes or excludes and z is nothing
+
+pub changed-within : (n i x u : ℕ) → u ≡ union i x → within n (union i x) ≡ true → within n u ≡ true
+changed-within n i x u pu h = rw pu h
+
+module _ (n e i x r u z : ℕ) (room : List ℕ) (at : ℕ) (pu : u ≡ union i x) (pz : z ≡ 0) where
   abbrev included : List ℕ
-  included = packed ruleBytes (effects n e i (union i x) (2 * n))
+  included = packed ruleBytes (effects n e i u (2 * n))
 
   abbrev responded : List ℕ
-  responded = packed ruleBytes (effects n e 0 r (3 * n))
+  responded = packed ruleBytes (effects n e z r (3 * n))
 
   abbrev answered : List ℕ
   answered = packed ruleBytes (answering n e r)
@@ -107,6 +148,8 @@ module _ (n e i x r : ℕ) (room : List ℕ) (at : ℕ) where
         packed-append ruleBytes (answering n e r),
         inclusion-effects n e i x,
         responding-effects n e r,
+        pu,
+        pz,
       )
 
   module _ (fits : Fits room at (packed ruleBytes (completion n e i x r))) where
@@ -149,6 +192,46 @@ pub stage-fits : (room : List ℕ) (at e : ℕ) → Fits room at (packed ruleByt
 stage-fits room at e h =
     let l : length (packed ruleBytes (stageRules e)) ≡ 20 = length-packed ruleBytes ruleSize length-rule (stageRules e) in
     omega arith
+
+-- ---- e's own sets out of the tables
+
+module _ {n : ℕ} {i x r : List ℕ} (ok : CompletionsIn n i x r) (e : ℕ) {a b d : ℕ} (pa : a ≡ getD i e 0) (pb : b ≡ getD x e 0) (pd : d ≡ getD r e 0) where
+  pub completion-rows : {v : ℕ} → v ≡ completionSize e a b d → v ≡ completionSize e (getD i e 0) (getD x e 0) (getD r e 0)
+  completion-rows p = p ∙ rw (pa, pb, pd)
+
+  pub completion-rows-inclusions : e < n → within n (union a b) ≡ true
+  completion-rows-inclusions h = rw (pa, pb) (ok .inclusions e h)
+
+  pub completion-rows-responses : e < n → within n d ≡ true
+  completion-rows-responses h = rw pd (ok .responses e h)
+
+  pub completion-rows-fit : (room : List ℕ) (at : ℕ) → Fits room at (packed ruleBytes (completionAt n i x r e)) → Fits room at (packed ruleBytes (completion n e a b d))
+  unfolding completionAt
+  completion-rows-fit room at f = rw (pa, pb, pd) f
+
+  pub completion-rows-wrote : {room after : List ℕ} {at next : ℕ} → Wrote room at (packed ruleBytes (completion n e a b d)) next after
+      → Wrote room at (packed ruleBytes (completionAt n i x r e)) next after
+  unfolding completionAt
+  completion-rows-wrote w = rw (← pa, ← pb, ← pd) w
+
+module _ {n : ℕ} {t m : List ℕ} (ok : TextsIn n t m) (e : ℕ) {a b : ℕ} (pa : a ≡ getD t e 0) (pb : b ≡ getD m e 0) where
+  pub text-rows : {v : ℕ} → v ≡ textSize a b → v ≡ textSize (getD t e 0) (getD m e 0)
+  text-rows p = p ∙ rw (pa, pb)
+
+  pub text-rows-conditions : e < n → within n a ≡ true
+  text-rows-conditions h = rw pa (ok .conditions e h)
+
+  pub text-rows-milestones : e < n → within n b ≡ true
+  text-rows-milestones h = rw pb (ok .milestones e h)
+
+  pub text-rows-fit : (room : List ℕ) (at : ℕ) → Fits room at (packed bytes16 (textAt n t m e)) → Fits room at (packed bytes16 (textFor n e a b))
+  unfolding textAt
+  text-rows-fit room at f = rw (pa, pb) f
+
+  pub text-rows-wrote : {room after : List ℕ} {at next : ℕ} → Wrote room at (packed bytes16 (textFor n e a b)) next after
+      → Wrote room at (packed bytes16 (textAt n t m e)) next after
+  unfolding textAt
+  text-rows-wrote w = rw (← pa, ← pb) w
 
 -- ---- sizes, event by event
 
@@ -204,16 +287,51 @@ clause-wrote at a b c d e p q r s t =
 
 -- ---- one clause of a run
 
-pub clause-fits : (room : List ℕ) (at n base f : ℕ) → Fits room at (packed bytes16 (clauseFrom n base f)) → at + 10 ≤ length room
+pub clause-fits : (room : List ℕ) (at i base f : ℕ) → Fits room at (packed bytes16 (clauseFrom i base f)) → at + 10 ≤ length room
 unfolding clauseFrom
-clause-fits room at n base f h =
-    let l : length (packed bytes16 (clauseFrom n base f)) ≡ 10 = length-packed bytes16 wordSize length-bytes16 (clauseFrom n base f) in
+clause-fits room at i base f h =
+    let l : length (packed bytes16 (clauseFrom i base f)) ≡ 10 = length-packed bytes16 wordSize length-bytes16 (clauseFrom i base f) in
     omega arith
 
-pub clause-from : {room after : List ℕ} (at n base f next : ℕ) → Wrote room at (packed bytes16 ((2 * n + f) ∷ (notWord ∷ ((base + f) ∷ (orWord ∷ (andWord ∷ [])))))) next after
-    → Wrote room at (packed bytes16 (clauseFrom n base f)) next after
+pub clause-from : {room after : List ℕ} (at i base f next : ℕ) → Wrote room at (packed bytes16 ((i + f) ∷ (notWord ∷ ((base + f) ∷ (orWord ∷ (andWord ∷ [])))))) next after
+    → Wrote room at (packed bytes16 (clauseFrom i base f)) next after
 unfolding clauseFrom
-clause-from at n base f next w = w
+clause-from at i base f next w = w
+
+-- ---- a run of clauses on the members of a set, word by word
+
+-- on the members in word i, where ws are the words of the set
+unfoldable pub wordClauses : ℕ → ℕ → List ℕ → ℕ → List ℕ
+wordClauses included base ws i = flat 64 (listed (clauseFrom (included + i * 64) (base + i * 64)) (getD ws i 0))
+
+module _ (included base : ℕ) (ws : List ℕ) (i w : ℕ) (p : w ≡ getD ws i 0) where
+  pub word-clauses-fit : (room : List ℕ) (at : ℕ) → Fits room at (packed bytes16 (wordClauses included base ws i))
+      → Fits room at (packed bytes16 (flat 64 (listed (clauseFrom (included + i * 64) (base + i * 64)) w)))
+  unfolding wordClauses
+  word-clauses-fit room at h = rw p h
+
+  pub word-clauses : {room after : List ℕ} (at next : ℕ) → Wrote room at (packed bytes16 (flat 64 (listed (clauseFrom (included + i * 64) (base + i * 64)) w))) next after
+      → Wrote room at (packed bytes16 (wordClauses included base ws i)) next after
+  unfolding wordClauses
+  word-clauses at next v = rw (← p) v
+
+module _ (n included base : ℕ) (set : Set) (few : n ≤ maxEvents) (p : Words (wordsOf set)) (in-n : within n (number set) ≡ true) where
+  clauses-words : flat n (listed (clauseFrom included base) (number set)) ≡ flat setWords (wordClauses included base (wordsOf set))
+  unfolding wordClauses clauseFrom
+  clauses-words =
+      listed-words (clauseFrom included base) n set p few in-n
+      ∙ flat-same setWords (λ i. flat 64 (listed (λ f. clauseFrom included base (i * 64 + f)) (getD (wordsOf set) i 0))) (wordClauses included base (wordsOf set))
+      (λ i l. flat-same 64 (listed (λ f. clauseFrom included base (i * 64 + f)) (getD (wordsOf set) i 0))
+      (listed (clauseFrom (included + i * 64) (base + i * 64)) (getD (wordsOf set) i 0))
+      (λ f h. let y : included + (i * 64 + f) ≡ included + i * 64 + f = omega arith in let z : base + (i * 64 + f) ≡ base + i * 64 + f = omega arith in rw (y, z)))
+
+  pub clauses-fit : (room : List ℕ) (at : ℕ) → Fits room at (packed bytes16 (flat n (listed (clauseFrom included base) (number set))))
+      → Fits room at (packed bytes16 (flat setWords (wordClauses included base (wordsOf set))))
+  clauses-fit room at h = rw clauses-words at h
+
+  pub clauses-wrote : {room after : List ℕ} (at next : ℕ) → Wrote room at (packed bytes16 (flat setWords (wordClauses included base (wordsOf set)))) next after
+      → Wrote room at (packed bytes16 (flat n (listed (clauseFrom included base) (number set)))) next after
+  clauses-wrote at next w = rw clauses-words w
 
 -- ---- one text: the mark included e, and two runs of clauses
 
@@ -222,14 +340,14 @@ module _ (n e c m : ℕ) (room : List ℕ) (at : ℕ) where
   first = bytes16 (2 * n + e)
 
   abbrev held : List ℕ
-  held = packed bytes16 (flat n (listed (clauseFrom n n) c))
+  held = packed bytes16 (flat n (listed (clauseFrom (2 * n) n) c))
 
   abbrev answers : List ℕ
-  answers = packed bytes16 (flat n (listed (clauseFrom n (3 * n)) m))
+  answers = packed bytes16 (flat n (listed (clauseFrom (2 * n) (3 * n)) m))
 
   text-bytes : packed bytes16 (textFor n e c m) ≡ first ++ (held ++ answers)
   unfolding textFor clauseFrom packed
-  text-bytes = ap (λ (l : List ℕ). first ++ l) (packed-append bytes16 (flat n (listed (clauseFrom n n) c)) (flat n (listed (clauseFrom n (3 * n)) m)))
+  text-bytes = ap (λ (l : List ℕ). first ++ l) (packed-append bytes16 (flat n (listed (clauseFrom (2 * n) n) c)) (flat n (listed (clauseFrom (2 * n) (3 * n)) m)))
 
   module _ (fits : Fits room at (packed bytes16 (textFor n e c m))) where
     whole-text : Fits room at (first ++ (held ++ answers))

@@ -13,8 +13,8 @@ use Rattle.general.specs.Below.{tally, tally-le}
 use Rattle.sets.specs.Set.{has, union, only, size, within}
 use Rattle.sets.specs.Laws.{has-union, has-only, has-empty, within-lt, lt-within}
 use Rattle.flat_chart.specs.Chart.{Kind, condition, response, milestone, include, exclude, setOf, Fit}
-use Rattle.flat_chart.specs.declared.FlatChart.{FlatChart}
-use Rattle.general.specs.Lists.{total, total-same, total-le, flat, flat-same, length-flat, length-each}
+use Rattle.flat_chart.specs.Flat.{FlatChart}
+use Rattle.general.specs.Lists.{total, total-same, total-le, total-one, flat, flat-same, length-flat, length-each}
 use Rattle.book.specs.ImageOf.{imageOf, image-length}
 use Rattle.book.specs.declared.Rule.{Rule}
 use Rattle.derived.specs.Derived.{listed, executedMark, answeredMark, on, inclusion, responding, answering, completion, clause, textFor, stageRules, eventRules, derivedRules}
@@ -57,7 +57,7 @@ length-effects n e raise among base = length-listed (effect e raise base) 1 n am
 -- ---- the sizes, for sets within n events
 
 module _ (n e : ℕ) (h : e < n) where
-  own-within : (r : ℕ) → within n r ≡ true → within n (union r (only e)) ≡ true
+  pub own-within : (r : ℕ) → within n r ≡ true → within n (union r (only e)) ≡ true
   own-within r k = lt-within n (union r (only e)) (λ f m.
       either (has r f) (eqb e f) (sym (has-union r (only e) f ∙ rw (has-only e f)) ∙ m) (within-lt n r f k) (λ t. rw (← eqb-true e f t) h))
 
@@ -107,11 +107,6 @@ text-le n c m h k =
 
 -- ---- the whole book, by the tables
 
-total-const : (k b : ℕ) → total k (λ e. b) ≡ b * k
-unfolding total
-total-const zero b = omega arith
-total-const (suc k) b = rw (total-const k b) (omega arith)
-
 unfoldable pub completionsSize : ℕ → List ℕ → List ℕ → List ℕ → ℕ
 completionsSize n i x r = total n (λ e. completionSize e (getD i e 0) (getD x e 0) (getD r e 0))
 
@@ -149,7 +144,7 @@ module _ (c : FlatChart) where
         ∙ rw (
           length-flat n (eventRules c),
           length-flat n stageRules,
-          total-const n 2,
+          total-one n 2,
           total-same n (λ e. length (eventRules c e)) (λ e. completionSize e (setOf c include e) (setOf c exclude e) (setOf c response e))
               (λ e h. length-completion n e h (setOf c include e) (setOf c exclude e) (setOf c response e) (both-within e h) (set-within response e h)),
         )
@@ -170,7 +165,7 @@ module _ (c : FlatChart) where
     unfolding bytesNeeded
     bytes-length = image-length (derivedBook c) ∙ rw (rules-length, conditions-length, words-length)
 
-    -- "64 events need at most 8,384 rules and 41,024 words."
+    -- request (xiv): "131,840 rules", "655,616 words"
     pub rules-most : length (derivedBook c .rules) ≤ maxRules
     unfolding rulesNeeded completionsSize
     rules-most =
@@ -191,7 +186,7 @@ module _ (c : FlatChart) where
         text-le n (setOf c condition e) (setOf c milestone e) (set-within condition e h) (set-within milestone e h) in omega arith) in
         rw words-length (omega arith)
 
-    -- 166,432
+    -- 2,631,712
     pub bytes-most : bytesNeeded ≤ bookHeader + ruleSize * maxRules + conditionSize * maxEvents + wordSize * maxWords
     unfolding bytesNeeded
     bytes-most =

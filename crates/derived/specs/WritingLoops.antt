@@ -5,7 +5,6 @@ use mathlib.Core.Bool.{true}
 use mathlib.Core.List.{List, _++_}
 use native.Mathlib.Omega.{arith}
 use lib.ListN.{length, length-append}
-use Rattle.paper.specs.Limits.{maxEvents}
 use Rattle.general.specs.Cases.{lt-suc}
 use Rattle.sets.specs.Set.{minus, only, lowest, within}
 use Rattle.general.specs.Lists.{flat, flat-step, packed, packed-append}
@@ -26,7 +25,7 @@ module _ {A : Type 0} (f : A → List ℕ) (g : ℕ → List A) (n among : ℕ) 
   pub turn-start : within n among ≡ true → Turn among at room₀
   turn-start h = record { inside = h; left = left-whole room₀ at (run among) }
 
-  module _ (s next : ℕ) (room : List ℕ) (few : n ≤ maxEvents) (inv : Turn s next room) where
+  module _ {w : ℕ} (s next : ℕ) (room : List ℕ) (few : n ≤ w) (inv : Turn s next room) where
     pub turn-length : length room ≡ length room₀
     turn-length = left-length (inv .left)
 
@@ -34,7 +33,7 @@ module _ {A : Type 0} (f : A → List ℕ) (g : ℕ → List A) (n among : ℕ) 
     unfolding packed
     turn-done z = left-none (inv .left) (rw (z, listed-none g n))
 
-    module _ (m : ℕ) (some : s ≡ 0 → ⊥) (low : m ≡ lowest maxEvents s) where
+    module _ (m : ℕ) (some : s ≡ 0 → ⊥) (low : m ≡ lowest w s) where
       pub turn-lt : m < n
       turn-lt = low-lt n s m few (inv .inside) some low
 
@@ -45,10 +44,10 @@ module _ {A : Type 0} (f : A → List ℕ) (g : ℕ → List A) (n among : ℕ) 
       turn-falls o s′ q r = rw (r, q) (low-falls n s m few (inv .inside) some low)
 
       pub turn-more : (o s′ next′ : ℕ) (room′ : List ℕ) → o ≡ only m → s′ ≡ minus s o → Wrote room next (packed f (g m)) next′ room′ → Turn s′ next′ room′
-      turn-more o s′ next′ room′ q r w =
+      turn-more o s′ next′ room′ q r v =
           rw (r, q) (record {
             inside = low-within n s m few (inv .inside) some low;
-            left = left-less (inv .left) (low-first n s m few (inv .inside) some low f g) w;
+            left = left-less (inv .left) (low-first n s m few (inv .inside) some low f g) v;
           })
 
 -- what stands before part k, and part k, lie in the whole

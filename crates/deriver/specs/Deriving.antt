@@ -11,7 +11,7 @@ use Rattle.paper.specs.Limits.{maxEvents, maxRules, unfit, bookRoom}
 use Rattle.paper.specs.Answers.{answer, granted, refusal}
 use Rattle.paper.specs.declared.Answer.{Answer}
 use Rattle.wire.specs.Wire.{bytes16, bytes32, put32}
-use Rattle.flat_chart.specs.declared.FlatChart.{FlatChart}
+use Rattle.flat_chart.specs.Flat.{FlatChart}
 use Rattle.flat_chart.specs.Chart.{Fit}
 use Rattle.flat_chart.specs.Tests.{fitChart}
 use Rattle.flat_chart.specs.Fitness.{tested-fit}

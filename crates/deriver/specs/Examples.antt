@@ -8,8 +8,8 @@ use Rattle.paper.specs.Limits.{andWord, orWord, notWord}
 use Rattle.sets.specs.Set.{has}
 use Rattle.graph.specs.Examples.{none, marking}
 use Rattle.graph.specs.Steps.{openWith, unmetOf, awaitedOf, afterWith, after}
-use Rattle.flat_chart.specs.declared.FlatChart.{FlatChart}
-use Rattle.graph.specs.declared.Marking.{Marking}
+use Rattle.flat_chart.specs.Flat.{FlatChart}
+use Rattle.graph.specs.Flat.{Marking}
 use Rattle.book.specs.Book.{Book}
 use Rattle.general.specs.Lists.{flat}
 use Rattle.derived.specs.Derived.{on, opens, closes, inclusion, responding, answering, completion, textFor, eventRules, derivedRules, derivedText, derivedCondition, derivedBook}

@@ -12,7 +12,7 @@ use Rattle.paper.specs.Answers.{granted}
 use Rattle.general.specs.Cases.{cases, both}
 use Rattle.sets.specs.Set.{has}
 use Rattle.flat_chart.specs.Chart.{condition, response, milestone, include, exclude, setOf, Fit}
-use Rattle.flat_chart.specs.declared.FlatChart.{FlatChart}
+use Rattle.flat_chart.specs.Flat.{FlatChart}
 use Rattle.book.specs.Text.{Snap, push, eval}
 use Rattle.book.specs.GoodTexts.{GoodText, depthAfter, follows, goodFrom, good, good-text, length-push}
 use Rattle.book.specs.Book.{conditionOf, noCondition, textOf}

@@ -18,8 +18,8 @@ use Rattle.sets.specs.Laws.{has-minus, has-all, has-collect}
 use Rattle.graph.specs.Fitness.{fit}
 use Rattle.graph.specs.Fitness.{fit-both}
 use Rattle.graph.specs.Steps.{isOpen, openAmong}
-use Rattle.flat_chart.specs.declared.FlatChart.{FlatChart}
-use Rattle.graph.specs.declared.Marking.{Marking}
+use Rattle.flat_chart.specs.Flat.{FlatChart}
+use Rattle.graph.specs.Flat.{Marking}
 use Rattle.book.specs.Text.{Snap, snapOf}
 use Rattle.general.specs.Lists.{flat-step, flat-same, each, length-each, getD-each}
 use Rattle.deriver.specs.declared.Matched.{Matched}

@@ -3,7 +3,10 @@ ghost use mathlib.Core.Path.{_≡_};
 ghost use Prim.Native.Nat.{_*_, _≤_};
 ghost use lib.ListN.{length};
 ghost use Rattle.paper.specs.Limits.{maxEvents, maxRules, maxConditions, bookHeader};
+ghost use Rattle.wide.specs.Number.{rowsOf};
 ghost use Rattle.flat_chart.specs.Chart.{chartOf};
+ghost use Rattle.flat_chart.specs.Numbers.{flatOf};
+ghost use Rattle.graph.specs.Numbers.{marksOf};
 ghost use Rattle.book.specs.ImageOf.{headerBytes};
 ghost use Rattle.general.specs.Writing.{Wrote};
 ghost use Rattle.deriver.specs.Deriving.{derivingAnswer, derivedRoom, bookRuns, BookReady};
@@ -27,6 +30,7 @@ use paper::MAX_EVENTS;
 use paper::RULE_SIZE;
 use paper::UNFIT;
 use paper::WORD_SIZE;
+use wide::TABLE;
 
 pub mod marks;
 
@@ -76,14 +80,14 @@ fn put_book<'a>(
     n: u32,
     rules: u32,
     words: u32,
-    conditions: &'a [u64; MAX_EVENTS],
-    responses: &'a [u64; MAX_EVENTS],
-    milestones: &'a [u64; MAX_EVENTS],
-    includes: &'a [u64; MAX_EVENTS],
-    excludes: &'a [u64; MAX_EVENTS],
+    conditions: &'a [u64; TABLE],
+    responses: &'a [u64; TABLE],
+    milestones: &'a [u64; TABLE],
+    includes: &'a [u64; TABLE],
+    excludes: &'a [u64; TABLE],
 ) -> usize
-    requires { ⌜ BookReady n rules words (now conditions) (now responses) (now milestones) (now includes) (now excludes) (now room) ⌝ }
-    ensures { λ r. ⌜ Wrote (now (room .entry)) 0 (bookRuns n rules words (now (conditions .entry)) (now (responses .entry)) (now (milestones .entry)) (now (includes .entry)) (now (excludes .entry))) r (now (room .exit)) ⌝ }
+    requires { ⌜ BookReady n rules words (rowsOf (now conditions)) (rowsOf (now responses)) (rowsOf (now milestones)) (rowsOf (now includes)) (rowsOf (now excludes)) (now room) ⌝ }
+    ensures { λ r. ⌜ Wrote (now (room .entry)) 0 (bookRuns n rules words (rowsOf (now (conditions .entry))) (rowsOf (now (responses .entry))) (rowsOf (now (milestones .entry))) (rowsOf (now (includes .entry))) (rowsOf (now (excludes .entry)))) r (now (room .exit)) ⌝ }
 {
     let a = put_header(room, n, rules, words);
     let n = n as usize;
@@ -96,15 +100,15 @@ fn put_book<'a>(
 // Deriving over lent tables: what `derive` does, with no copy of the chart.
 pub fn derive_in<'a>(
     count: u32,
-    conditions: &'a [u64; MAX_EVENTS],
-    responses: &'a [u64; MAX_EVENTS],
-    milestones: &'a [u64; MAX_EVENTS],
-    includes: &'a [u64; MAX_EVENTS],
-    excludes: &'a [u64; MAX_EVENTS],
+    conditions: &'a [u64; TABLE],
+    responses: &'a [u64; TABLE],
+    milestones: &'a [u64; TABLE],
+    includes: &'a [u64; TABLE],
+    excludes: &'a [u64; TABLE],
     roles: &'a [u8; MAX_EVENTS],
     room: &mut [u8],
 ) -> Answer
-    ensures { λ r. ⌜ (r ≡ derivingAnswer (chartOf count (now (conditions .entry)) (now (responses .entry)) (now (milestones .entry)) (now (includes .entry)) (now (excludes .entry)) (now (roles .entry))) (length (now (room .entry)))) × (now (room .exit) ≡ derivedRoom (chartOf count (now (conditions .entry)) (now (responses .entry)) (now (milestones .entry)) (now (includes .entry)) (now (excludes .entry)) (now (roles .entry))) (now (room .entry))) ⌝ }
+    ensures { λ r. ⌜ (r ≡ derivingAnswer (chartOf count (rowsOf (now (conditions .entry))) (rowsOf (now (responses .entry))) (rowsOf (now (milestones .entry))) (rowsOf (now (includes .entry))) (rowsOf (now (excludes .entry))) (now (roles .entry))) (length (now (room .entry)))) × (now (room .exit) ≡ derivedRoom (chartOf count (rowsOf (now (conditions .entry))) (rowsOf (now (responses .entry))) (rowsOf (now (milestones .entry))) (rowsOf (now (includes .entry))) (rowsOf (now (excludes .entry))) (now (roles .entry))) (now (room .entry))) ⌝ }
 {
     if !flat_chart::tables_fit(
         count,
@@ -140,7 +144,7 @@ pub fn derive_in<'a>(
 
 // Writes the derived book of a fit chart into the room, or refuses and writes nothing.
 pub fn derive(chart: FlatChart, room: &mut [u8]) -> Answer
-    ensures { λ r. ⌜ (r ≡ derivingAnswer chart (length (now (room .entry)))) × (now (room .exit) ≡ derivedRoom chart (now (room .entry))) ⌝ }
+    ensures { λ r. ⌜ (r ≡ derivingAnswer (flatOf chart) (length (now (room .entry)))) × (now (room .exit) ≡ derivedRoom (flatOf chart) (now (room .entry))) ⌝ }
 {
     derive_in(
         chart.count,
@@ -156,7 +160,7 @@ pub fn derive(chart: FlatChart, room: &mut [u8]) -> Answer
 
 // The snapshot that matches a marking of the chart.
 pub fn matching(chart: FlatChart, marking: Marking) -> Matched
-    ensures { λ r. ⌜ r ≡ matchingOf chart marking ⌝ }
+    ensures { λ r. ⌜ r ≡ matchingOf (flatOf chart) (marksOf marking) ⌝ }
 {
     marks::matching_in(
         marking,

@@ -4,7 +4,9 @@ ghost use Prim.Native.Nat.{_+_, _≤_};
 ghost use lib.Seq.{sets};
 ghost use Rattle.paper.specs.Limits.{maxMarks};
 ghost use Rattle.sets.specs.Set.{has};
+ghost use Rattle.wide.specs.Number.{number, rowsOf};
 ghost use Rattle.flat_chart.specs.Chart.{chartOf};
+ghost use Rattle.graph.specs.Numbers.{marksOf};
 ghost use Rattle.general.specs.Lists.{each};
 ghost use Rattle.deriver.specs.Matching.{matchingOf};
 use crate::Matched;
@@ -12,15 +14,17 @@ use book::Snapshot;
 use graph::Marking;
 use paper::MAX_EVENTS;
 use paper::MAX_MARKS;
+use wide::Set;
+use wide::TABLE;
 
 // The n marks from a place on say which of the first n events are in the set.
-fn put_marks(marks: &mut [bool; MAX_MARKS], at: usize, n: usize, set: u64)
+fn put_marks(marks: &mut [bool; MAX_MARKS], at: usize, n: usize, set: Set)
     requires { ⌜ at + n ≤ maxMarks ⌝ }
-    ensures { λ _. ⌜ now (marks .exit) ≡ sets (now (marks .entry)) at (each n (has set)) ⌝ }
+    ensures { λ _. ⌜ now (marks .exit) ≡ sets (now (marks .entry)) at (each n (has (number set))) ⌝ }
 {
     let mut e = 0;
     while e < n {
-        marks[at + e] = sets::member(set, e);
+        marks[at + e] = wide::member(set, e);
         e += 1;
     }
 }
@@ -29,14 +33,14 @@ fn put_marks(marks: &mut [bool; MAX_MARKS], at: usize, n: usize, set: u64)
 pub fn matching_in<'a>(
     marking: Marking,
     count: u32,
-    conditions: &'a [u64; MAX_EVENTS],
-    responses: &'a [u64; MAX_EVENTS],
-    milestones: &'a [u64; MAX_EVENTS],
-    includes: &'a [u64; MAX_EVENTS],
-    excludes: &'a [u64; MAX_EVENTS],
+    conditions: &'a [u64; TABLE],
+    responses: &'a [u64; TABLE],
+    milestones: &'a [u64; TABLE],
+    includes: &'a [u64; TABLE],
+    excludes: &'a [u64; TABLE],
     roles: &'a [u8; MAX_EVENTS],
 ) -> Matched
-    ensures { λ r. ⌜ r ≡ matchingOf (chartOf count (now (conditions .entry)) (now (responses .entry)) (now (milestones .entry)) (now (includes .entry)) (now (excludes .entry)) (now (roles .entry))) marking ⌝ }
+    ensures { λ r. ⌜ r ≡ matchingOf (chartOf count (rowsOf (now (conditions .entry))) (rowsOf (now (responses .entry))) (rowsOf (now (milestones .entry))) (rowsOf (now (includes .entry))) (rowsOf (now (excludes .entry))) (now (roles .entry))) (marksOf marking) ⌝ }
 {
     let mut marks = [false; MAX_MARKS];
     if !marking.fits(
@@ -66,7 +70,7 @@ pub fn matching_in<'a>(
         &mut marks,
         3 * n,
         n,
-        sets::less(sets::all_below(n), marking.pending),
+        wide::less(wide::all_below(n), marking.pending),
     );
     Matched {
         answer: paper::granted(),

@@ -4,8 +4,9 @@ ghost use mathlib.Core.Bool.{true};
 ghost use mathlib.Core.List.{[], _∷_};
 ghost use Prim.Native.Nat.{_+_, _*_, _<_, _≤_};
 ghost use lib.ListN.{length};
-ghost use Rattle.paper.specs.Limits.{maxEvents, maxRules, ruleSize};
+ghost use Rattle.paper.specs.Limits.{maxEvents, maxMarks, maxRules, ruleSize};
 ghost use Rattle.sets.specs.Set.{union, within};
+ghost use Rattle.wide.specs.Number.{number, rowsOf};
 ghost use Rattle.general.specs.Lists.{flat, packed};
 ghost use Rattle.book.specs.ImageOf.{effectByte, ruleRecord, ruleBytes};
 ghost use Rattle.derived.specs.Derived.{on, answering, completion, stageRules};
@@ -25,8 +26,10 @@ use book::rules::SPARE_AT;
 use book::rules::TARGET_AT;
 use book::rules::TRIGGER_COMPLETED;
 use book::rules::TRIGGER_NONE;
-use paper::MAX_EVENTS;
 use paper::RULE_SIZE;
+use wide::SET_WORDS;
+use wide::Set;
+use wide::TABLE;
 
 fn flag(b: bool) -> u8
     ensures { λ r. ⌜ r ≡ effectByte b ⌝ }
@@ -78,18 +81,10 @@ pub fn put_on(room: &mut [u8], at: usize, e: usize, effect: bool, mark: usize) -
     )
 }
 
-// On completion of e, for each f of among, rising: set the mark base + f where f is in raise, and else clear it.
-fn put_effects(
-    room: &mut [u8],
-    at: usize,
-    n: usize,
-    e: usize,
-    raise: u64,
-    among: u64,
-    base: usize,
-) -> usize
-    requires { ⌜ (n ≤ maxEvents) × (e < n) × (base ≤ 3 * maxEvents) × (within n among ≡ true) × Fits (now room) at (packed ruleBytes (effects n e raise among base)) ⌝ }
-    ensures { λ r. ⌜ Wrote (now (room .entry)) at (packed ruleBytes (effects n e raise among base)) r (now (room .exit)) ⌝ }
+// On completion of e, for each f of one word, rising: set the mark base + f where f is in raise, and else clear it.
+fn put_word(room: &mut [u8], at: usize, e: usize, raise: u64, among: u64, base: usize) -> usize
+    requires { ⌜ (e < maxEvents) × (base ≤ maxMarks) × Fits (now room) at (packed ruleBytes (effects 64 e raise among base)) ⌝ }
+    ensures { λ r. ⌜ Wrote (now (room .entry)) at (packed ruleBytes (effects 64 e raise among base)) r (now (room .exit)) ⌝ }
 {
     let mut rest = among;
     let mut next = at;
@@ -101,12 +96,41 @@ fn put_effects(
     next
 }
 
-// Set answered e, unless e is its own response.
-fn put_answer(room: &mut [u8], at: usize, n: usize, e: usize, responses: u64) -> usize
-    requires { ⌜ (n ≤ maxEvents) × (e < n) × Fits (now room) at (packed ruleBytes (answering n e responses)) ⌝ }
-    ensures { λ r. ⌜ Wrote (now (room .entry)) at (packed ruleBytes (answering n e responses)) r (now (room .exit)) ⌝ }
+// The same for each f of a set, word by word.
+fn put_effects(
+    room: &mut [u8],
+    at: usize,
+    n: usize,
+    e: usize,
+    raise: Set,
+    among: Set,
+    base: usize,
+) -> usize
+    requires { ⌜ (n ≤ maxEvents) × (e < n) × (base ≤ 3 * maxEvents) × (within n (number among) ≡ true) × Fits (now room) at (packed ruleBytes (effects n e (number raise) (number among) base)) ⌝ }
+    ensures { λ r. ⌜ Wrote (now (room .entry)) at (packed ruleBytes (effects n e (number raise) (number among) base)) r (now (room .exit)) ⌝ }
 {
-    if sets::member(responses, e) {
+    let mut next = at;
+    let mut i = 0;
+    while i < SET_WORDS {
+        next = put_word(
+            room,
+            next,
+            e,
+            wide::word(raise, i),
+            wide::word(among, i),
+            base + i * 64,
+        );
+        i += 1;
+    }
+    next
+}
+
+// Set answered e, unless e is its own response.
+fn put_answer(room: &mut [u8], at: usize, n: usize, e: usize, responses: Set) -> usize
+    requires { ⌜ (n ≤ maxEvents) × (e < n) × Fits (now room) at (packed ruleBytes (answering n e (number responses))) ⌝ }
+    ensures { λ r. ⌜ Wrote (now (room .entry)) at (packed ruleBytes (answering n e (number responses))) r (now (room .exit)) ⌝ }
+{
+    if wide::member(responses, e) {
         return at;
     }
     put_on(room, at, e, true, 3 * n + e)
@@ -118,15 +142,17 @@ pub fn put_completion(
     at: usize,
     n: usize,
     e: usize,
-    includes: u64,
-    excludes: u64,
-    responses: u64,
+    includes: Set,
+    excludes: Set,
+    responses: Set,
 ) -> usize
-    requires { ⌜ (n ≤ maxEvents) × (e < n) × (within n (union includes excludes) ≡ true) × (within n responses ≡ true) × Fits (now room) at (packed ruleBytes (completion n e includes excludes responses)) ⌝ }
-    ensures { λ r. ⌜ Wrote (now (room .entry)) at (packed ruleBytes (completion n e includes excludes responses)) r (now (room .exit)) ⌝ }
+    requires { ⌜ (n ≤ maxEvents) × (e < n) × (within n (union (number includes) (number excludes)) ≡ true) × (within n (number responses) ≡ true) × Fits (now room) at (packed ruleBytes (completion n e (number includes) (number excludes) (number responses))) ⌝ }
+    ensures { λ r. ⌜ Wrote (now (room .entry)) at (packed ruleBytes (completion n e (number includes) (number excludes) (number responses))) r (now (room .exit)) ⌝ }
 {
-    let a = put_effects(room, at, n, e, includes, includes | excludes, 2 * n);
-    let b = put_effects(room, a, n, e, 0, responses, 3 * n);
+    let changed = wide::join(includes, excludes);
+    let none = wide::empty();
+    let a = put_effects(room, at, n, e, includes, changed, 2 * n);
+    let b = put_effects(room, a, n, e, none, responses, 3 * n);
     let c = put_answer(room, b, n, e, responses);
     put_on(room, c, e, true, n + e)
 }
@@ -135,17 +161,25 @@ pub fn put_completions<'a>(
     room: &mut [u8],
     at: usize,
     n: usize,
-    includes: &'a [u64; MAX_EVENTS],
-    excludes: &'a [u64; MAX_EVENTS],
-    responses: &'a [u64; MAX_EVENTS],
+    includes: &'a [u64; TABLE],
+    excludes: &'a [u64; TABLE],
+    responses: &'a [u64; TABLE],
 ) -> usize
-    requires { ⌜ (n ≤ maxEvents) × CompletionsIn n (now includes) (now excludes) (now responses) × Fits (now room) at (packed ruleBytes (flat n (completionAt n (now includes) (now excludes) (now responses)))) ⌝ }
-    ensures { λ r. ⌜ Wrote (now (room .entry)) at (packed ruleBytes (flat n (completionAt n (now (includes .entry)) (now (excludes .entry)) (now (responses .entry))))) r (now (room .exit)) ⌝ }
+    requires { ⌜ (n ≤ maxEvents) × CompletionsIn n (rowsOf (now includes)) (rowsOf (now excludes)) (rowsOf (now responses)) × Fits (now room) at (packed ruleBytes (flat n (completionAt n (rowsOf (now includes)) (rowsOf (now excludes)) (rowsOf (now responses))))) ⌝ }
+    ensures { λ r. ⌜ Wrote (now (room .entry)) at (packed ruleBytes (flat n (completionAt n (rowsOf (now (includes .entry))) (rowsOf (now (excludes .entry))) (rowsOf (now (responses .entry)))))) r (now (room .exit)) ⌝ }
 {
     let mut next = at;
     let mut e = 0;
     while e < n {
-        next = put_completion(room, next, n, e, includes[e], excludes[e], responses[e]);
+        next = put_completion(
+            room,
+            next,
+            n,
+            e,
+            wide::row(includes, e),
+            wide::row(excludes, e),
+            wide::row(responses, e),
+        );
         e += 1;
     }
     next
@@ -176,27 +210,33 @@ pub fn put_stages(room: &mut [u8], at: usize, n: usize) -> usize
 }
 
 // How many rules the completion of e has: e and its responses together are the events whose answer changes.
-fn completion_size(e: usize, includes: u64, excludes: u64, responses: u64) -> usize
+fn completion_size(e: usize, includes: Set, excludes: Set, responses: Set) -> usize
     requires { ⌜ e < maxEvents ⌝ }
-    ensures { λ r. ⌜ r ≡ completionSize e includes excludes responses ⌝ }
+    ensures { λ r. ⌜ r ≡ completionSize e (number includes) (number excludes) (number responses) ⌝ }
 {
-    let answers = sets::join(responses, sets::one(e));
-    sets::count(includes | excludes) as usize + sets::count(answers) as usize + 1
+    let changed = wide::join(includes, excludes);
+    let answers = wide::join(responses, wide::one(e));
+    wide::count(changed) as usize + wide::count(answers) as usize + 1
 }
 
 pub fn completions_size<'a>(
     n: usize,
-    includes: &'a [u64; MAX_EVENTS],
-    excludes: &'a [u64; MAX_EVENTS],
-    responses: &'a [u64; MAX_EVENTS],
+    includes: &'a [u64; TABLE],
+    excludes: &'a [u64; TABLE],
+    responses: &'a [u64; TABLE],
 ) -> usize
-    requires { ⌜ (n ≤ maxEvents) × CompletionsIn n (now includes) (now excludes) (now responses) ⌝ }
-    ensures { λ r. ⌜ (r ≡ completionsSize n (now (includes .entry)) (now (excludes .entry)) (now (responses .entry))) × (r + 2 * maxEvents ≤ maxRules) ⌝ }
+    requires { ⌜ (n ≤ maxEvents) × CompletionsIn n (rowsOf (now includes)) (rowsOf (now excludes)) (rowsOf (now responses)) ⌝ }
+    ensures { λ r. ⌜ (r ≡ completionsSize n (rowsOf (now (includes .entry))) (rowsOf (now (excludes .entry))) (rowsOf (now (responses .entry)))) × (r + 2 * maxEvents ≤ maxRules) ⌝ }
 {
     let mut sum: usize = 0;
     let mut e = 0;
     while e < n {
-        sum += completion_size(e, includes[e], excludes[e], responses[e]);
+        sum += completion_size(
+            e,
+            wide::row(includes, e),
+            wide::row(excludes, e),
+            wide::row(responses, e),
+        );
         e += 1;
     }
     sum

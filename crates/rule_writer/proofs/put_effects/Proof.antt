@@ -1,18 +1,19 @@
--- `rule_writer::put_effects` meets its contract. The loop takes the lowest member out of the set; what the rest of the set gives is left to write. Assumes nothing.
+-- `rule_writer::put_effects` meets its contract. The loop keeps that the rules on the members in the words passed are written. Assumes nothing.
+use Prim.Native.Nat.{_-_}
 use Rattle.book.specs.ImageOf.{ruleBytes}
-use Rattle.derived.specs.WritingLoops.{Turn, turn-start, turn-length, turn-done, turn-lt, turn-fits, turn-falls, turn-more}
-use Rattle.derived.specs.Sizes.{effect}
-use Rattle.derived.specs.RuleBytes.{effect-fits, effect-wrote}
+use Rattle.wide.specs.Number.{wordsOf, setWords, words}
+use Rattle.derived.specs.WritingLoops.{Upto, upto-start, upto-fits, upto-length, upto-more, upto-done}
+use Rattle.derived.specs.RuleBytes.{wordEffects, word-effects-fit, word-effects, effects-fit, effects-wrote}
 use borrow.Author.Needs.{needs}
 use native.Mathlib.Omega.{arith}
 use Rattle.rule_writer.proofs.put_effects.Statement.{statement}
 use Rattle.rule_writer.proofs.put_effects.Tie as tie
 
 abbrev Inv-loop : tie.InvT-loop
-Inv-loop room₀ at n e raise among base rest₀ next₀ room rest next = Turn ruleBytes (effect e raise base) n among room₀ at rest next room
+Inv-loop room₀ at n e raise among base next₀ i₀ room next i = Upto ruleBytes (wordEffects e (wordsOf raise) (wordsOf among) base) setWords room₀ at i next room
 
 abbrev μ-loop : tie.MeasureT-loop
-μ-loop room₀ at n e raise among base rest₀ next₀ room rest next = rest
+μ-loop room₀ at n e raise among base next₀ i₀ room next i = setWords - i
 
 pub put-effects-spec : {M : Type 1} → statement M
 put-effects-spec =
@@ -20,34 +21,20 @@ put-effects-spec =
     (tie.spec
     Inv-loop
     μ-loop
-    (λ c. search (needs, turn-start))
-    (λ c κs. search needs) (λ c. search needs) (λ c κs. search needs)
-    (λ c. omega (
-      arith,
-      turn-lt _ _ _ _ _ _ _ _ _ (c .before .before .before .before .before .before .pre .0) (c .before .before .before .before .loop .inv) _
-          (c .before .before .before .loop-test .taken) (c .before .before .least .ensures),
-    ))
-    (λ c κs. let l = turn-lt _ _ _ _ _ _ _ _ _ (c .before .before .before .before .before .before .pre .0) (c .before .before .before .before .loop .inv) _
-    (c .before .before .before .loop-test .taken) (c .before .before .least .ensures) in (
+    (λ c. search upto-start)
+    (λ c κs. search needs) (λ c κs. search needs) (λ c. search needs) (λ c. search needs)
+    (λ c κs. (
       omega arith,
       omega arith,
-      effect-fits (c .before .before .before .before .loop .room) _ _ _ _ _
-          (turn-fits _ _ _ _ _ _ _ _ _ (c .before .before .before .before .before .before .pre .0) (c .before .before .before .before .loop .inv) _
-          (c .before .before .before .loop-test .taken) (c .before .before .least .ensures) (c .before .before .before .before .before .before .pre .4)),
+      word-effects-fit _ _ _ _ _ _ _ (c .before .word .ensures) (c .word2 .ensures) (c .before .before .before .before .loop .room) _
+          (upto-fits _ _ _ _ _ _ _ _ (c .before .before .before .before .loop .inv) (c .before .before .before .loop-test .taken)
+          (effects-fit _ _ _ _ _ (c .before .before .before .before .before .before .pre .0) (search (words, needs)) (search (words, needs))
+          (c .before .before .before .before .before .before .pre .3) (c .before .before .before .before .before .before .args .room .now) _ (c .before .before .before .before .before .before .pre .4))),
     ))
-    (λ c κs. omega (
-      arith,
-      turn-lt _ _ _ _ _ _ _ _ _ (c .before .before .before .before .before .before .before .before .before .pre .0)
-          (c .before .before .before .before .before .before .before .loop .inv) _ (c .before .before .before .before .before .before .loop-test .taken)
-          (c .before .before .before .before .before .least .ensures),
-    ))
-    (λ c κs. search needs)
-    (λ c. turn-falls _ _ _ _ _ _ _ _ _ (c .before .before .before .before .before .before .before .before .before .before .before .pre .0)
-    (c .before .before .before .before .before .before .before .before .before .loop .inv) _ (c .before .before .before .before .before .before .before .before .loop-test .taken)
-    (c .before .before .before .before .before .before .before .least .ensures) _ _ (c .before .one .ensures) (c .less .ensures))
-    (λ c. turn-more _ _ _ _ _ _ _ _ _ (c .before .before .before .before .before .before .before .before .before .before .before .pre .0)
-    (c .before .before .before .before .before .before .before .before .before .loop .inv) _ (c .before .before .before .before .before .before .before .before .loop-test .taken)
-    (c .before .before .before .before .before .before .before .least .ensures) _ _ _ _ (c .before .one .ensures) (c .less .ensures)
-    (effect-wrote _ _ _ _ _ _ _ (c .before .before .before .before .before .member .ensures) (c .before .before .before .before .put-on .ensures)))
-    (λ c. turn-length _ _ _ _ _ _ _ _ _ (c .before .before .before .pre .0) (c .before .loop .inv))
-    (λ c. search turn-done))
+    (λ c. search needs) (λ c. search needs)
+    (λ c. let d = c .before .before .before .before .before .before in
+    upto-more _ _ _ _ _ _ _ _ (d .before .loop .inv) _ _ (d .loop-test .taken)
+    (word-effects _ _ _ _ _ _ _ (c .before .before .before .before .word .ensures) (c .before .before .before .word2 .ensures) _ _ (c .before .before .put-word .ensures)))
+    (λ c. upto-length _ _ _ _ _ _ _ _ (c .before .loop .inv))
+    (λ c. effects-wrote _ _ _ _ _ (c .before .before .before .pre .0) (search (words, needs)) (search (words, needs)) (c .before .before .before .pre .3) _ _
+    (upto-done _ _ _ _ _ _ _ _ (c .before .loop .inv) (c .loop-test .left))))

@@ -1,18 +1,19 @@
--- `text_writer::put_clauses` meets its contract. The loop takes the lowest member out of the set; what the rest of the set gives is left to write. Assumes nothing.
-use Rattle.derived.specs.WritingLoops.{Turn, turn-start, turn-length, turn-done, turn-lt, turn-fits, turn-falls, turn-more}
-use Rattle.derived.specs.Parts.{clauseFrom}
-use Rattle.derived.specs.RuleBytes.{clause-fits, clause-from}
+-- `text_writer::put_clauses` meets its contract. The loop keeps that the clauses on the members in the words passed are written. Assumes nothing.
+use Prim.Native.Nat.{_-_, _*_}
 use Rattle.wire.specs.Wire.{bytes16}
+use Rattle.wide.specs.Number.{wordsOf, setWords, words}
+use Rattle.derived.specs.WritingLoops.{Upto, upto-start, upto-fits, upto-length, upto-more, upto-done}
+use Rattle.derived.specs.RuleBytes.{wordClauses, word-clauses-fit, word-clauses, clauses-fit, clauses-wrote}
 use borrow.Author.Needs.{needs}
 use native.Mathlib.Omega.{arith}
 use Rattle.text_writer.proofs.put_clauses.Statement.{statement}
 use Rattle.text_writer.proofs.put_clauses.Tie as tie
 
 abbrev Inv-loop : tie.InvT-loop
-Inv-loop room₀ at n base set rest₀ next₀ room rest next = Turn bytes16 (clauseFrom n base) n set room₀ at rest next room
+Inv-loop room₀ at n base set next₀ i₀ room next i = Upto bytes16 (wordClauses (2 * n) base (wordsOf set)) setWords room₀ at i next room
 
 abbrev μ-loop : tie.MeasureT-loop
-μ-loop room₀ at n base set rest₀ next₀ room rest next = rest
+μ-loop room₀ at n base set next₀ i₀ room next i = setWords - i
 
 pub put-clauses-spec : {M : Type 1} → statement M
 put-clauses-spec =
@@ -20,43 +21,21 @@ put-clauses-spec =
     (tie.spec
     Inv-loop
     μ-loop
-    (λ c. search (needs, turn-start))
-    (λ c κs. search needs) (λ c. search needs) (λ c. search needs)
-    (λ c. omega (
-      arith,
-      turn-lt _ _ _ _ _ _ _ _ _ (c .before .before .before .before .before .pre .0) (c .before .before .before .loop .inv) _ (c .before .before .loop-test .taken)
-          (c .before .least .ensures),
-    ))
-    (λ c. omega (
-      arith,
-      turn-lt _ _ _ _ _ _ _ _ _ (c .before .before .before .before .before .pre .0) (c .before .before .before .loop .inv) _ (c .before .before .loop-test .taken)
-          (c .before .least .ensures),
-    ))
-    (λ c. omega (
-      arith,
-      turn-lt _ _ _ _ _ _ _ _ _ (c .before .before .before .before .before .pre .0) (c .before .before .before .loop .inv) _ (c .before .before .loop-test .taken)
-          (c .before .least .ensures),
-    ))
-    (λ c. omega (
-      arith,
-      turn-lt _ _ _ _ _ _ _ _ _ (c .before .before .before .before .before .pre .0) (c .before .before .before .loop .inv) _ (c .before .before .loop-test .taken)
-          (c .before .least .ensures),
-    ))
-    (λ c κs. clause-fits (c .before .before .before .loop .room) _ _ _ _
-    (turn-fits _ _ _ _ _ _ _ _ _ (c .before .before .before .before .before .pre .0) (c .before .before .before .loop .inv) _ (c .before .before .loop-test .taken)
-    (c .before .least .ensures) (c .before .before .before .before .before .pre .3)))
-    (λ c κs. omega (
-      arith,
-      turn-lt _ _ _ _ _ _ _ _ _ (c .before .before .before .before .before .before .before .before .pre .0) (c .before .before .before .before .before .before .loop .inv) _
-          (c .before .before .before .before .before .loop-test .taken) (c .before .before .before .before .least .ensures),
-    ))
+    (λ c. search upto-start)
+    (λ c. search needs) (λ c. search needs) (λ c. search needs) (λ c. search needs) (λ c. search needs)
     (λ c κs. search needs)
-    (λ c. turn-falls _ _ _ _ _ _ _ _ _ (c .before .before .before .before .before .before .before .before .before .before .pre .0)
-    (c .before .before .before .before .before .before .before .before .loop .inv) _ (c .before .before .before .before .before .before .before .loop-test .taken)
-    (c .before .before .before .before .before .before .least .ensures) _ _ (c .before .one .ensures) (c .less .ensures))
-    (λ c. turn-more _ _ _ _ _ _ _ _ _ (c .before .before .before .before .before .before .before .before .before .before .pre .0)
-    (c .before .before .before .before .before .before .before .before .loop .inv) _ (c .before .before .before .before .before .before .before .loop-test .taken)
-    (c .before .before .before .before .before .before .least .ensures) _ _ _ _ (c .before .one .ensures) (c .less .ensures)
-    (clause-from _ _ _ _ _ (c .before .before .before .before .put-clause .ensures)))
-    (λ c. turn-length _ _ _ _ _ _ _ _ _ (c .before .before .before .pre .0) (c .before .loop .inv))
-    (λ c. search turn-done))
+    (λ c κs. (
+      omega arith,
+      omega arith,
+      word-clauses-fit _ _ _ _ _ (c .word .ensures) (c .before .before .before .loop .room) _
+          (upto-fits _ _ _ _ _ _ _ _ (c .before .before .before .loop .inv) (c .before .before .loop-test .taken)
+          (clauses-fit _ _ _ _ (c .before .before .before .before .before .pre .0) (search (words, needs)) (c .before .before .before .before .before .pre .2)
+          (c .before .before .before .before .before .args .room .now) _ (c .before .before .before .before .before .pre .3))),
+    ))
+    (λ c. search needs) (λ c. search needs)
+    (λ c. let d = c .before .before .before .before .before in
+    upto-more _ _ _ _ _ _ _ _ (d .before .loop .inv) _ _ (d .loop-test .taken)
+    (word-clauses _ _ _ _ _ (c .before .before .before .word .ensures) _ _ (c .before .before .put-word .ensures)))
+    (λ c. upto-length _ _ _ _ _ _ _ _ (c .before .loop .inv))
+    (λ c. clauses-wrote _ _ _ _ (c .before .before .before .pre .0) (search (words, needs)) (c .before .before .before .pre .2) _ _
+    (upto-done _ _ _ _ _ _ _ _ (c .before .loop .inv) (c .loop-test .left))))

@@ -3,6 +3,7 @@ use Prim.Native.Nat.{_-_, _≤_}
 use Rattle.general.specs.Lists.{flat, each}
 use Rattle.deriver.specs.Matching.{marks-more, marks-all}
 use Rattle.sets.specs.Set.{has}
+use Rattle.wide.specs.Number.{number}
 use borrow.Author.Needs.{needs}
 use lib.Seq.{sets}
 use mathlib.Core.Path.{_≡_, refl}
@@ -11,7 +12,7 @@ use Rattle.deriver.proofs.marks.put_marks.Statement.{statement}
 use Rattle.deriver.proofs.marks.put_marks.Tie as tie
 
 abbrev Inv-loop : tie.InvT-loop
-Inv-loop marks₀ at n set e₀ marks e = (e ≤ n) × (marks ≡ sets marks₀ at (each e (has set)))
+Inv-loop marks₀ at n set e₀ marks e = (e ≤ n) × (marks ≡ sets marks₀ at (each e (has (number set))))
 
 abbrev μ-loop : tie.MeasureT-loop
 μ-loop marks₀ at n set e₀ marks e = n - e
