@@ -16,7 +16,7 @@ use Rattle.general.specs.Writing.{Fits, Wrote, wrote-length, wrote-whole}
 use Rattle.wire.specs.Wire.{bytes16, bytes32}
 use Rattle.wire.specs.Laws.{length-bytes16, length-bytes32}
 use Rattle.flat_chart.specs.Chart.{Fit}
-use Rattle.flat_chart.specs.declared.FlatChart.{FlatChart}
+use Rattle.flat_chart.specs.Flat.{FlatChart}
 use Rattle.book.specs.ImageOf.{headerBytes, ruleBytes, conditionBytes, length-rule, length-condition}
 use Rattle.derived.specs.Parts.{completionAt, CompletionsIn, completions-in, textAt, conditionPart, TextsIn, texts-in}
 use Rattle.derived.specs.Derived.{stageRules}

@@ -8,7 +8,7 @@ use Rattle.general.specs.Lists.{flat, packed}
 use Rattle.general.specs.Writing.{Fits}
 use Rattle.wire.specs.Wire.{bytes16}
 use Rattle.flat_chart.specs.Chart.{chartOf}
-use Rattle.flat_chart.specs.declared.FlatChart.{FlatChart}
+use Rattle.flat_chart.specs.Flat.{FlatChart}
 use Rattle.book.specs.ImageOf.{ruleBytes, conditionBytes}
 use Rattle.derived.specs.Derived.{stageRules}
 use Rattle.derived.specs.Parts.{completionAt, CompletionsIn, textAt, conditionPart, TextsIn}

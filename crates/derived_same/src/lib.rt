@@ -7,6 +7,7 @@ ghost use Rattle.general.specs.Comparing.{sameBytes, standsAt};
 ghost use Rattle.general.specs.Lists.{flat, packed};
 ghost use Rattle.general.specs.Writing.{Fits};
 ghost use Rattle.wire.specs.Wire.{bytes16};
+ghost use Rattle.wide.specs.Number.{rowsOf};
 ghost use Rattle.flat_chart.specs.Chart.{Fit};
 ghost use Rattle.book.specs.ImageOf.{ruleBytes, conditionBytes};
 ghost use Rattle.derived.specs.Derived.{stageRules};
@@ -18,6 +19,7 @@ use paper::CONDITION_SIZE;
 use paper::MAX_EVENTS;
 use paper::RULE_SIZE;
 use paper::WORD_SIZE;
+use wide::TABLE;
 
 // Bytes of the longest part: a completion has at most two rules for each event and one more. A text is shorter.
 const PART_ROOM: usize = RULE_SIZE * (2 * MAX_EVENTS + 1);
@@ -39,14 +41,14 @@ fn completions_same<'a>(
     image: &[u8],
     at: usize,
     n: usize,
-    includes: &'a [u64; MAX_EVENTS],
-    excludes: &'a [u64; MAX_EVENTS],
-    responses: &'a [u64; MAX_EVENTS],
+    includes: &'a [u64; TABLE],
+    excludes: &'a [u64; TABLE],
+    responses: &'a [u64; TABLE],
     part: &mut [u8],
 ) -> bool
-    requires { ⌜ (n ≤ maxEvents) × CompletionsIn n (now includes) (now excludes) (now responses) × (length (now part) ≡ partRoom)
-        × Fits (now image) at (packed ruleBytes (flat n (completionAt n (now includes) (now excludes) (now responses)))) ⌝ }
-    ensures { λ r. ⌜ r ≡ standsAt (now (image .entry)) at (packed ruleBytes (flat n (completionAt n (now (includes .entry)) (now (excludes .entry)) (now (responses .entry))))) ⌝ }
+    requires { ⌜ (n ≤ maxEvents) × CompletionsIn n (rowsOf (now includes)) (rowsOf (now excludes)) (rowsOf (now responses)) × (length (now part) ≡ partRoom)
+        × Fits (now image) at (packed ruleBytes (flat n (completionAt n (rowsOf (now includes)) (rowsOf (now excludes)) (rowsOf (now responses))))) ⌝ }
+    ensures { λ r. ⌜ r ≡ standsAt (now (image .entry)) at (packed ruleBytes (flat n (completionAt n (rowsOf (now (includes .entry))) (rowsOf (now (excludes .entry))) (rowsOf (now (responses .entry)))))) ⌝ }
 {
     let mut next = at;
     for event in 0..n {
@@ -55,9 +57,9 @@ fn completions_same<'a>(
             0,
             n,
             event,
-            includes[event],
-            excludes[event],
-            responses[event],
+            wide::row(includes, event),
+            wide::row(excludes, event),
+            wide::row(responses, event),
         );
         if !part_stands(image, next, part, count) {
             return false;
@@ -87,18 +89,18 @@ fn conditions_same<'a>(
     image: &[u8],
     at: usize,
     n: usize,
-    conditions: &'a [u64; MAX_EVENTS],
-    milestones: &'a [u64; MAX_EVENTS],
+    conditions: &'a [u64; TABLE],
+    milestones: &'a [u64; TABLE],
     part: &mut [u8],
 ) -> bool
-    requires { ⌜ (n ≤ maxEvents) × TextsIn n (now conditions) (now milestones) × (length (now part) ≡ partRoom)
-        × Fits (now image) at (packed conditionBytes (flat n (conditionPart n (now conditions) (now milestones)))) ⌝ }
-    ensures { λ r. ⌜ r ≡ standsAt (now (image .entry)) at (packed conditionBytes (flat n (conditionPart n (now (conditions .entry)) (now (milestones .entry))))) ⌝ }
+    requires { ⌜ (n ≤ maxEvents) × TextsIn n (rowsOf (now conditions)) (rowsOf (now milestones)) × (length (now part) ≡ partRoom)
+        × Fits (now image) at (packed conditionBytes (flat n (conditionPart n (rowsOf (now conditions)) (rowsOf (now milestones))))) ⌝ }
+    ensures { λ r. ⌜ r ≡ standsAt (now (image .entry)) at (packed conditionBytes (flat n (conditionPart n (rowsOf (now (conditions .entry))) (rowsOf (now (milestones .entry)))))) ⌝ }
 {
     let mut next = at;
     let mut start: usize = 0;
     for e in 0..n {
-        let size = text_writer::text_size(conditions[e], milestones[e]);
+        let size = text_writer::text_size(wide::row(conditions, e), wide::row(milestones, e));
         let count = text_writer::put_condition(part, 0, start, size);
         if !part_stands(image, next, part, count) {
             return false;
@@ -113,17 +115,24 @@ fn texts_same<'a>(
     image: &[u8],
     at: usize,
     n: usize,
-    conditions: &'a [u64; MAX_EVENTS],
-    milestones: &'a [u64; MAX_EVENTS],
+    conditions: &'a [u64; TABLE],
+    milestones: &'a [u64; TABLE],
     part: &mut [u8],
 ) -> bool
-    requires { ⌜ (n ≤ maxEvents) × TextsIn n (now conditions) (now milestones) × (length (now part) ≡ partRoom)
-        × Fits (now image) at (packed bytes16 (flat n (textAt n (now conditions) (now milestones)))) ⌝ }
-    ensures { λ r. ⌜ r ≡ standsAt (now (image .entry)) at (packed bytes16 (flat n (textAt n (now (conditions .entry)) (now (milestones .entry))))) ⌝ }
+    requires { ⌜ (n ≤ maxEvents) × TextsIn n (rowsOf (now conditions)) (rowsOf (now milestones)) × (length (now part) ≡ partRoom)
+        × Fits (now image) at (packed bytes16 (flat n (textAt n (rowsOf (now conditions)) (rowsOf (now milestones))))) ⌝ }
+    ensures { λ r. ⌜ r ≡ standsAt (now (image .entry)) at (packed bytes16 (flat n (textAt n (rowsOf (now (conditions .entry))) (rowsOf (now (milestones .entry)))))) ⌝ }
 {
     let mut next = at;
     for e in 0..n {
-        let count = text_writer::put_text(part, 0, n, e, conditions[e], milestones[e]);
+        let count = text_writer::put_text(
+            part,
+            0,
+            n,
+            e,
+            wide::row(conditions, e),
+            wide::row(milestones, e),
+        );
         if !part_stands(image, next, part, count) {
             return false;
         }
@@ -137,15 +146,15 @@ fn runs_same<'a>(
     image: &[u8],
     n: usize,
     completions: usize,
-    conditions: &'a [u64; MAX_EVENTS],
-    responses: &'a [u64; MAX_EVENTS],
-    milestones: &'a [u64; MAX_EVENTS],
-    includes: &'a [u64; MAX_EVENTS],
-    excludes: &'a [u64; MAX_EVENTS],
+    conditions: &'a [u64; TABLE],
+    responses: &'a [u64; TABLE],
+    milestones: &'a [u64; TABLE],
+    includes: &'a [u64; TABLE],
+    excludes: &'a [u64; TABLE],
     part: &mut [u8],
 ) -> bool
-    requires { ⌜ RunsReady n completions (now conditions) (now responses) (now milestones) (now includes) (now excludes) (now image) (now part) ⌝ }
-    ensures { λ r. ⌜ r ≡ standsAt (now (image .entry)) bookHeader (runsBehind n (now (conditions .entry)) (now (responses .entry)) (now (milestones .entry)) (now (includes .entry)) (now (excludes .entry))) ⌝ }
+    requires { ⌜ RunsReady n completions (rowsOf (now conditions)) (rowsOf (now responses)) (rowsOf (now milestones)) (rowsOf (now includes)) (rowsOf (now excludes)) (now image) (now part) ⌝ }
+    ensures { λ r. ⌜ r ≡ standsAt (now (image .entry)) bookHeader (runsBehind n (rowsOf (now (conditions .entry))) (rowsOf (now (responses .entry))) (rowsOf (now (milestones .entry))) (rowsOf (now (includes .entry))) (rowsOf (now (excludes .entry)))) ⌝ }
 {
     if !completions_same(image, BOOK_HEADER, n, includes, excludes, responses, part) {
         return false;
@@ -163,18 +172,18 @@ fn runs_same<'a>(
 }
 
 // Whether the image is the derived book of a fit chart, byte for byte and in length: the chart in its tables, without roles, which a book does not carry.
-// Cost: one pass over the tables for the length, and one over the book. Stack: the room for a part, 1.3 KiB.
+// Cost: one pass over the tables for the length, and one over the book. Stack: the room for a part, 5 KiB.
 pub fn derived_same<'a>(
     image: &[u8],
     count: u32,
-    conditions: &'a [u64; MAX_EVENTS],
-    responses: &'a [u64; MAX_EVENTS],
-    milestones: &'a [u64; MAX_EVENTS],
-    includes: &'a [u64; MAX_EVENTS],
-    excludes: &'a [u64; MAX_EVENTS],
+    conditions: &'a [u64; TABLE],
+    responses: &'a [u64; TABLE],
+    milestones: &'a [u64; TABLE],
+    includes: &'a [u64; TABLE],
+    excludes: &'a [u64; TABLE],
 ) -> bool
-    requires { ⌜ Fit (roleless count (now conditions) (now responses) (now milestones) (now includes) (now excludes)) ⌝ }
-    ensures { λ r. ⌜ r ≡ sameBytes (now (image .entry)) (derivedImage (roleless count (now (conditions .entry)) (now (responses .entry)) (now (milestones .entry)) (now (includes .entry)) (now (excludes .entry)))) ⌝ }
+    requires { ⌜ Fit (roleless count (rowsOf (now conditions)) (rowsOf (now responses)) (rowsOf (now milestones)) (rowsOf (now includes)) (rowsOf (now excludes))) ⌝ }
+    ensures { λ r. ⌜ r ≡ sameBytes (now (image .entry)) (derivedImage (roleless count (rowsOf (now (conditions .entry))) (rowsOf (now (responses .entry))) (rowsOf (now (milestones .entry))) (rowsOf (now (includes .entry))) (rowsOf (now (excludes .entry))))) ⌝ }
 {
     let n = count as usize;
     let completions = rule_writer::completions_size(n, includes, excludes, responses);

@@ -17,7 +17,7 @@ use Rattle.sets.specs.Set.{has}
 use Rattle.sets.specs.Laws.{ext, has-collect}
 use Rattle.flat_chart.specs.Chart.{Kind, condition, response, milestone, include, exclude, table, setOf, In, Fit}
 use Rattle.graph.specs.Overruled.{standingAt, standing}
-use Rattle.flat_chart.specs.declared.FlatChart.{FlatChart}
+use Rattle.flat_chart.specs.Flat.{FlatChart}
 use Rattle.book.specs.Book.{noRule, textOf}
 use Rattle.book.specs.declared.Rule.{Rule}
 use Rattle.book.specs.declared.Trigger.{Trigger}

@@ -8,7 +8,7 @@ use Rattle.paper.specs.Limits.{maxEvents}
 use Rattle.general.specs.Below.{some}
 use Rattle.general.specs.Tables.{tabulate}
 use Rattle.sets.specs.Set.{collect}
-use Rattle.flat_chart.specs.declared.FlatChart.{FlatChart}
+use Rattle.flat_chart.specs.Flat.{FlatChart}
 use Rattle.book.specs.Book.{Book, noRule, textOf}
 use Rattle.book.specs.declared.Rule.{Rule}
 use Rattle.book.specs.declared.Trigger.{Trigger}

@@ -274,9 +274,9 @@ pub record TextRead (s : List ℕ) (at count n i x y : ℕ) : Type 0 where
   pub milestones : y ≡ namedUpto answeredMark n (wordsFrom s at count) i
 
 module _ {s : List ℕ} {at count n : ℕ} where
-  pub read-none : TextRead s at count n 0 0 0
-  read-none =
-      record { fits = omega arith; conditions = named-none executedMark n (wordsFrom s at count); milestones = named-none answeredMark n (wordsFrom s at count) }
+  pub read-none : {x y : ℕ} → x ≡ 0 → y ≡ 0 → TextRead s at count n 0 x y
+  read-none p q =
+      record { fits = omega arith; conditions = p ∙ named-none executedMark n (wordsFrom s at count); milestones = q ∙ named-none answeredMark n (wordsFrom s at count) }
 
   pub read-more : {i x y w x′ y′ : ℕ} → TextRead s at count n i x y → i < count → w ≡ u16At s (at + wordSize * i)
       → x′ ≡ noting n n x w true → y′ ≡ noting n (3 * n) y w true → TextRead s at count n (i + 1) x′ y′
@@ -344,15 +344,15 @@ module _ {s : List ℕ} {h : Counts} (o : Opened s h) {e : ℕ} {x y : List ℕ}
   pub text-there : stagesIn s ≤ conditionsIn s → e < h .stages → e < conditionsIn s
   text-there l i = let j : e < stagesIn s = rw (o .counts) at i in omega arith
 
-  pub texts-more : {c m : ℕ} → e < h .stages → c ≡ gatheredConditions (stagesIn s) (textOf (bookOf s) e) → m ≡ gatheredMilestones (stagesIn s) (textOf (bookOf s) e)
-      → TextsRead s (e + 1) (set x e c) (set y e m)
-  texts-more {c} {m} i p q =
+  pub texts-more : {c m : ℕ} {x′ y′ : List ℕ} → e < h .stages → c ≡ gatheredConditions (stagesIn s) (textOf (bookOf s) e) → m ≡ gatheredMilestones (stagesIn s) (textOf (bookOf s) e)
+      → x′ ≡ set x e c → y′ ≡ set y e m → TextsRead s (e + 1) x′ y′
+  texts-more {c} {m} i p q a b =
       let l : h .stages ≤ maxEvents = stages-few o in
       let j : e < stagesIn s = rw (o .counts) at i in
       record {
         fits = omega arith;
-        conditions = rows-more _ e c x (omega arith) (t .conditions) p;
-        milestones = rows-more _ e m y (omega arith) (t .milestones) q;
+        conditions = a ∙ rows-more _ e c x (omega arith) (t .conditions) p;
+        milestones = b ∙ rows-more _ e m y (omega arith) (t .milestones) q;
       }
 
   pub texts-all : h .stages ≤ e

@@ -15,7 +15,7 @@ use Rattle.general.specs.Tables.{length-tabulate}
 use Rattle.flat_chart.specs.Chart.{Fit, chartOf}
 use Rattle.flat_chart.specs.Tests.{fitChart}
 use Rattle.flat_chart.specs.Fitness.{tested-fit}
-use Rattle.flat_chart.specs.declared.FlatChart.{FlatChart}
+use Rattle.flat_chart.specs.Flat.{FlatChart}
 use Rattle.book.specs.Book.{Book}
 use Rattle.book.specs.Image.{stagesIn, rulesIn, conditionsIn, conditionPlace, conditionFrom, bookOf}
 use Rattle.book.specs.ImageOf.{book-of-image}
@@ -32,7 +32,7 @@ use Rattle.derived_same.specs.Same.{roleless}
 use Rattle.gathering.specs.Gathering.{gathered}
 use Rattle.read_back.specs.ReadingBack.{chartBehind, fromChart, readBackAnswer, readingBack}
 use Rattle.read_back.specs.Written.{writtenFor, refusedBack}
-use Rattle.read_back.specs.declared.ReadBack.{ReadBack}
+use Rattle.read_back.specs.Flat.{ReadBack}
 
 -- ---- 20 to 22
 

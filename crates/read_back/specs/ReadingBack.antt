@@ -9,12 +9,12 @@ use Rattle.paper.specs.declared.Answer.{Answer}
 use Rattle.general.specs.Comparing.{sameBytes}
 use Rattle.flat_chart.specs.Chart.{emptyChart}
 use Rattle.flat_chart.specs.Tests.{fitChart}
-use Rattle.flat_chart.specs.declared.FlatChart.{FlatChart}
+use Rattle.flat_chart.specs.Flat.{FlatChart}
 use Rattle.book.specs.Image.{bookOf}
 use Rattle.judge.specs.Checking.{bookAnswer}
 use Rattle.deriver.specs.Deriving.{derivedImage}
 use Rattle.gathering.specs.Gathering.{gathered}
-use Rattle.read_back.specs.declared.ReadBack.{ReadBack}
+use Rattle.read_back.specs.Flat.{ReadBack}
 
 -- the chart that the book's rules and texts say
 abbrev pub chartBehind : List ℕ → FlatChart

@@ -15,7 +15,7 @@ use Rattle.general.specs.Comparing.{sameBytes, same-so, so-same}
 use Rattle.flat_chart.specs.Chart.{Fit, emptyChart}
 use Rattle.flat_chart.specs.Tests.{fitChart}
 use Rattle.flat_chart.specs.Fitness.{tested-fit, fit-tested}
-use Rattle.flat_chart.specs.declared.FlatChart.{FlatChart}
+use Rattle.flat_chart.specs.Flat.{FlatChart}
 use Rattle.book.specs.Image.{rulesIn, bookOf}
 use Rattle.book.specs.ImageOf.{imageOf, book-of-image}
 use Rattle.judge.specs.Checking.{bookAnswer, BookPasses, Checked, passes-granted, book-passes, book-is, is-book}
@@ -24,7 +24,7 @@ use Rattle.deriver.specs.Deriving.{derivedImage}
 use Rattle.gathering.specs.Gathering.{gathered}
 use Rattle.gathering.specs.Behind.{bare, bare-roles, fit-bare, derived-bare, gathered-derived}
 use Rattle.read_back.specs.ReadingBack.{chartBehind, fromChart, readBackAnswer, readingBack}
-use Rattle.read_back.specs.declared.ReadBack.{ReadBack}
+use Rattle.read_back.specs.Flat.{ReadBack}
 
 abbrev pub readBack : Answer → FlatChart → ReadBack
 readBack a c = record { answer = a; chart = c }

@@ -6,9 +6,9 @@ use Rattle.paper.specs.declared.Answer.{Answer}
 use Rattle.general.specs.Comparing.{sameBytes}
 use Rattle.flat_chart.specs.Chart.{emptyChart}
 use Rattle.flat_chart.specs.Tests.{fitChart}
-use Rattle.flat_chart.specs.declared.FlatChart.{FlatChart}
+use Rattle.flat_chart.specs.Flat.{FlatChart}
 use Rattle.deriver.specs.Deriving.{derivedImage}
-use Rattle.read_back.specs.declared.ReadBack.{ReadBack}
+use Rattle.read_back.specs.Flat.{ReadBack}
 
 unfoldable pub writtenFor : FlatChart → List ℕ → Bool
 writtenFor c s = fitChart c && sameBytes s (derivedImage c)

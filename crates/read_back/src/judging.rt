@@ -1,38 +1,37 @@
-// 20 to 26 of a book, judged in arrays by its size.
+// 20 to 26 of a book, judged in arrays of its own.
 ghost use mathlib.Core.Path.{_≡_};
-ghost use Prim.Native.Nat.{_≤_};
-ghost use Rattle.book.specs.Image.{marksIn, conditionsIn};
-ghost use Rattle.book.specs.Judging.{countsOf};
-ghost use Rattle.book.specs.WellFormed.{Headed};
-ghost use Rattle.judge.specs.Head.{smallMarks, smallConditions};
+ghost use Rattle.judge.specs.Head.{Begun};
 ghost use Rattle.judge.specs.Checking.{bookAnswer};
 use book::Counts;
 use book::header::counts_at;
 use judge::image::judge_head;
 use judge::judge_book;
-use judge::sizes::SMALL_REFS;
-use judge::sizes::SMALL_WORK;
-use judge::sizes::WORK;
-use judge::sizes::is_small;
 use paper::Answer;
-use rule_order::references::REFS;
+use paper::MAX_CONDITIONS;
+use paper::MAX_MARKS;
+use texts::references::MARK_WORDS;
+use unwritten::written::RULE_WORDS;
 
-fn judge_small(book: &[u8], counts: Counts) -> Answer
-    requires { ⌜ (Headed (now book)) × (counts ≡ countsOf (now book)) × (marksIn (now book) ≤ smallMarks) × (conditionsIn (now book) ≤ smallConditions) ⌝ }
+fn judge_begun(book: &[u8], counts: Counts) -> Answer
+    requires { ⌜ Begun (now book) counts ⌝ }
     ensures { λ r. ⌜ r ≡ bookAnswer (now (book .entry)) ⌝ }
 {
-    let mut refs = [0u64; SMALL_REFS];
-    let mut work = [0u64; SMALL_WORK];
-    judge_book(book, counts, &mut refs, &mut work)
-}
-
-fn judge_large(book: &[u8], counts: Counts) -> Answer
-    requires { ⌜ (Headed (now book)) × (counts ≡ countsOf (now book)) ⌝ }
-    ensures { λ r. ⌜ r ≡ bookAnswer (now (book .entry)) ⌝ }
-{
-    let mut refs = [0u64; REFS];
-    let mut work = [0u64; WORK];
-    judge_book(book, counts, &mut refs, &mut work)
+    let mut targeted = [0u32; MAX_MARKS];
+    let mut waits = [0u64; MARK_WORDS];
+    let mut written = [0u64; RULE_WORDS];
+    let mut free = [0u32; MAX_CONDITIONS];
+    let mut reached = [0u64; MAX_MARKS];
+    let mut asked = [0u64; MAX_CONDITIONS];
+    judge_book(
+        book,
+        counts,
+        &mut targeted,
+        &mut waits,
+        &mut written,
+        &mut free,
+        &mut reached,
+        &mut asked,
+    )
 }
 
 pub fn judge_whole(book: &[u8]) -> Answer
@@ -42,9 +41,5 @@ pub fn judge_whole(book: &[u8]) -> Answer
     if judged.code != 0 {
         return judged;
     }
-    let h = counts_at(book);
-    if is_small(h) {
-        return judge_small(book, h);
-    }
-    judge_large(book, h)
+    judge_begun(book, counts_at(book))
 }

@@ -4,7 +4,9 @@ pub mod judging;
 ghost use mathlib.Core.Path.{_≡_};
 ghost use lib.ListN.{replicate};
 ghost use Rattle.paper.specs.Limits.{maxEvents};
+ghost use Rattle.wide.specs.Number.{rowsOf};
 ghost use Rattle.derived_same.specs.Same.{roleless};
+ghost use Rattle.read_back.specs.Numbers.{backOf};
 ghost use Rattle.read_back.specs.ReadingBack.{readingBack};
 ghost use Rattle.read_back.specs.Written.{writtenFor, refusedBack};
 use book::header::counts_at;
@@ -12,6 +14,7 @@ use flat_chart::FlatChart;
 use paper::Answer;
 use paper::MAX_EVENTS;
 use paper::NOT_DERIVED;
+use wide::TABLE;
 
 #[repr(C)]
 pub struct ReadBack {
@@ -23,15 +26,15 @@ pub struct ReadBack {
 fn written_for<'a>(
     book: &[u8],
     count: u32,
-    conditions: &'a [u64; MAX_EVENTS],
-    responses: &'a [u64; MAX_EVENTS],
-    milestones: &'a [u64; MAX_EVENTS],
-    includes: &'a [u64; MAX_EVENTS],
-    excludes: &'a [u64; MAX_EVENTS],
+    conditions: &'a [u64; TABLE],
+    responses: &'a [u64; TABLE],
+    milestones: &'a [u64; TABLE],
+    includes: &'a [u64; TABLE],
+    excludes: &'a [u64; TABLE],
     roles: &'a [u8; MAX_EVENTS],
 ) -> bool
     requires { ⌜ now roles ≡ replicate maxEvents 0 ⌝ }
-    ensures { λ r. ⌜ r ≡ writtenFor (roleless count (now (conditions .entry)) (now (responses .entry)) (now (milestones .entry)) (now (includes .entry)) (now (excludes .entry))) (now (book .entry)) ⌝ }
+    ensures { λ r. ⌜ r ≡ writtenFor (roleless count (rowsOf (now (conditions .entry))) (rowsOf (now (responses .entry))) (rowsOf (now (milestones .entry))) (rowsOf (now (includes .entry))) (rowsOf (now (excludes .entry)))) (now (book .entry)) ⌝ }
 {
     if !flat_chart::tables_fit(
         count,
@@ -56,7 +59,7 @@ fn written_for<'a>(
 }
 
 fn refuse(answer: Answer) -> ReadBack
-    ensures { λ r. ⌜ r ≡ refusedBack answer ⌝ }
+    ensures { λ r. ⌜ backOf r ≡ refusedBack answer ⌝ }
 {
     ReadBack {
         answer,
@@ -66,10 +69,10 @@ fn refuse(answer: Answer) -> ReadBack
 
 // 20 to 26 and 33 with the empty chart, or 0 and the chart for which the deriver writes this book: no roles, and no marking, which a book does not carry.
 // Cost: the passes of `judge::judge_book`, one over the rules and one over the texts that gather the chart, and one over the book that compares it.
-// Stack: 24 KiB, and 25 with the caller's copy: one frame of 21 holds the arrays that the book is judged in, 16, the chart, 2.6, and the room for a
-// part of the book, 1.3; the search for clashes takes 3.
+// Stack: 114 KiB, and 155 with the caller's copy: one frame holds the tables as they are gathered, 40, the chart made of them, 41, and the empty chart of a
+// refusal; the arrays that the book is judged in, 44, are gone by then, and their place is taken again.
 pub fn read_back(book: &[u8]) -> ReadBack
-    ensures { λ r. ⌜ r ≡ readingBack (now (book .entry)) ⌝ }
+    ensures { λ r. ⌜ backOf r ≡ readingBack (now (book .entry)) ⌝ }
 {
     let foreign = paper::refused(NOT_DERIVED, 0, 0);
     let judged = judging::judge_whole(book);

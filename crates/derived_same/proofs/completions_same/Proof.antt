@@ -4,6 +4,8 @@ use mathlib.Core.Path.{sym, _∙_}
 use Rattle.general.specs.Writing.{wrote-length}
 use Rattle.book.specs.ImageOf.{ruleBytes}
 use Rattle.derived.specs.Parts.{completionAt}
+use Rattle.derived.specs.RuleBytes.{completion-rows-inclusions, completion-rows-responses, completion-rows-fit, completion-rows-wrote}
+use Rattle.wide.specs.Number.{rowsOf}
 use Rattle.derived_same.proofs.Comparing.{Parts, parts-first, parts-fits, parts-room, parts-not, parts-more, parts-done, completion-short}
 use native.Mathlib.Omega.{arith}
 use borrow.Author.Needs.{needs}
@@ -11,7 +13,7 @@ use Rattle.derived_same.proofs.completions_same.Statement.{statement}
 use Rattle.derived_same.proofs.completions_same.Tie as tie
 
 abbrev Inv-loop : tie.InvT-loop
-Inv-loop image at n includes excludes responses part₀ next₀ event₀ part next event = Parts ruleBytes (completionAt n includes excludes responses) n image at event next part
+Inv-loop image at n includes excludes responses part₀ next₀ event₀ part next event = Parts ruleBytes (completionAt n (rowsOf includes) (rowsOf excludes) (rowsOf responses)) n image at event next part
 
 abbrev μ-loop : tie.MeasureT-loop
 μ-loop image at n includes excludes responses part₀ next₀ event₀ part next event = n - event
@@ -23,33 +25,44 @@ completions-same-spec =
     Inv-loop
     μ-loop
     (λ c. let p = c .before .before .pre in parts-first _ _ _ _ _ _ (p .2) (λ j h. completion-short _ (p .0) j h _ _ _ (p .1)) (p .3))
-    (λ c. search needs) (λ c. search needs) (λ c. search needs) (λ c. search needs) (λ c. search needs) (λ c. search needs)
-    (λ c κs. let d = c .before .before .before .before in let p = d .before .before .before .before .pre in unfold completionAt in (
+    (λ c κs. search needs) (λ c κs. search needs) (λ c κs. search needs)
+    (λ c κs. let d = c .before .before .before .before in let p = d .before .before .before .before .pre in (
       p .0,
       d .loop-test .taken,
-      p .1 .inclusions _ (d .loop-test .taken),
-      p .1 .responses _ (d .loop-test .taken),
-      parts-fits _ _ _ _ _ _ _ _ (d .before .loop .inv) (d .loop-test .taken),
+      completion-rows-inclusions (p .1) _ (c .before .before .row .ensures) (c .before .row2 .ensures) (c .row3 .ensures) (d .loop-test .taken),
+      completion-rows-responses (p .1) _ (c .before .before .row .ensures) (c .before .row2 .ensures) (c .row3 .ensures) (d .loop-test .taken),
+      completion-rows-fit (p .1) _ (c .before .before .row .ensures) (c .before .row2 .ensures) (c .row3 .ensures) (d .before .loop .part) _ (parts-fits _ _ _ _ _ _ _ _
+          (d .before .loop .inv) (d .loop-test .taken)),
     ))
-    (λ c κs. unfold completionAt in let d = c .before .before .before .before .before .before .before .before in
-    parts-room _ _ _ _ _ _ _ _ (d .before .loop .inv) (d .loop-test .taken) _ _ (c .before .before .before .put-completion .ensures))
+    (λ c κs. let d = c .before .before .before .before .before .before .before .before in
+    let w = completion-rows-wrote (d .before .before .before .before .pre .1) _ (c .before .before .before .before .before .before .row .ensures)
+    (c .before .before .before .before .before .row2 .ensures) (c .before .before .before .before .row3 .ensures) (c .before .before .before .put-completion .ensures) in
+    parts-room _ _ _ _ _ _ _ _ (d .before .loop .inv) (d .loop-test .taken) _ _ w)
     (λ c. let d = c .before .before .before .before .before .before .before .before .before .before .before in
     wrote-length (c .before .before .before .before .before .put-completion .ensures) ∙ d .loop .inv .long ∙ sym (d .before .before .before .pre .2))
-    (λ c. unfold completionAt in let d = c .before .before .before .before .before .before .before .before .before .before in
-    parts-not _ _ _ _ _ _ _ _ (d .before .loop .inv) (d .loop-test .taken) _ _ (c .before .before .before .before .before .put-completion .ensures) _ (c .before
+    (λ c. let d = c .before .before .before .before .before .before .before .before .before .before in
+    let w = completion-rows-wrote (d .before .before .before .before .pre .1) _ (c .before .before .before .before .before .before .before .before .row .ensures)
+    (c .before .before .before .before .before .before .before .row2 .ensures) (c .before .before .before .before .before .before .row3 .ensures)
+    (c .before .before .before .before .before .put-completion .ensures) in
+    parts-not _ _ _ _ _ _ _ _ (d .before .loop .inv) (d .loop-test .taken) _ _ w _ (c .before
     .part-stands .ensures) (c .if1 .taken))
-    (λ c. unfold completionAt in let d = c .before .before .before .before .before .before .before .before .before .before in
+    (λ c. let d = c .before .before .before .before .before .before .before .before .before .before in
+    let w = completion-rows-wrote (d .before .before .before .before .pre .1) _ (c .before .before .before .before .before .before .before .before .row .ensures)
+    (c .before .before .before .before .before .before .before .row2 .ensures) (c .before .before .before .before .before .before .row3 .ensures)
+    (c .before .before .before .before .before .put-completion .ensures) in
     record {
       fits = omega (
         arith,
-        parts-room _ _ _ _ _ _ _ _ (d .before .loop .inv) (d .loop-test .taken) _ _ (c .before .before .before .before .before
-            .put-completion .ensures) .0,
+        parts-room _ _ _ _ _ _ _ _ (d .before .loop .inv) (d .loop-test .taken) _ _ w .0,
         d .before .before .before .before .good,
       );
     })
     (λ c. search needs) (λ c. search needs)
-    (λ c. unfold completionAt in let d = c .before .before .before .before .before .before .before .before .before .before in
-    parts-more _ _ _ _ _ _ _ _ (d .before .loop .inv) (d .loop-test .taken) _ _ (c .before .before .before .before .before .put-completion .ensures) _ (c .before
+    (λ c. let d = c .before .before .before .before .before .before .before .before .before .before in
+    let w = completion-rows-wrote (d .before .before .before .before .pre .1) _ (c .before .before .before .before .before .before .before .before .row .ensures)
+    (c .before .before .before .before .before .before .before .row2 .ensures) (c .before .before .before .before .before .before .row3 .ensures)
+    (c .before .before .before .before .before .put-completion .ensures) in
+    parts-more _ _ _ _ _ _ _ _ (d .before .loop .inv) (d .loop-test .taken) _ _ w _ (c .before
     .part-stands .ensures) (c .if1 .left))
     (λ c. c .before .loop .inv .long ∙ sym (c .before .before .before .before .pre .2))
     (λ c. search parts-done))

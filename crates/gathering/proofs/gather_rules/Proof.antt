@@ -1,5 +1,6 @@
 -- `gathering::gather_rules` meets its contract. Assumes nothing.
 use Prim.Native.Nat.{_-_}
+use Rattle.wide.specs.Number.{rowsOf}
 use Rattle.book.specs.Image.{bookOf}
 use Rattle.gathering.specs.Noting.{RulesTaken, taken-none, stages-few, rule-there, rules-more, rules-all}
 use borrow.Author.Needs.{needs}
@@ -7,7 +8,7 @@ use Rattle.gathering.proofs.gather_rules.Statement.{statement}
 use Rattle.gathering.proofs.gather_rules.Tie as tie
 
 abbrev Inv-loop : tie.InvT-loop
-Inv-loop image counts includes₀ excludes₀ responses₀ n rules k₀ includes excludes responses k = RulesTaken (counts .stages) (bookOf image) k includes excludes responses
+Inv-loop image counts includes₀ excludes₀ responses₀ n rules k₀ includes excludes responses k = RulesTaken (counts .stages) (bookOf image) k (rowsOf includes) (rowsOf excludes) (rowsOf responses)
 
 abbrev μ-loop : tie.MeasureT-loop
 μ-loop image counts includes₀ excludes₀ responses₀ n rules k₀ includes excludes responses k = counts .rules - k

@@ -1,5 +1,5 @@
 -- `read_back::judging::judge_whole` meets its contract. Assumes nothing.
-use Rattle.judge.proofs.Returns.{headed-so, small-so}
+use Rattle.judge.proofs.Returns.{headed-so, begun-so}
 use Rattle.read_back.proofs.Returns.{judged-head}
 use borrow.Author.Needs.{needs}
 use Rattle.read_back.proofs.judging.judge_whole.Statement.{statement}
@@ -12,18 +12,5 @@ judge-whole-spec =
     (λ c κs. search needs)
     (λ c. judged-head _ _ (c .before .before .judge-head .ensures) (c .if1 .taken))
     (λ c κs. headed-so _ _ (c .before .before .judge-head .ensures) (c .if1 .left) .long)
-    (λ c κs. search needs)
-    (λ c κs. let m = small-so _ _ _ (c .before .before .counts-at .ensures) (c .before .is-small .ensures) (c .if2 .taken) in (
-      headed-so _ _ (c .before .before .before .before .before .judge-head .ensures) (c .before .before .before .if1 .left),
-      c .before .before .counts-at .ensures,
-      m
-          .0,
-      m .1,
-    ))
-    (λ c. search needs)
-    (λ c κs. (
-      headed-so _ _ (c .before .before .before .before .before .judge-head .ensures) (c .before .before .before .if1 .left),
-      c .before .before .counts-at
-          .ensures,
-    ))
+    (λ c κs. begun-so _ _ (c .before .before .before .judge-head .ensures) (c .before .if1 .left) _ (c .counts-at .ensures))
     (λ c. search needs))
