@@ -1,15 +1,16 @@
 -- The paper's chart and a chart of one event: their smaller books, and the paper's table, computed. Assumes nothing.
+use Prim.Native.Nat.{_-_}
 use mathlib.Core.Path.{_≡_, refl}
 use mathlib.Core.Bool.{true, false}
 use mathlib.Core.List.{[], _∷_}
 use lib.ListN.{set, replicate}
-use Rattle.paper.specs.Limits.{orWord, notWord, noMark}
+use Rattle.paper.specs.Limits.{maxMarks, orWord, notWord, noMark}
 use Rattle.sets.specs.Set.{has}
 use Rattle.general.specs.Below.{some, tally}
 use Rattle.general.specs.Lists.{flat, packed}
 use Rattle.graph.specs.Examples.{none, marking}
-use Rattle.flat_chart.specs.declared.FlatChart.{FlatChart}
-use Rattle.graph.specs.declared.Marking.{Marking}
+use Rattle.flat_chart.specs.Flat.{FlatChart}
+use Rattle.graph.specs.Flat.{Marking}
 use Rattle.book.specs.Book.{Book}
 use Rattle.book.specs.declared.Trigger.the-variants.{None}
 use Rattle.book.specs.declared.Sense.the-variants.{NoCondition}
@@ -55,7 +56,7 @@ aloneSmaller =
 
 pub record Examples : Type 0 where
   pub book : smallerBook chart start ≡ paperSmaller
-  pub table : markTable chart start ≡ 0 ∷ (1 ∷ (2 ∷ (noMark ∷ (3 ∷ (noMark ∷ (noMark ∷ (4 ∷ replicate 248 noMark)))))))
+  pub table : markTable chart start ≡ 0 ∷ (1 ∷ (2 ∷ (noMark ∷ (3 ∷ (noMark ∷ (noMark ∷ (4 ∷ replicate (maxMarks - 8) noMark)))))))
   pub bare : smallerBook alone (marking 0 0 1) ≡ aloneSmaller
 
 pub examples : Examples

@@ -14,8 +14,8 @@ use Rattle.general.specs.Below.{tally-le}
 use Rattle.general.specs.Lists.{flat, flat-part, length-each, packed, packed-all, All, all-append, all-flat, all-map}
 use Rattle.sets.specs.Set.{has}
 use Rattle.flat_chart.specs.Chart.{condition, response, milestone, include, exclude, setOf, Fit}
-use Rattle.flat_chart.specs.declared.FlatChart.{FlatChart}
-use Rattle.graph.specs.declared.Marking.{Marking}
+use Rattle.flat_chart.specs.Flat.{FlatChart}
+use Rattle.graph.specs.Flat.{Marking}
 use Rattle.book.specs.Book.{conditionOf, textOf}
 use Rattle.book.specs.GoodTexts.{GoodText, depthAfter, follows, goodFrom, good, good-text}
 use Rattle.book.specs.ImageOf.{imageOf, image-length}

@@ -1,13 +1,25 @@
--- A loop over the events that counts or writes. Assumes nothing.
+-- A loop over the members of a set, and one over the events that counts or writes. Assumes nothing.
 use Prim.Native.Nat.{ℕ, _+_, _≤_, _<_}
-use mathlib.Core.Path.{_≡_}
+use mathlib.Core.Path.{_≡_, sym, _∙_}
+use mathlib.Core.Bool.{Bool, true, false, not}
 use mathlib.Core.List.{List}
 use native.Mathlib.Omega.{arith}
+use lib.Dec.{eqb}
 use lib.ListN.{length}
+use borrow.Author.Tests.{eqb-true, eqb-false, not-true, not-false}
 use Rattle.general.specs.Lists.{flat, flat-step, packed, packed-append}
 use Rattle.general.specs.Writing.{Ran, ran-none, ran-then}
 use Rattle.derived.specs.WritingLoops.{packed-part}
 use Rattle.smaller.specs.Runs.{Under}
+
+-- ---- a loop over the members of a set, while the test says that it is not empty
+
+module _ (s : ℕ) (r : Bool) (p : r ≡ eqb s 0) where
+  pub rest-some : not r ≡ true → s ≡ 0 → ⊥
+  rest-some t = eqb-false s 0 (sym p ∙ not-true r t)
+
+  pub rest-none : not r ≡ false → s ≡ 0
+  rest-none t = eqb-true s 0 (sym p ∙ not-false r t)
 
 -- ---- a loop over the numbers below n: the parts of those passed are run
 

@@ -11,8 +11,8 @@ use Rattle.paper.specs.Limits.{maxEvents, maxMarks, noMark}
 use Rattle.general.specs.Cases.{contra, cases, both, not-so, lt-suc}
 use Rattle.general.specs.Below.{first, first-found, tally, tally-le, tally-all}
 use Rattle.general.specs.Lists.{length-each, getD-each}
-use Rattle.flat_chart.specs.declared.FlatChart.{FlatChart}
-use Rattle.graph.specs.declared.Marking.{Marking}
+use Rattle.flat_chart.specs.Flat.{FlatChart}
+use Rattle.graph.specs.Flat.{Marking}
 use Rattle.derived.specs.Derived.{executedMark, includedMark, answeredMark}
 use Rattle.smaller.specs.Staying.{executedStays, includedStays, answeredStays, stays, newMark, smallerMarks, markTable}
 

@@ -9,8 +9,8 @@ use lib.Seq.{getD-at}
 use Rattle.general.specs.Cases.{cases, lt-suc}
 use Rattle.general.specs.Below.{tally}
 use Rattle.general.specs.Lists.{flat, cut-flat}
-use Rattle.flat_chart.specs.declared.FlatChart.{FlatChart}
-use Rattle.graph.specs.declared.Marking.{Marking}
+use Rattle.flat_chart.specs.Flat.{FlatChart}
+use Rattle.graph.specs.Flat.{Marking}
 use Rattle.book.specs.Book.{noCondition, conditionOf, textOf}
 use Rattle.smaller.specs.Numbering.{tally-rises}
 use Rattle.smaller.specs.Smaller.{smallerText, hasText, newCondition, smallerCondition, smallerBook}

@@ -7,8 +7,8 @@ use lib.Dec.{eqb}
 use Rattle.general.specs.Below.{tally}
 use Rattle.general.specs.Lists.{flat, packed}
 use Rattle.flat_chart.specs.Chart.{condition, milestone, setOf}
-use Rattle.flat_chart.specs.declared.FlatChart.{FlatChart}
-use Rattle.graph.specs.declared.Marking.{Marking}
+use Rattle.flat_chart.specs.Flat.{FlatChart}
+use Rattle.graph.specs.Flat.{Marking}
 use Rattle.book.specs.Book.{Book, Condition}
 use Rattle.book.specs.declared.Rule.{Rule}
 use Rattle.book.specs.declared.Sense.{Sense}

@@ -11,8 +11,8 @@ use Rattle.general.specs.Below.{some, some-of, some-at, tally}
 use Rattle.general.specs.Lists.{each}
 use Rattle.sets.specs.Set.{has}
 use Rattle.flat_chart.specs.Chart.{Kind, condition, response, include, exclude, setOf, In}
-use Rattle.flat_chart.specs.declared.FlatChart.{FlatChart}
-use Rattle.graph.specs.declared.Marking.{Marking}
+use Rattle.flat_chart.specs.Flat.{FlatChart}
+use Rattle.graph.specs.Flat.{Marking}
 
 module _ (c : FlatChart) (m : Marking) where
   -- e is in the set of this kind of some event
@@ -91,6 +91,6 @@ module _ (c : FlatChart) (m : Marking) where
   unfoldable pub smallerMarks : ℕ
   smallerMarks = tally (4 * c .count) stays
 
-  -- "a handed-back table of 256 new mark numbers, 65,535 for a dropped or absent mark"
+  -- "a handed-back table of .. new mark numbers, 65,535 for a dropped or absent mark"; "The mark table of (xi) gets 1,024 places." (request xiv)
   unfoldable pub markTable : List ℕ
   markTable = each maxMarks (λ k. cond (stays k) (newMark k) noMark)

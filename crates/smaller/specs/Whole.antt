@@ -11,8 +11,8 @@ use Rattle.general.specs.Below.{tally, tally-le, tally-all}
 use Rattle.general.specs.Lists.{flat, flat-same, All, all-append, all-flat, packed}
 use Rattle.sets.specs.Set.{has}
 use Rattle.flat_chart.specs.Chart.{condition, response, milestone, include, exclude, setOf}
-use Rattle.flat_chart.specs.declared.FlatChart.{FlatChart}
-use Rattle.graph.specs.declared.Marking.{Marking}
+use Rattle.flat_chart.specs.Flat.{FlatChart}
+use Rattle.graph.specs.Flat.{Marking}
 use Rattle.book.specs.Book.{Book}
 use Rattle.book.specs.Image.{bookOf}
 use Rattle.book.specs.ImageOf.{imageOf, book-of-image}

@@ -16,8 +16,8 @@ use Rattle.sets.specs.Set.{has, union, inter, minus, only}
 use Rattle.sets.specs.Laws.{has-union, has-inter, has-minus, has-empty, has-only}
 use Rattle.wire.specs.Wire.{bytes16}
 use Rattle.flat_chart.specs.Chart.{Fit, condition, response, milestone, include, exclude, setOf, In}
-use Rattle.flat_chart.specs.declared.FlatChart.{FlatChart}
-use Rattle.graph.specs.declared.Marking.{Marking}
+use Rattle.flat_chart.specs.Flat.{FlatChart}
+use Rattle.graph.specs.Flat.{Marking}
 use Rattle.book.specs.ImageOf.{imageOf, headerBytes, ruleBytes, conditionBytes}
 use Rattle.book.specs.declared.Rule.{Rule}
 use Rattle.derived.specs.Derived.{executedMark, includedMark, answeredMark, on, listed, inclusion, responding, answering, settingExecuted, completion, stageRules, eventRules, derivedRules}

@@ -11,8 +11,8 @@ use Rattle.paper.specs.Limits.{maxEvents}
 use Rattle.general.specs.Cases.{contra, cases, either, not-so}
 use Rattle.general.specs.Lists.{packed, packed-all, All, all-at, at-all, all-map}
 use Rattle.flat_chart.specs.Chart.{Fit}
-use Rattle.flat_chart.specs.declared.FlatChart.{FlatChart}
-use Rattle.graph.specs.declared.Marking.{Marking}
+use Rattle.flat_chart.specs.Flat.{FlatChart}
+use Rattle.graph.specs.Flat.{Marking}
 use Rattle.book.specs.Text.{elem}
 use Rattle.book.specs.Book.{ruleOf, textOf, noRule}
 use Rattle.book.specs.Image.{bookOf}

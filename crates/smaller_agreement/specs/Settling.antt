@@ -14,8 +14,8 @@ use Rattle.general.specs.Lists.{flat, All, all-append, append-all, all-flat, al
 use Rattle.sets.specs.Set.{has}
 use Rattle.flat_chart.specs.Chart.{condition, milestone, response, include, exclude, setOf, Fit}
 use Rattle.graph.specs.Steps.{isOpen, after}
-use Rattle.flat_chart.specs.declared.FlatChart.{FlatChart}
-use Rattle.graph.specs.declared.Marking.{Marking}
+use Rattle.flat_chart.specs.Flat.{FlatChart}
+use Rattle.graph.specs.Flat.{Marking}
 use Rattle.book.specs.Text.{Snap, eval, top, holds}
 use Rattle.book.specs.Book.{textOf, noRule}
 use Rattle.book.specs.Firing.{fires, triggered, allowed}

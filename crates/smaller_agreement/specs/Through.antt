@@ -10,8 +10,8 @@ use Rattle.sets.specs.Set.{has}
 use Rattle.flat_chart.specs.Chart.{In}
 use Rattle.graph.specs.Steps.{after}
 use Rattle.graph.specs.Execution.{after-executed}
-use Rattle.flat_chart.specs.declared.FlatChart.{FlatChart}
-use Rattle.graph.specs.declared.Marking.{Marking}
+use Rattle.flat_chart.specs.Flat.{FlatChart}
+use Rattle.graph.specs.Flat.{Marking}
 use Rattle.book.specs.Text.{Snap}
 use Rattle.smaller.specs.Staying.{includedStays, answeredStays, included-goes, answered-goes, stays, newMark, smallerMarks}
 use Rattle.smaller.specs.Numbering.{stays-stage, new-stage, new-below, oldMark, old-new, new-old}

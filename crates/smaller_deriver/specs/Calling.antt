@@ -13,8 +13,8 @@ use borrow.Author.Tests.{not-true, not-false}
 use Rattle.flat_chart.specs.Chart.{Fit}
 use Rattle.graph.specs.Fitness.{fit}
 use Rattle.graph.specs.Fitness.{fit-both}
-use Rattle.flat_chart.specs.declared.FlatChart.{FlatChart}
-use Rattle.graph.specs.declared.Marking.{Marking}
+use Rattle.flat_chart.specs.Flat.{FlatChart}
+use Rattle.graph.specs.Flat.{Marking}
 use Rattle.book.specs.ImageOf.{imageOf}
 use Rattle.smaller.specs.Staying.{markTable, smallerMarks}
 use Rattle.smaller.specs.Kept.{executedKept, includedKept, answeredKept}

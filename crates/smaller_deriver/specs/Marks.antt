@@ -14,8 +14,8 @@ use Rattle.general.specs.Lists.{flat, flat-step, flat-same, each, length-each}
 use Rattle.general.specs.Writing.{sets-append}
 use Rattle.sets.specs.Set.{has, union, allBelow}
 use Rattle.sets.specs.Laws.{has-all}
-use Rattle.flat_chart.specs.declared.FlatChart.{FlatChart}
-use Rattle.graph.specs.declared.Marking.{Marking}
+use Rattle.flat_chart.specs.Flat.{FlatChart}
+use Rattle.graph.specs.Flat.{Marking}
 use Rattle.deriver.specs.Matching.{four-runs}
 use Rattle.smaller.specs.Staying.{stays, newMark, smallerMarks, markTable}
 use Rattle.smaller.specs.Kept.{unionUpto, union-step, executedKept, includedKept, answeredKept, has-executed, has-included, has-answered}
@@ -37,8 +37,8 @@ pub numbers-all : (start table : List ℕ) (at set next e n : ℕ) → e ≤ n �
     (numbered set next))
 numbers-all start table at set next e n h l p = let z : e ≡ n = omega arith in p ∙ ap (λ (k : ℕ). sets start at (each k (numbered set next))) z
 
-pub union-more : (t : List ℕ) (e s v : ℕ) → s ≡ unionUpto e t → v ≡ union s (getD t e 0) → v ≡ unionUpto (e + 1) t
-union-more t e s v p q = q ∙ rw p (sym (union-step e t))
+pub union-more : (t : List ℕ) (e s r v : ℕ) → s ≡ unionUpto e t → r ≡ getD t e 0 → v ≡ union s r → v ≡ unionUpto (e + 1) t
+union-more t e s r v p q u = u ∙ rw (p, q) (sym (union-step e t))
 
 pub union-all : (t : List ℕ) (e n s : ℕ) → e ≤ n → n ≤ e → s ≡ unionUpto e t → s ≡ unionUpto n t
 union-all t e n s h l p = let z : e ≡ n = omega arith in p ∙ ap (λ (k : ℕ). unionUpto k t) z

@@ -1,7 +1,10 @@
 // Deriving a smaller book from a flat chart and a start marking.
 ghost use mathlib.Core.Path.{_≡_};
 ghost use lib.ListN.{length};
+ghost use Rattle.wide.specs.Number.{number, rowsOf};
 ghost use Rattle.flat_chart.specs.Chart.{chartOf};
+ghost use Rattle.flat_chart.specs.Numbers.{flatOf};
+ghost use Rattle.graph.specs.Numbers.{marksOf};
 ghost use Rattle.general.specs.Writing.{Ran};
 ghost use Rattle.smaller_deriver.specs.Calling.{derivingSmaller, smallerRoom, refusingSmaller};
 ghost use Rattle.smaller_deriver.specs.Book.{bookRuns, Ready, Laid, Whole, wholeAnswer, wholeRoom};
@@ -17,6 +20,8 @@ use paper::NO_MARK;
 use paper::RULE_SIZE;
 use paper::UNFIT;
 use paper::WORD_SIZE;
+use wide::Set;
+use wide::TABLE;
 
 pub mod marks;
 
@@ -39,19 +44,19 @@ fn put_parts<'a>(
     room: &mut [u8],
     at: usize,
     n: usize,
-    executed: u64,
-    included: u64,
-    answered: u64,
+    executed: Set,
+    included: Set,
+    answered: Set,
     table: &'a [u16; MAX_MARKS],
     sizes: &'a [usize; MAX_EVENTS],
-    conditions: &'a [u64; MAX_EVENTS],
-    responses: &'a [u64; MAX_EVENTS],
-    milestones: &'a [u64; MAX_EVENTS],
-    includes: &'a [u64; MAX_EVENTS],
-    excludes: &'a [u64; MAX_EVENTS],
+    conditions: &'a [u64; TABLE],
+    responses: &'a [u64; TABLE],
+    milestones: &'a [u64; TABLE],
+    includes: &'a [u64; TABLE],
+    excludes: &'a [u64; TABLE],
 ) -> Places
-    requires { ⌜ Ready n executed included answered (now table) (now sizes) (now conditions) (now responses) (now milestones) (now includes) (now excludes) at ⌝ }
-    ensures { λ r. ⌜ Laid n executed included answered (now (table .entry)) (now (sizes .entry)) (now (conditions .entry)) (now (responses .entry)) (now (milestones .entry)) (now (includes .entry)) (now (excludes .entry)) at (r .rules) (r .records) (r .end) × Ran (now (room .entry)) at (bookRuns n executed included answered (now (table .entry)) (now (sizes .entry)) (now (conditions .entry)) (now (responses .entry)) (now (milestones .entry)) (now (includes .entry)) (now (excludes .entry))) (r .end) (now (room .exit)) ⌝ }
+    requires { ⌜ Ready n (number executed) (number included) (number answered) (now table) (now sizes) (rowsOf (now conditions)) (rowsOf (now responses)) (rowsOf (now milestones)) (rowsOf (now includes)) (rowsOf (now excludes)) at ⌝ }
+    ensures { λ r. ⌜ Laid n (number executed) (number included) (number answered) (now (table .entry)) (now (sizes .entry)) (rowsOf (now (conditions .entry))) (rowsOf (now (responses .entry))) (rowsOf (now (milestones .entry))) (rowsOf (now (includes .entry))) (rowsOf (now (excludes .entry))) at (r .rules) (r .records) (r .end) × Ran (now (room .entry)) at (bookRuns n (number executed) (number included) (number answered) (now (table .entry)) (now (sizes .entry)) (rowsOf (now (conditions .entry))) (rowsOf (now (responses .entry))) (rowsOf (now (milestones .entry))) (rowsOf (now (includes .entry))) (rowsOf (now (excludes .entry)))) (r .end) (now (room .exit)) ⌝ }
 {
     let a = smaller_rules::put_completions(
         room,
@@ -89,18 +94,18 @@ fn put_book<'a>(
     room: &mut [u8],
     n: usize,
     marks: usize,
-    executed: u64,
-    included: u64,
-    answered: u64,
+    executed: Set,
+    included: Set,
+    answered: Set,
     table: &'a [u16; MAX_MARKS],
-    conditions: &'a [u64; MAX_EVENTS],
-    responses: &'a [u64; MAX_EVENTS],
-    milestones: &'a [u64; MAX_EVENTS],
-    includes: &'a [u64; MAX_EVENTS],
-    excludes: &'a [u64; MAX_EVENTS],
+    conditions: &'a [u64; TABLE],
+    responses: &'a [u64; TABLE],
+    milestones: &'a [u64; TABLE],
+    includes: &'a [u64; TABLE],
+    excludes: &'a [u64; TABLE],
 ) -> Answer
-    requires { ⌜ Whole n marks executed included answered (now table) (now conditions) (now responses) (now milestones) (now includes) (now excludes) ⌝ }
-    ensures { λ r. ⌜ (r ≡ wholeAnswer n marks executed included answered (now (table .entry)) (now (conditions .entry)) (now (responses .entry)) (now (milestones .entry)) (now (includes .entry)) (now (excludes .entry)) (length (now (room .entry)))) × (now (room .exit) ≡ wholeRoom n marks executed included answered (now (table .entry)) (now (conditions .entry)) (now (responses .entry)) (now (milestones .entry)) (now (includes .entry)) (now (excludes .entry)) (now (room .entry))) ⌝ }
+    requires { ⌜ Whole n marks (number executed) (number included) (number answered) (now table) (rowsOf (now conditions)) (rowsOf (now responses)) (rowsOf (now milestones)) (rowsOf (now includes)) (rowsOf (now excludes)) ⌝ }
+    ensures { λ r. ⌜ (r ≡ wholeAnswer n marks (number executed) (number included) (number answered) (now (table .entry)) (rowsOf (now (conditions .entry))) (rowsOf (now (responses .entry))) (rowsOf (now (milestones .entry))) (rowsOf (now (includes .entry))) (rowsOf (now (excludes .entry))) (length (now (room .entry)))) × (now (room .exit) ≡ wholeRoom n marks (number executed) (number included) (number answered) (now (table .entry)) (rowsOf (now (conditions .entry))) (rowsOf (now (responses .entry))) (rowsOf (now (milestones .entry))) (rowsOf (now (includes .entry))) (rowsOf (now (excludes .entry))) (now (room .entry))) ⌝ }
 {
     let sizes = smaller_texts::text_sizes(n, included, answered, conditions, milestones, table);
     let mut none = [0u8; 1];
@@ -162,15 +167,15 @@ fn refused(answer: Answer) -> Smaller
 pub fn derive_smaller_in<'a>(
     start: Marking,
     count: u32,
-    conditions: &'a [u64; MAX_EVENTS],
-    responses: &'a [u64; MAX_EVENTS],
-    milestones: &'a [u64; MAX_EVENTS],
-    includes: &'a [u64; MAX_EVENTS],
-    excludes: &'a [u64; MAX_EVENTS],
+    conditions: &'a [u64; TABLE],
+    responses: &'a [u64; TABLE],
+    milestones: &'a [u64; TABLE],
+    includes: &'a [u64; TABLE],
+    excludes: &'a [u64; TABLE],
     roles: &'a [u8; MAX_EVENTS],
     room: &mut [u8],
 ) -> Smaller
-    ensures { λ r. ⌜ (r ≡ derivingSmaller (chartOf count (now (conditions .entry)) (now (responses .entry)) (now (milestones .entry)) (now (includes .entry)) (now (excludes .entry)) (now (roles .entry))) start (length (now (room .entry)))) × (now (room .exit) ≡ smallerRoom (chartOf count (now (conditions .entry)) (now (responses .entry)) (now (milestones .entry)) (now (includes .entry)) (now (excludes .entry)) (now (roles .entry))) start (now (room .entry))) ⌝ }
+    ensures { λ r. ⌜ (r ≡ derivingSmaller (chartOf count (rowsOf (now (conditions .entry))) (rowsOf (now (responses .entry))) (rowsOf (now (milestones .entry))) (rowsOf (now (includes .entry))) (rowsOf (now (excludes .entry))) (now (roles .entry))) (marksOf start) (length (now (room .entry)))) × (now (room .exit) ≡ smallerRoom (chartOf count (rowsOf (now (conditions .entry))) (rowsOf (now (responses .entry))) (rowsOf (now (milestones .entry))) (rowsOf (now (includes .entry))) (rowsOf (now (excludes .entry))) (now (roles .entry))) (marksOf start) (now (room .entry))) ⌝ }
 {
     if !start.fits(
         count,
@@ -211,7 +216,7 @@ pub fn derive_smaller_in<'a>(
 
 // Writes the smaller book of a fit chart and a fit start marking into the room, and hands back the new mark numbers; or refuses and writes nothing.
 pub fn derive_smaller(chart: FlatChart, start: Marking, room: &mut [u8]) -> Smaller
-    ensures { λ r. ⌜ (r ≡ derivingSmaller chart start (length (now (room .entry)))) × (now (room .exit) ≡ smallerRoom chart start (now (room .entry))) ⌝ }
+    ensures { λ r. ⌜ (r ≡ derivingSmaller (flatOf chart) (marksOf start) (length (now (room .entry)))) × (now (room .exit) ≡ smallerRoom (flatOf chart) (marksOf start) (now (room .entry))) ⌝ }
 {
     derive_smaller_in(
         start,

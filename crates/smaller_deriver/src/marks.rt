@@ -7,11 +7,13 @@ ghost use Rattle.paper.specs.Limits.{maxEvents, maxMarks, noMark};
 ghost use Rattle.general.specs.Below.{tally};
 ghost use Rattle.general.specs.Lists.{each};
 ghost use Rattle.sets.specs.Set.{has};
+ghost use Rattle.wide.specs.Number.{number, rowsOf};
 ghost use Rattle.smaller.specs.Kept.{unionUpto, includedBy, answeredBy};
 ghost use Rattle.smaller_deriver.specs.Marks.{numbered, tableBy, marksBy};
-use paper::MAX_EVENTS;
 use paper::MAX_MARKS;
 use paper::NO_MARK;
+use wide::Set;
+use wide::TABLE;
 
 // The new numbers of the marks, and how many there are.
 pub struct Numbered {
@@ -20,14 +22,14 @@ pub struct Numbered {
 }
 
 // Whatever is in one of the first n sets.
-pub fn union_upto(n: usize, table: &[u64; MAX_EVENTS]) -> u64
+pub fn union_upto(n: usize, table: &[u64; TABLE]) -> Set
     requires { ⌜ n ≤ maxEvents ⌝ }
-    ensures { λ r. ⌜ r ≡ unionUpto n (now (table .entry)) ⌝ }
+    ensures { λ r. ⌜ number r ≡ unionUpto n (rowsOf (now (table .entry))) ⌝ }
 {
-    let mut all: u64 = 0;
+    let mut all = wide::empty();
     let mut e = 0;
     while e < n {
-        all = sets::join(all, table[e]);
+        all = wide::join(all, wide::row(table, e));
         e += 1;
     }
     all
@@ -36,25 +38,25 @@ pub fn union_upto(n: usize, table: &[u64; MAX_EVENTS]) -> u64
 // An event that something includes or excludes, or that starts excluded, keeps its included mark.
 pub fn included_kept<'a>(
     n: usize,
-    includes: &'a [u64; MAX_EVENTS],
-    excludes: &'a [u64; MAX_EVENTS],
-    start: u64,
-) -> u64
+    includes: &'a [u64; TABLE],
+    excludes: &'a [u64; TABLE],
+    start: Set,
+) -> Set
     requires { ⌜ n ≤ maxEvents ⌝ }
-    ensures { λ r. ⌜ r ≡ includedBy n (now (includes .entry)) (now (excludes .entry)) start ⌝ }
+    ensures { λ r. ⌜ number r ≡ includedBy n (rowsOf (now (includes .entry))) (rowsOf (now (excludes .entry))) (number start) ⌝ }
 {
     let a = union_upto(n, includes);
     let b = union_upto(n, excludes);
-    let out = sets::less(sets::all_below(n), start);
-    sets::join(sets::join(a, b), out)
+    let out = wide::less(wide::all_below(n), start);
+    wide::join(wide::join(a, b), out)
 }
 
 // One that is a response, or starts pending, keeps its answered mark.
-pub fn answered_kept(n: usize, responses: &[u64; MAX_EVENTS], start: u64) -> u64
+pub fn answered_kept(n: usize, responses: &[u64; TABLE], start: Set) -> Set
     requires { ⌜ n ≤ maxEvents ⌝ }
-    ensures { λ r. ⌜ r ≡ answeredBy n (now (responses .entry)) start ⌝ }
+    ensures { λ r. ⌜ number r ≡ answeredBy n (rowsOf (now (responses .entry))) (number start) ⌝ }
 {
-    sets::join(union_upto(n, responses), start)
+    wide::join(union_upto(n, responses), start)
 }
 
 fn number_of(stays: bool, next: usize) -> u16
@@ -78,14 +80,14 @@ fn next_number(stays: bool, next: usize) -> usize
 }
 
 // The n marks from a place on: those of the set get the next free numbers. Hands back the number that is free then.
-fn number_marks(table: &mut [u16; MAX_MARKS], at: usize, n: usize, set: u64, next: usize) -> usize
+fn number_marks(table: &mut [u16; MAX_MARKS], at: usize, n: usize, set: Set, next: usize) -> usize
     requires { ⌜ (at + n ≤ maxMarks) × (next + n ≤ maxMarks) ⌝ }
-    ensures { λ r. ⌜ (r ≡ next + tally n (has set)) × (now (table .exit) ≡ sets (now (table .entry)) at (each n (numbered set next))) ⌝ }
+    ensures { λ r. ⌜ (r ≡ next + tally n (has (number set))) × (now (table .exit) ≡ sets (now (table .entry)) at (each n (numbered (number set) next))) ⌝ }
 {
     let mut free = next;
     let mut e = 0;
     while e < n {
-        let stays = sets::member(set, e);
+        let stays = wide::member(set, e);
         table[at + e] = number_of(stays, free);
         free = next_number(stays, free);
         e += 1;
@@ -94,12 +96,12 @@ fn number_marks(table: &mut [u16; MAX_MARKS], at: usize, n: usize, set: u64, nex
 }
 
 // Stages stay; then the executed, included and answered marks that are kept.
-pub fn number(n: usize, executed: u64, included: u64, answered: u64) -> Numbered
+pub fn number(n: usize, executed: Set, included: Set, answered: Set) -> Numbered
     requires { ⌜ n ≤ maxEvents ⌝ }
-    ensures { λ r. ⌜ (r .table ≡ tableBy n executed included answered) × (r .marks ≡ marksBy n executed included answered) ⌝ }
+    ensures { λ r. ⌜ (r .table ≡ tableBy n (number executed) (number included) (number answered)) × (r .marks ≡ marksBy n (number executed) (number included) (number answered)) ⌝ }
 {
     let mut table = [NO_MARK; MAX_MARKS];
-    let a = number_marks(&mut table, 0, n, sets::all_below(n), 0);
+    let a = number_marks(&mut table, 0, n, wide::all_below(n), 0);
     let b = number_marks(&mut table, n, n, executed, a);
     let c = number_marks(&mut table, 2 * n, n, included, b);
     let d = number_marks(&mut table, 3 * n, n, answered, c);

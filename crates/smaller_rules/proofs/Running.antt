@@ -17,8 +17,9 @@ use Rattle.general.specs.Writing.{Fits, Wrote, Ran, ran-wrote, ran-short, ran-t
 use Rattle.book.specs.ImageOf.{ruleRecord, ruleBytes, length-rule}
 use Rattle.derived.specs.Derived.{on, listed}
 use Rattle.derived.specs.Members.{size-within, length-listed}
+use Rattle.derived.specs.Parts.{CompletionsIn}
 use Rattle.derived.specs.RuleBytes.{fits-one}
-use Rattle.smaller.specs.Runs.{maxBook, Under, effectBy, effectsBy, completionBy, textLeft, conditionBy, stageBy}
+use Rattle.smaller.specs.Runs.{maxBook, Under, effectBy, effectsBy, completionBy, completionsBy, textLeft, conditionBy, stageBy}
 
 -- ---- one record: 10 bytes, written where the room reaches behind them
 
@@ -80,14 +81,27 @@ minus-within n a b h = lt-within n (minus a b) (λ f m. within-lt n a f h (both 
 only-within : (n e : ℕ) → e < n → within n (only e) ≡ true
 only-within n e h = lt-within n (only e) (λ f m. let q : e ≡ f = eqb-true e f (sym (has-only e f) ∙ m) in omega arith)
 
-pub changed-within : (n u b s : ℕ) → s ≡ u → within n u ≡ true → within n (inter s b) ≡ true
-changed-within n u b s p h = rw p (inter-within n u b h)
+-- the sets that the code makes for a completion: e itself; what it includes and excludes, its answer and its execution, as far as their marks stay; and the empty set
+pub record Sets (e E I A i x r o k a d z : ℕ) : Type 0 where
+  pub own : o ≡ only e
+  pub changed : k ≡ inter (union i x) I
+  pub answers : a ≡ inter (minus (only e) r) A
+  pub done : d ≡ inter (only e) E
+  pub none : z ≡ 0
 
-pub own-within : (n e b o : ℕ) → o ≡ only e → e < n → within n (inter o b) ≡ true
-own-within n e b o p h = rw p (inter-within n (only e) b (only-within n e h))
+pub sets-made : {e E I A i x r o u k m a d z : ℕ} → o ≡ only e → u ≡ union i x → k ≡ inter u I → m ≡ minus o r → a ≡ inter m A → d ≡ inter o E → z ≡ 0
+    → Sets e E I A i x r o k a d z
+sets-made o u k m a d z = record { own = o; changed = k ∙ rw u; answers = a ∙ rw (m, o); done = d ∙ rw o; none = z }
 
-pub answers-within : (n e r b o a : ℕ) → o ≡ only e → a ≡ minus o r → e < n → within n (inter a b) ≡ true
-answers-within n e r b o a p q h = rw (q, p) (inter-within n (minus (only e) r) b (minus-within n (only e) r (only-within n e h)))
+module _ (n : ℕ) {e E I A i x r o k a d z : ℕ} (s : Sets e E I A i x r o k a d z) where
+  pub changed-within : within n (union i x) ≡ true → within n k ≡ true
+  changed-within h = rw (s .changed) (inter-within n (union i x) I h)
+
+  pub answers-within : e < n → within n a ≡ true
+  answers-within h = rw (s .answers) (inter-within n (minus (only e) r) A (minus-within n (only e) r (only-within n e h)))
+
+  pub done-within : e < n → within n d ≡ true
+  done-within h = rw (s .done) (inter-within n (only e) E (only-within n e h))
 
 -- ---- one run, and then another
 
@@ -102,58 +116,80 @@ under-then {a} {at} {next} w b u =
 
 -- ---- everything on one completion: four runs
 
-module _ (t : List ℕ) (n e E I A i x r : ℕ) where
-  abbrev included : ℕ → List ℕ
-  included s = packed ruleBytes (effectsBy t n e i (inter s I) (2 * n))
+module _ (t : List ℕ) (n : ℕ) {e E I A i x r o k a d z : ℕ} (s : Sets e E I A i x r o k a d z) (room : List ℕ) (at : ℕ) where
+  abbrev included : List ℕ
+  included = packed ruleBytes (effectsBy t n e i k (2 * n))
 
   abbrev responded : List ℕ
-  responded = packed ruleBytes (effectsBy t n e 0 r (3 * n))
+  responded = packed ruleBytes (effectsBy t n e z r (3 * n))
 
-  abbrev answered : ℕ → ℕ → List ℕ
-  answered o s = packed ruleBytes (effectsBy t n e o (inter s A) (3 * n))
+  abbrev answered : List ℕ
+  answered = packed ruleBytes (effectsBy t n e o a (3 * n))
 
-  abbrev done : ℕ → List ℕ
-  done o = packed ruleBytes (effectsBy t n e o (inter o E) n)
+  abbrev executed : List ℕ
+  executed = packed ruleBytes (effectsBy t n e o d n)
 
   abbrev whole : List ℕ
   whole = packed ruleBytes (completionBy t n E I A e i x r)
 
-  completion-bytes : whole ≡ included (union i x) ++ (responded ++ (answered (only e) (minus (only e) r) ++ done (only e)))
+  all : whole ≡ included ++ (responded ++ (answered ++ executed))
   unfolding completionBy
-  completion-bytes =
+  all =
       rw (
+        s .own,
+        s .changed,
+        s .answers,
+        s .done,
+        s .none,
         packed-append ruleBytes (effectsBy t n e i (inter (union i x) I) (2 * n)),
         packed-append ruleBytes (effectsBy t n e 0 r (3 * n)),
         packed-append ruleBytes (effectsBy t n e (only e) (inter (minus (only e) r) A) (3 * n)),
       )
 
-  module _ (room : List ℕ) (at o s : ℕ) (own : o ≡ only e) (joined : s ≡ union i x) (under : Under at whole) where
-    all : whole ≡ included s ++ (responded ++ (answered o (minus o r) ++ done o))
-    all = rw (own, joined) completion-bytes
-
-    under-all : Under at (included s ++ (responded ++ (answered o (minus o r) ++ done o)))
+  module _ (under : Under at whole) where
+    under-all : Under at (included ++ (responded ++ (answered ++ executed)))
     under-all = rw all at under
 
-    pub completion-under-1 : Under at (included s)
-    completion-under-1 = under-first at (included s) _ under-all
+    pub completion-under-1 : Under at included
+    completion-under-1 = under-first at included _ under-all
 
-    module _ (p₁ : ℕ) (r₁ : List ℕ) (w₁ : Ran room at (included s) p₁ r₁) where
+    module _ {p₁ : ℕ} {r₁ : List ℕ} (w₁ : Ran room at included p₁ r₁) where
       pub completion-under-2 : Under p₁ responded
       completion-under-2 = under-first p₁ responded _ (under-then w₁ _ under-all)
 
-      module _ (p₂ : ℕ) (r₂ : List ℕ) (w₂ : Ran r₁ p₁ responded p₂ r₂) (a : ℕ) (self : a ≡ minus o r) where
-        pub completion-under-3 : Under p₂ (answered o a)
-        completion-under-3 = rw self (under-first p₂ (answered o (minus o r)) (done o) (under-then w₂ _ (under-then w₁ _ under-all)))
+      module _ {p₂ : ℕ} {r₂ : List ℕ} (w₂ : Ran r₁ p₁ responded p₂ r₂) where
+        pub completion-under-3 : Under p₂ answered
+        completion-under-3 = under-first p₂ answered executed (under-then w₂ _ (under-then w₁ _ under-all))
 
-        module _ (p₃ : ℕ) (r₃ : List ℕ) (w₃ : Ran r₂ p₂ (answered o a) p₃ r₃) where
-          third : Ran r₂ p₂ (answered o (minus o r)) p₃ r₃
-          third = rw self at w₃
+        module _ {p₃ : ℕ} {r₃ : List ℕ} (w₃ : Ran r₂ p₂ answered p₃ r₃) where
+          pub completion-under-4 : Under p₃ executed
+          completion-under-4 = under-then w₃ _ (under-then w₂ _ (under-then w₁ _ under-all))
 
-          pub completion-under-4 : Under p₃ (done o)
-          completion-under-4 = under-then third _ (under-then w₂ _ (under-then w₁ _ under-all))
+          pub completion-ran : {p₄ : ℕ} {r₄ : List ℕ} → Ran r₃ p₃ executed p₄ r₄ → Ran room at whole p₄ r₄
+          completion-ran w₄ = rw all (ran-then w₁ (ran-then w₂ (ran-then w₃ w₄)))
 
-          pub completion-ran : (p₄ : ℕ) (r₄ : List ℕ) → Ran r₃ p₃ (done o) p₄ r₄ → Ran room at whole p₄ r₄
-          completion-ran p₄ r₄ w₄ = rw all (ran-then w₁ (ran-then w₂ (ran-then third w₄)))
+-- by the rows of e in the tables of includes, excludes and responses
+
+module _ (n : ℕ) (is xs rs : List ℕ) (e : ℕ) {i x r : ℕ} (p : i ≡ getD is e 0) (q : x ≡ getD xs e 0) (s : r ≡ getD rs e 0) where
+  pub rows-within : CompletionsIn n is xs rs → e < n → (within n (union i x) ≡ true) × (within n r ≡ true)
+  rows-within k h = (rw (p, q) (k .inclusions e h), rw s (k .responses e h))
+
+  module _ (t : List ℕ) (E I A : ℕ) where
+    abbrev byRows : List ℕ
+    byRows = packed ruleBytes (completionBy t n E I A e i x r)
+
+    abbrev byTables : List ℕ
+    byTables = packed ruleBytes (completionsBy t n E I A is xs rs e)
+
+    rows-same : byRows ≡ byTables
+    unfolding completionsBy
+    rows-same = rw (p, q, s)
+
+    pub rows-under : (at : ℕ) → Under at byTables → Under at byRows
+    rows-under at u = rw rows-same u
+
+    pub rows-ran : {room after : List ℕ} {at next : ℕ} → Ran room at byRows next after → Ran room at byTables next after
+    rows-ran w = rw rows-same at w
 
 -- ---- the rules of a stage, where z has the texts' sizes
 

@@ -6,6 +6,7 @@ ghost use Prim.Native.Nat.{_+_, _*_, _<_, _≤_};
 ghost use lib.ListN.{length};
 ghost use Rattle.paper.specs.Limits.{maxEvents, maxMarks, ruleSize};
 ghost use Rattle.sets.specs.Set.{union, within};
+ghost use Rattle.wide.specs.Number.{number, rowsOf};
 ghost use Rattle.general.specs.Lists.{flat, packed};
 ghost use Rattle.general.specs.Writing.{Ran, Wrote};
 ghost use Rattle.book.specs.ImageOf.{ruleRecord, ruleBytes};
@@ -21,6 +22,8 @@ use book::rules::TRIGGER_NONE;
 use paper::MAX_EVENTS;
 use paper::MAX_MARKS;
 use paper::RULE_SIZE;
+use wide::Set;
+use wide::TABLE;
 
 // On completion of e, set the mark or clear it. Every function here hands back the place behind its run; those below write it only where the room
 // holds it.
@@ -38,24 +41,24 @@ fn put_effects<'a>(
     at: usize,
     n: usize,
     e: usize,
-    raise: u64,
-    among: u64,
+    raise: Set,
+    among: Set,
     base: usize,
     table: &'a [u16; MAX_MARKS],
 ) -> usize
-    requires { ⌜ (n ≤ maxEvents) × (e < n) × (base + n ≤ maxMarks) × (within n among ≡ true) × Under at (packed ruleBytes (effectsBy (now table) n e raise among base)) ⌝ }
-    ensures { λ r. ⌜ Ran (now (room .entry)) at (packed ruleBytes (effectsBy (now (table .entry)) n e raise among base)) r (now (room .exit)) ⌝ }
+    requires { ⌜ (n ≤ maxEvents) × (e < n) × (base + n ≤ maxMarks) × (within n (number among) ≡ true) × Under at (packed ruleBytes (effectsBy (now table) n e (number raise) (number among) base)) ⌝ }
+    ensures { λ r. ⌜ Ran (now (room .entry)) at (packed ruleBytes (effectsBy (now (table .entry)) n e (number raise) (number among) base)) r (now (room .exit)) ⌝ }
 {
-    let end = at + RULE_SIZE * sets::count(among) as usize;
+    let end = at + RULE_SIZE * wide::count(among) as usize;
     if room.len() < end {
         return end;
     }
     let mut rest = among;
     let mut next = at;
-    while rest != 0 {
-        let f = sets::least(rest) as usize;
-        next = put_on(room, next, e, sets::member(raise, f), table[base + f]);
-        rest = sets::less(rest, sets::one(f));
+    while !wide::is_empty(rest) {
+        let f = wide::least(rest) as usize;
+        next = put_on(room, next, e, wide::member(raise, f), table[base + f]);
+        rest = wide::less(rest, wide::one(f));
     }
     next
 }
@@ -66,41 +69,43 @@ pub fn put_completion<'a>(
     room: &mut [u8],
     at: usize,
     n: usize,
-    executed: u64,
-    included: u64,
-    answered: u64,
+    executed: Set,
+    included: Set,
+    answered: Set,
     e: usize,
-    includes: u64,
-    excludes: u64,
-    responses: u64,
+    includes: Set,
+    excludes: Set,
+    responses: Set,
     table: &'a [u16; MAX_MARKS],
 ) -> usize
-    requires { ⌜ (n ≤ maxEvents) × (e < n) × (within n (union includes excludes) ≡ true) × (within n responses ≡ true) × Under at (packed ruleBytes (completionBy (now table) n executed included answered e includes excludes responses)) ⌝ }
-    ensures { λ r. ⌜ Ran (now (room .entry)) at (packed ruleBytes (completionBy (now (table .entry)) n executed included answered e includes excludes responses)) r (now (room .exit)) ⌝ }
+    requires { ⌜ (n ≤ maxEvents) × (e < n) × (within n (union (number includes) (number excludes)) ≡ true) × (within n (number responses) ≡ true) × Under at (packed ruleBytes (completionBy (now table) n (number executed) (number included) (number answered) e (number includes) (number excludes) (number responses))) ⌝ }
+    ensures { λ r. ⌜ Ran (now (room .entry)) at (packed ruleBytes (completionBy (now (table .entry)) n (number executed) (number included) (number answered) e (number includes) (number excludes) (number responses))) r (now (room .exit)) ⌝ }
 {
-    let own = sets::one(e);
-    let changed = sets::join(includes, excludes);
-    let a = put_effects(room, at, n, e, includes, changed & included, 2 * n, table);
-    let b = put_effects(room, a, n, e, 0, responses, 3 * n, table);
-    let answers = sets::less(own, responses);
-    let c = put_effects(room, b, n, e, own, answers & answered, 3 * n, table);
-    put_effects(room, c, n, e, own, own & executed, n, table)
+    let own = wide::one(e);
+    let changed = wide::meet(wide::join(includes, excludes), included);
+    let answers = wide::meet(wide::less(own, responses), answered);
+    let done = wide::meet(own, executed);
+    let none = wide::empty();
+    let a = put_effects(room, at, n, e, includes, changed, 2 * n, table);
+    let b = put_effects(room, a, n, e, none, responses, 3 * n, table);
+    let c = put_effects(room, b, n, e, own, answers, 3 * n, table);
+    put_effects(room, c, n, e, own, done, n, table)
 }
 
 pub fn put_completions<'a>(
     room: &mut [u8],
     at: usize,
     n: usize,
-    executed: u64,
-    included: u64,
-    answered: u64,
-    includes: &'a [u64; MAX_EVENTS],
-    excludes: &'a [u64; MAX_EVENTS],
-    responses: &'a [u64; MAX_EVENTS],
+    executed: Set,
+    included: Set,
+    answered: Set,
+    includes: &'a [u64; TABLE],
+    excludes: &'a [u64; TABLE],
+    responses: &'a [u64; TABLE],
     table: &'a [u16; MAX_MARKS],
 ) -> usize
-    requires { ⌜ (n ≤ maxEvents) × CompletionsIn n (now includes) (now excludes) (now responses) × Under at (packed ruleBytes (flat n (completionsBy (now table) n executed included answered (now includes) (now excludes) (now responses)))) ⌝ }
-    ensures { λ r. ⌜ Ran (now (room .entry)) at (packed ruleBytes (flat n (completionsBy (now (table .entry)) n executed included answered (now (includes .entry)) (now (excludes .entry)) (now (responses .entry))))) r (now (room .exit)) ⌝ }
+    requires { ⌜ (n ≤ maxEvents) × CompletionsIn n (rowsOf (now includes)) (rowsOf (now excludes)) (rowsOf (now responses)) × Under at (packed ruleBytes (flat n (completionsBy (now table) n (number executed) (number included) (number answered) (rowsOf (now includes)) (rowsOf (now excludes)) (rowsOf (now responses))))) ⌝ }
+    ensures { λ r. ⌜ Ran (now (room .entry)) at (packed ruleBytes (flat n (completionsBy (now (table .entry)) n (number executed) (number included) (number answered) (rowsOf (now (includes .entry))) (rowsOf (now (excludes .entry))) (rowsOf (now (responses .entry)))))) r (now (room .exit)) ⌝ }
 {
     let mut next = at;
     let mut e = 0;
@@ -113,9 +118,9 @@ pub fn put_completions<'a>(
             included,
             answered,
             e,
-            includes[e],
-            excludes[e],
-            responses[e],
+            wide::row(includes, e),
+            wide::row(excludes, e),
+            wide::row(responses, e),
             table,
         );
         e += 1;

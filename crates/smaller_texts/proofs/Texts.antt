@@ -21,12 +21,12 @@ use Rattle.wire.specs.Laws.{length-bytes16}
 use Rattle.book.specs.Book.{Condition}
 use Rattle.book.specs.ImageOf.{conditionBytes, length-condition}
 use Rattle.derived.specs.Derived.{listed}
-use Rattle.derived.specs.Parts.{conditionMade}
+use Rattle.derived.specs.Parts.{TextsIn, conditionMade}
 use Rattle.derived.specs.Members.{size-within, listed-none, low-lt, low-within, low-falls, low-first}
 use Rattle.derived.specs.RuleBytes.{word-wrote}
 use Rattle.derived.specs.WritingLoops.{packed-part}
 use Rattle.smaller.specs.Clauses.{Clause, alone, guarded, wordsOf, joiner, spokenFrom}
-use Rattle.smaller.specs.Runs.{maxBook, Under, clauseBy, clausesBy, textBy, recordBy}
+use Rattle.smaller.specs.Runs.{maxBook, Under, clauseBy, clausesBy, textBy, textsBy, recordBy}
 
 -- ---- a run that stays below the most bytes of a book, and its parts
 
@@ -129,12 +129,15 @@ some-bytes x l =
 
 -- ---- sets within n
 
-pub inter-within : (n a b : ℕ) → within n a ≡ true → within n (inter a b) ≡ true
+inter-within : (n a b : ℕ) → within n a ≡ true → within n (inter a b) ≡ true
 inter-within n a b h = lt-within n (inter a b) (λ f i. within-lt n a f h (both (has a f) (has b f) (sym (has-inter a b f) ∙ i) .0))
 
-pub own-within : (n e o s : ℕ) → o ≡ only e → e < n → within n (inter o s) ≡ true
-own-within n e o s p h =
-    inter-within n o s (rw p (lt-within n (only e) (λ f i. let q : e ≡ f = eqb-true e f (sym (has-only e f) ∙ i) in omega arith)))
+pub own-within : (n e i : ℕ) {o s : ℕ} → o ≡ only e → s ≡ inter o i → e < n → within n s ≡ true
+own-within n e i {o} p q h =
+    rw q (inter-within n o i (rw p (lt-within n (only e) (λ f m. let q : e ≡ f = eqb-true e f (sym (has-only e f) ∙ m) in omega arith))))
+
+pub part-within : (n a b : ℕ) {s : ℕ} → s ≡ inter a b → within n a ≡ true → within n s ≡ true
+part-within n a b q h = rw q (inter-within n a b h)
 
 -- ---- how many words a run of clauses has
 
@@ -148,19 +151,20 @@ less-first : (b : Bool) (l : List Clause) → length (spokenFrom b l) ≡ length
 unfolding spokenFrom
 less-first b [] = cases b (λ t. rw t) (λ t. rw t)
 less-first b (x ∷ l) =
-    let a : length (wordsOf x ++ (andWord ∷ spokenFrom false l)) ≡ length (wordsOf x) + suc (length (spokenFrom false l)) = length-append (wordsOf x) (andWord ∷ spokenFrom false l) in
+    let a : length (wordsOf x ++ (andWord ∷ spokenFrom false l)) ≡ length (wordsOf x) + suc (length (spokenFrom false l)) = length-append (wordsOf x)
+    (andWord ∷ spokenFrom false l) in
     let d : length (wordsOf x ++ spokenFrom false l) ≡ length (wordsOf x) + length (spokenFrom false l) = length-append (wordsOf x) (spokenFrom false l) in
     cases b (λ t. rw t (omega arith)) (λ t. rw t (omega arith))
 
-module _ (guards among a g : ℕ) (first : Bool) (p : a ≡ size among) (q : g ≡ size (inter among guards)) where
+module _ (guards among both a g : ℕ) (first : Bool) (p : a ≡ size among) (b : both ≡ inter among guards) (q : g ≡ size both) where
   pub words-later : not first ≡ true → 2 * a + 3 * g ≡ 2 * size among + 3 * size (inter among guards) - cond first 1 0
-  words-later h = cases first (λ t. contra h (rw t)) (λ t. rw (t, p, q) (omega arith))
+  words-later h = cases first (λ t. contra h (rw t)) (λ t. rw (t, p, q, b) (omega arith))
 
   pub words-none : not first ≡ false → 2 * a + 3 * g ≡ 0 → 0 ≡ 2 * size among + 3 * size (inter among guards) - cond first 1 0
-  words-none h z = cases first (λ t. rw (t, ← p, ← q, z)) (λ t. contra (rw t) h)
+  words-none h z = cases first (λ t. rw (t, ← p, ← b, ← q, z)) (λ t. contra (rw t) h)
 
   pub words-first : not first ≡ false → 2 * a + 3 * g - 1 ≡ 2 * size among + 3 * size (inter among guards) - cond first 1 0
-  words-first h = cases first (λ t. rw (t, p, q)) (λ t. contra (rw t) h)
+  words-first h = cases first (λ t. rw (t, p, q, b)) (λ t. contra (rw t) h)
 
 module _ (t : List ℕ) (n guards base among : ℕ) where
   -- the clause of the number k, with its "and"
@@ -173,7 +177,8 @@ module _ (t : List ℕ) (n guards base among : ℕ) where
   unfolding flat tally spokenFrom
   clauses-length zero = refl
   clauses-length (suc k) =
-      let i : length (spokenFrom false (flat k (listed (clauseBy t n guards base) among))) ≡ 2 * tally k (has among) + 3 * tally k (has (inter among guards)) = clauses-length k in
+      let i : length (spokenFrom false (flat k (listed (clauseBy t n guards base) among))) ≡ 2 * tally k (has among) + 3 * tally k (has
+      (inter among guards)) = clauses-length k in
       let o : length (spokenFrom false (listed (clauseBy t n guards base) among k)) ≡ 2 * cond (has among k) 1 0 + 3 * cond (has (inter among guards) k) 1 0 = one-length k in
       rw (spoken-later (flat k (listed (clauseBy t n guards base) among)) (listed (clauseBy t n guards base) among k))
       (length-append (spokenFrom false (flat k (listed (clauseBy t n guards base) among))) _ ∙ omega arith)
@@ -284,23 +289,25 @@ seam start at next [] l b p = let q : next ≡ at = p ∙ rw add-zero in rw q
 seam start at next (x ∷ k) l b p =
     let q : 2 ≤ length (saidFrom start at (x ∷ k)) = some-bytes x (joiner (eqb at start) ++ spokenFrom false k) in
     let f : eqb next start ≡ false = ne-eqb next start (λ e. omega arith) in
-    let g : wordsOf x ++ (joiner (eqb at start) ++ (spokenFrom false k ++ spokenFrom false l)) ≡ (wordsOf x ++ (joiner (eqb at start) ++ spokenFrom false k)) ++ spokenFrom false l =
+    let g : wordsOf x ++ (joiner (eqb at start) ++ (spokenFrom false k ++ spokenFrom false l)) ≡ (wordsOf x ++ (joiner
+    (eqb at start) ++ spokenFrom false k)) ++ spokenFrom false l =
     simp append-assoc in
     rw (f, spoken-later k l, g) (packed-append bytes16 (wordsOf x ++ (joiner (eqb at start) ++ spokenFrom false k)) (spokenFrom false l))
 
-module _ (t : List ℕ) (n I A e c m o : ℕ) (q : o ≡ only e) (room : List ℕ) (at : ℕ) where
+-- e itself, the milestones whose answered marks stay, and the empty set, as the code makes them
+module _ (t : List ℕ) (n I A e c m : ℕ) {o s a z : ℕ} (q : o ≡ only e) (p : s ≡ inter o I) (k : a ≡ inter m A) (none : z ≡ 0) (room : List ℕ) (at : ℕ) where
   abbrev own : List Clause
-  own = clausesBy t n 0 (2 * n) (inter o I)
+  own = clausesBy t n z (2 * n) s
 
   abbrev held : List Clause
   held = clausesBy t n I n c
 
   abbrev answers : List Clause
-  answers = clausesBy t n I (3 * n) (inter m A)
+  answers = clausesBy t n I (3 * n) a
 
   text-said : packed bytes16 (textBy t n I A e c m) ≡ saidFrom at at (own ++ (held ++ answers))
   unfolding textBy
-  text-said = rw (q, eq-eqb at at refl)
+  text-said = rw (p, q, k, none, eq-eqb at at refl)
 
   module _ (u : Under at (packed bytes16 (textBy t n I A e c m))) where
     text-under : Under at (saidFrom at at (own ++ (held ++ answers)))
@@ -309,7 +316,7 @@ module _ (t : List ℕ) (n I A e c m o : ℕ) (q : o ≡ only e) (room : List �
     pub text-under-1 : Under at (saidFrom at at own)
     text-under-1 = under-first at (saidFrom at at own) _ (rw (seam at at _ own (held ++ answers) (omega arith) refl) at text-under)
 
-    module _ (p₁ : ℕ) (r₁ : List ℕ) (w₁ : Ran room at (saidFrom at at own) p₁ r₁) where
+    module _ {p₁ : ℕ} {r₁ : List ℕ} (w₁ : Ran room at (saidFrom at at own) p₁ r₁) where
       text-behind-2 : at ≤ p₁
       text-behind-2 = let p : p₁ ≡ at + length (saidFrom at at own) = w₁ .place in omega arith
 
@@ -322,7 +329,7 @@ module _ (t : List ℕ) (n I A e c m o : ℕ) (q : o ≡ only e) (room : List �
       pub text-under-2 : Under p₁ (saidFrom at p₁ held)
       text-under-2 = under-first p₁ (saidFrom at p₁ held) _ (rw (seam at p₁ _ held answers text-behind-2 refl) at rest-under)
 
-      module _ (p₂ : ℕ) (r₂ : List ℕ) (w₂ : Ran r₁ p₁ (saidFrom at p₁ held) p₂ r₂) where
+      module _ {p₂ : ℕ} {r₂ : List ℕ} (w₂ : Ran r₁ p₁ (saidFrom at p₁ held) p₂ r₂) where
         text-behind-3 : at ≤ p₂
         text-behind-3 = let p : p₂ ≡ p₁ + length (saidFrom at p₁ held) = w₂ .place in let b : at ≤ p₁ = text-behind-2 in omega arith
 
@@ -332,8 +339,31 @@ module _ (t : List ℕ) (n I A e c m o : ℕ) (q : o ≡ only e) (room : List �
         pub text-under-3 : Under p₂ (saidFrom at p₂ answers)
         text-under-3 = under-then w₂ _ (rw held-then at rest-under)
 
-        pub text-ran : (p₃ : ℕ) (r₃ : List ℕ) → Ran r₂ p₂ (saidFrom at p₂ answers) p₃ r₃ → Ran room at (packed bytes16 (textBy t n I A e c m)) p₃ r₃
-        text-ran p₃ r₃ w₃ = rw (text-said, own-then, held-then) (ran-then w₁ (ran-then w₂ w₃))
+        pub text-ran : {p₃ : ℕ} {r₃ : List ℕ} → Ran r₂ p₂ (saidFrom at p₂ answers) p₃ r₃ → Ran room at (packed bytes16 (textBy t n I A e c m)) p₃ r₃
+        text-ran w₃ = rw (text-said, own-then, held-then) (ran-then w₁ (ran-then w₂ w₃))
+
+-- by the rows of e in the tables of conditions and milestones
+
+module _ (n : ℕ) (cs ms : List ℕ) (e : ℕ) {c m : ℕ} (p : c ≡ getD cs e 0) (q : m ≡ getD ms e 0) where
+  pub rows-within : TextsIn n cs ms → e < n → (within n c ≡ true) × (within n m ≡ true)
+  rows-within k h = (rw p (k .conditions e h), rw q (k .milestones e h))
+
+  module _ (t : List ℕ) (I A : ℕ) where
+    abbrev byRows : List ℕ
+    byRows = packed bytes16 (textBy t n I A e c m)
+
+    abbrev byTables : List ℕ
+    byTables = packed bytes16 (textsBy t n I A cs ms e)
+
+    rows-same : byRows ≡ byTables
+    unfolding textsBy
+    rows-same = rw (p, q)
+
+    pub rows-under : (at : ℕ) → Under at byTables → Under at byRows
+    rows-under at u = rw rows-same u
+
+    pub rows-ran : {room after : List ℕ} {at next : ℕ} → Ran room at byRows next after → Ran room at byTables next after
+    rows-ran w = rw rows-same at w
 
 -- ---- the sizes of the texts
 

@@ -7,6 +7,7 @@ ghost use lib.Dec.{eqb};
 ghost use lib.ListN.{length, getD, replicate};
 ghost use Rattle.paper.specs.Limits.{maxEvents, maxMarks, maxWords, wordSize};
 ghost use Rattle.sets.specs.Set.{inter, size, within};
+ghost use Rattle.wide.specs.Number.{number, rowsOf};
 ghost use Rattle.wire.specs.Wire.{bytes16};
 ghost use Rattle.general.specs.Lists.{flat, each, total, packed};
 ghost use Rattle.general.specs.Writing.{Fits, Wrote, Ran};
@@ -21,13 +22,15 @@ use paper::MAX_MARKS;
 use paper::NOT;
 use paper::OR;
 use paper::WORD_SIZE;
+use wide::Set;
+use wide::TABLE;
 
 // Words of a run of clauses: one for each mark, "and" behind each but the text's first, and three more for each guard.
-fn clause_words(guards: u64, among: u64, first: bool) -> usize
-    ensures { λ r. ⌜ r ≡ 2 * size among + 3 * size (inter among guards) - cond first 1 0 ⌝ }
+fn clause_words(guards: Set, among: Set, first: bool) -> usize
+    ensures { λ r. ⌜ r ≡ 2 * size (number among) + 3 * size (inter (number among) (number guards)) - cond first 1 0 ⌝ }
 {
-    let guarded = sets::count(among & guards) as usize;
-    let words = 2 * sets::count(among) as usize + 3 * guarded;
+    let guarded = wide::count(wide::meet(among, guards)) as usize;
+    let words = 2 * wide::count(among) as usize + 3 * guarded;
     if !first {
         return words;
     }
@@ -95,13 +98,13 @@ fn put_clauses<'a>(
     start: usize,
     at: usize,
     n: usize,
-    guards: u64,
+    guards: Set,
     base: usize,
-    among: u64,
+    among: Set,
     table: &'a [u16; MAX_MARKS],
 ) -> usize
-    requires { ⌜ (n ≤ maxEvents) × (base ≤ 3 * n) × (start ≤ at) × (within n among ≡ true) × Under at (packed bytes16 (spokenFrom (eqb at start) (clausesBy (now table) n guards base among))) ⌝ }
-    ensures { λ r. ⌜ Ran (now (room .entry)) at (packed bytes16 (spokenFrom (eqb at start) (clausesBy (now (table .entry)) n guards base among))) r (now (room .exit)) ⌝ }
+    requires { ⌜ (n ≤ maxEvents) × (base ≤ 3 * n) × (start ≤ at) × (within n (number among) ≡ true) × Under at (packed bytes16 (spokenFrom (eqb at start) (clausesBy (now table) n (number guards) base (number among)))) ⌝ }
+    ensures { λ r. ⌜ Ran (now (room .entry)) at (packed bytes16 (spokenFrom (eqb at start) (clausesBy (now (table .entry)) n (number guards) base (number among)))) r (now (room .exit)) ⌝ }
 {
     let end = at + WORD_SIZE * clause_words(guards, among, at == start);
     if room.len() < end {
@@ -109,13 +112,13 @@ fn put_clauses<'a>(
     }
     let mut rest = among;
     let mut next = at;
-    while rest != 0 {
-        let f = sets::least(rest) as usize;
-        let kept = sets::member(guards, f);
+    while !wide::is_empty(rest) {
+        let f = wide::least(rest) as usize;
+        let kept = wide::member(guards, f);
         let guard = new_mark(table, 2 * n + f);
         let mark = new_mark(table, base + f);
         next = put_clause(room, start, next, kept, guard, mark);
-        rest = sets::less(rest, sets::one(f));
+        rest = wide::less(rest, wide::one(f));
     }
     next
 }
@@ -125,43 +128,36 @@ pub fn put_text<'a>(
     room: &mut [u8],
     at: usize,
     n: usize,
-    included: u64,
-    answered: u64,
+    included: Set,
+    answered: Set,
     e: usize,
-    conditions: u64,
-    milestones: u64,
+    conditions: Set,
+    milestones: Set,
     table: &'a [u16; MAX_MARKS],
 ) -> usize
-    requires { ⌜ (n ≤ maxEvents) × (e < n) × (within n conditions ≡ true) × (within n milestones ≡ true) × Under at (packed bytes16 (textBy (now table) n included answered e conditions milestones)) ⌝ }
-    ensures { λ r. ⌜ Ran (now (room .entry)) at (packed bytes16 (textBy (now (table .entry)) n included answered e conditions milestones)) r (now (room .exit)) ⌝ }
+    requires { ⌜ (n ≤ maxEvents) × (e < n) × (within n (number conditions) ≡ true) × (within n (number milestones) ≡ true) × Under at (packed bytes16 (textBy (now table) n (number included) (number answered) e (number conditions) (number milestones))) ⌝ }
+    ensures { λ r. ⌜ Ran (now (room .entry)) at (packed bytes16 (textBy (now (table .entry)) n (number included) (number answered) e (number conditions) (number milestones))) r (now (room .exit)) ⌝ }
 {
-    let own = sets::one(e) & included;
-    let a = put_clauses(room, at, at, n, 0, 2 * n, own, table);
+    let own = wide::meet(wide::one(e), included);
+    let asked = wide::meet(milestones, answered);
+    let none = wide::empty();
+    let a = put_clauses(room, at, at, n, none, 2 * n, own, table);
     let b = put_clauses(room, at, a, n, included, n, conditions, table);
-    put_clauses(
-        room,
-        at,
-        b,
-        n,
-        included,
-        3 * n,
-        milestones & answered,
-        table,
-    )
+    put_clauses(room, at, b, n, included, 3 * n, asked, table)
 }
 
 pub fn put_texts<'a>(
     room: &mut [u8],
     at: usize,
     n: usize,
-    included: u64,
-    answered: u64,
-    conditions: &'a [u64; MAX_EVENTS],
-    milestones: &'a [u64; MAX_EVENTS],
+    included: Set,
+    answered: Set,
+    conditions: &'a [u64; TABLE],
+    milestones: &'a [u64; TABLE],
     table: &'a [u16; MAX_MARKS],
 ) -> usize
-    requires { ⌜ (n ≤ maxEvents) × TextsIn n (now conditions) (now milestones) × Under at (packed bytes16 (flat n (textsBy (now table) n included answered (now conditions) (now milestones)))) ⌝ }
-    ensures { λ r. ⌜ Ran (now (room .entry)) at (packed bytes16 (flat n (textsBy (now (table .entry)) n included answered (now (conditions .entry)) (now (milestones .entry))))) r (now (room .exit)) ⌝ }
+    requires { ⌜ (n ≤ maxEvents) × TextsIn n (rowsOf (now conditions)) (rowsOf (now milestones)) × Under at (packed bytes16 (flat n (textsBy (now table) n (number included) (number answered) (rowsOf (now conditions)) (rowsOf (now milestones))))) ⌝ }
+    ensures { λ r. ⌜ Ran (now (room .entry)) at (packed bytes16 (flat n (textsBy (now (table .entry)) n (number included) (number answered) (rowsOf (now (conditions .entry))) (rowsOf (now (milestones .entry)))))) r (now (room .exit)) ⌝ }
 {
     let mut next = at;
     let mut e = 0;
@@ -173,8 +169,8 @@ pub fn put_texts<'a>(
             included,
             answered,
             e,
-            conditions[e],
-            milestones[e],
+            wide::row(conditions, e),
+            wide::row(milestones, e),
             table,
         );
         e += 1;
@@ -185,14 +181,14 @@ pub fn put_texts<'a>(
 // How many words the text of each event has: the same run, with no room to write into.
 pub fn text_sizes<'a>(
     n: usize,
-    included: u64,
-    answered: u64,
-    conditions: &'a [u64; MAX_EVENTS],
-    milestones: &'a [u64; MAX_EVENTS],
+    included: Set,
+    answered: Set,
+    conditions: &'a [u64; TABLE],
+    milestones: &'a [u64; TABLE],
     table: &'a [u16; MAX_MARKS],
 ) -> [usize; MAX_EVENTS]
-    requires { ⌜ (n ≤ maxEvents) × TextsIn n (now conditions) (now milestones) × Under 0 (packed bytes16 (flat n (textsBy (now table) n included answered (now conditions) (now milestones)))) ⌝ }
-    ensures { λ r. ⌜ r ≡ each n (λ e. length (textsBy (now (table .entry)) n included answered (now (conditions .entry)) (now (milestones .entry)) e)) ++ replicate (maxEvents - n) 0 ⌝ }
+    requires { ⌜ (n ≤ maxEvents) × TextsIn n (rowsOf (now conditions)) (rowsOf (now milestones)) × Under 0 (packed bytes16 (flat n (textsBy (now table) n (number included) (number answered) (rowsOf (now conditions)) (rowsOf (now milestones))))) ⌝ }
+    ensures { λ r. ⌜ r ≡ each n (λ e. length (textsBy (now (table .entry)) n (number included) (number answered) (rowsOf (now (conditions .entry))) (rowsOf (now (milestones .entry))) e)) ++ replicate (maxEvents - n) 0 ⌝ }
 {
     let mut sizes = [0usize; MAX_EVENTS];
     let mut none = [0u8; 1];
@@ -205,8 +201,8 @@ pub fn text_sizes<'a>(
             included,
             answered,
             e,
-            conditions[e],
-            milestones[e],
+            wide::row(conditions, e),
+            wide::row(milestones, e),
             table,
         );
         sizes[e] = bytes / WORD_SIZE;

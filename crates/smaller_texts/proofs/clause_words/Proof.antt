@@ -8,5 +8,15 @@ pub clause-words-spec : {M : Type 1} → statement M
 clause-words-spec =
     tie.close
     (tie.spec
-    (λ c κs. search needs) (λ c. search needs) (λ c κs. search needs) (λ c. search needs) (λ c. search needs) (λ c. search needs) (λ c. search needs)
-    (λ c. search words-later) (λ c. search words-none) (λ c. search needs) (λ c. search words-first))
+    (λ c κs. search needs)
+    (λ c κs. search needs)
+    (λ c. search needs)
+    (λ c κs. search needs)
+    (λ c. search needs)
+    (λ c. search needs)
+    (λ c. search needs)
+    (λ c. search needs)
+    (λ c. search words-later)
+    (λ c. search words-none)
+    (λ c. search needs)
+    (λ c. search words-first))

@@ -1,15 +1,17 @@
 -- `smaller_texts::put_texts` meets its contract. Assumes nothing.
 use Prim.Native.Nat.{_-_}
+use Rattle.wide.specs.Number.{number, rowsOf}
 use Rattle.wire.specs.Wire.{bytes16}
 use Rattle.smaller.specs.Runs.{textsBy}
 use Rattle.smaller.specs.Loops.{Upto, upto-start, upto-under, upto-more, upto-done}
+use Rattle.smaller_texts.proofs.Texts.{rows-within, rows-under, rows-ran}
 use borrow.Author.Needs.{needs}
 use Rattle.smaller_texts.proofs.put_texts.Statement.{statement}
 use Rattle.smaller_texts.proofs.put_texts.Tie as tie
 
 abbrev Inv-loop : tie.InvT-loop
 Inv-loop room₀ at n included answered conditions milestones table next₀ e₀ room next e = Upto bytes16
-    (textsBy table n included answered conditions milestones) n room₀ at e next room
+    (textsBy table n (number included) (number answered) (rowsOf conditions) (rowsOf milestones)) n room₀ at e next room
 
 abbrev μ-loop : tie.MeasureT-loop
 μ-loop room₀ at n included answered conditions milestones table next₀ e₀ room next e = n - e
@@ -21,17 +23,21 @@ put-texts-spec =
     Inv-loop
     μ-loop
     (λ c. search upto-start)
-    (λ c. search needs) (λ c. search needs) (λ c. search needs) (λ c. search needs)
-    (λ c κs. unfold textsBy in (
+    (λ c κs. search needs)
+    (λ c κs. search needs)
+    (λ c κs. let w = rows-within _ _ _ _ (c .before .row .ensures) (c .row2 .ensures) (c .before .before .before .before .before .before .pre .1)
+    (c .before .before .before .loop-test .taken) in (
       c .before .before .before .before .before .before .pre .0,
       c .before .before .before .loop-test .taken,
-      c .before .before .before .before .before .before .pre .1 .conditions _ (c .before .before .before .loop-test .taken),
-      c .before .before .before .before .before .before .pre .1 .milestones _ (c .before .before .before .loop-test .taken),
-      upto-under _ _ _ _ _ _ _ _ (c .before .before .before .before .loop .inv) (c .before .before .before .loop-test .taken)
-          (c .before .before .before .before .before .before .pre .2),
+      w .0,
+      w .1,
+      rows-under _ _ _ _ (c .before .row .ensures) (c .row2 .ensures) _ _ _ _ (upto-under _ _ _ _ _ _ _ _ (c .before .before .before .before .loop .inv)
+          (c .before .before .before .loop-test .taken) (c .before .before .before .before .before .before .pre .2)),
     ))
-    (λ c. search needs) (λ c. search needs)
-    (λ c. unfold textsBy in upto-more _ _ _ _ _ _ _ _ (c .before .before .before .before .before .before .before .loop .inv) _ _
-    (c .before .before .before .before .before .before .loop-test .taken) (c .before .before .put-text .ensures))
     (λ c. search needs)
+    (λ c. search needs)
+    (λ c. upto-more _ _ _ _ _ _ _ _ (c .before .before .before .before .before .before .before .loop .inv) _ _
+    (c .before .before .before .before .before .before .loop-test .taken) (rows-ran _ _ _ _ (c .before .before .before .before .row .ensures)
+    (c .before .before .before .row2 .ensures) _ _ _ (c .before .before .put-text .ensures)))
+    (λ c. c .before .loop .inv .ran .long)
     (λ c. search upto-done))

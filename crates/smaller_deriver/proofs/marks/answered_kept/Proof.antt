@@ -8,5 +8,6 @@ pub answered-kept-spec : {M : Type 1} → statement M
 answered-kept-spec =
     tie.close
     (tie.spec
-    (λ c κs. search needs) (λ c κs. search needs)
+    (λ c κs. search needs)
+    (λ c κs. search needs)
     (λ c. unfold answeredBy in rw (c .join .ensures, c .before .union-upto .ensures)))
