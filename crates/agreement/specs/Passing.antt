@@ -11,7 +11,7 @@ use Rattle.paper.specs.Limits.{maxEvents}
 use Rattle.general.specs.Cases.{contra, cases, either}
 use Rattle.sets.specs.Set.{has}
 use Rattle.flat_chart.specs.Chart.{setOf, condition, response, milestone, include, exclude}
-use Rattle.flat_chart.specs.declared.FlatChart.{FlatChart}
+use Rattle.flat_chart.specs.Flat.{FlatChart}
 use Rattle.book.specs.Text.{elem}
 use Rattle.book.specs.Book.{ruleOf, textOf, noRule}
 use Rattle.book.specs.Effects.{beq-refl}

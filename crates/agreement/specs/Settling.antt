@@ -11,8 +11,8 @@ use Rattle.sets.specs.Set.{has, minus, only}
 use Rattle.sets.specs.Laws.{has-union, has-minus, has-only}
 use Rattle.flat_chart.specs.Chart.{setOf, response, include, exclude, Fit}
 use Rattle.graph.specs.Steps.{after, afterWith}
-use Rattle.flat_chart.specs.declared.FlatChart.{FlatChart}
-use Rattle.graph.specs.declared.Marking.{Marking}
+use Rattle.flat_chart.specs.Flat.{FlatChart}
+use Rattle.graph.specs.Flat.{Marking}
 use Rattle.book.specs.Text.{holds}
 use Rattle.book.specs.Book.{textOf, noRule}
 use Rattle.book.specs.Firing.{fires, triggered, allowed}

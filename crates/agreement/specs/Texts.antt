@@ -13,8 +13,8 @@ use Rattle.sets.specs.Set.{has, inter}
 use Rattle.sets.specs.Laws.{has-inter, has-minus, has-empty, none-zero}
 use Rattle.flat_chart.specs.Chart.{setOf, condition, milestone, In, Fit}
 use Rattle.graph.specs.Steps.{isOpen, openWith, unmetOf, awaitedOf}
-use Rattle.flat_chart.specs.declared.FlatChart.{FlatChart}
-use Rattle.graph.specs.declared.Marking.{Marking}
+use Rattle.flat_chart.specs.Flat.{FlatChart}
+use Rattle.graph.specs.Flat.{Marking}
 use Rattle.book.specs.Text.{Snap, push, top1, top2, eval, top, holds}
 use Rattle.general.specs.Lists.{flat}
 use Rattle.deriver.specs.Matching.{markOf}

@@ -15,8 +15,8 @@ use Rattle.graph.specs.Execution.{Enabled, BothSets, Stands}
 use Rattle.graph.specs.Opening.{Blocks, sets-exact, wanting-told, awaiting-told, others-empty, opened-enabled}
 use Rattle.graph.specs.Opening.{Cleared, clear, clear-cleared, cleared-open, each-needed, counted-by-test}
 use Rattle.graph.specs.HandedOn.{step-tests, step-exact, step-hands, step-others-empty, executingThen, leftOut, step-as-then}
-use Rattle.flat_chart.specs.declared.FlatChart.{FlatChart}
-use Rattle.graph.specs.declared.Marking.{Marking}
+use Rattle.flat_chart.specs.Flat.{FlatChart}
+use Rattle.graph.specs.Flat.{Marking}
 use Rattle.replay.specs.Recorded.{Entry, recordOf}
 use Rattle.replay.specs.Replaying.{replaying, striking, without}
 use Rattle.replay.specs.Table.{replay-blocked, replay-others, strike-sets}

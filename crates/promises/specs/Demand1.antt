@@ -18,14 +18,12 @@ use Rattle.graph.specs.Fitness.{fit}
 use Rattle.graph.specs.Steps.{opening, executing, counting, finishing}
 use Rattle.graph.specs.Execution.{Executes, executes, executes-only, refused-kept, counts, count-refused, finish-refused}
 use Rattle.graph.specs.Opening.{Opens, opens, opens-only, Blocks, others-empty}
-use Rattle.flat_chart.specs.declared.FlatChart.{FlatChart}
-use Rattle.graph.specs.declared.Marking.{Marking}
-use Rattle.graph.specs.declared.steps.OpenTest.{OpenTest}
-use Rattle.graph.specs.declared.steps.Step.{Step}
+use Rattle.flat_chart.specs.Flat.{FlatChart}
+use Rattle.graph.specs.Flat.{Marking, OpenTest, Step}
 use Rattle.graph.specs.declared.steps.OpenCount.{OpenCount}
 use Rattle.graph.specs.declared.steps.Finished.{Finished}
 use Rattle.chart.specs.Reading.{reading, refused}
-use Rattle.chart.specs.declared.Reading.{Reading}
+use Rattle.chart.specs.Flat.{Reading}
 use Rattle.chart.specs.Outcome.{Outcome, outcome, judged}
 use Rattle.chart.specs.ReadingGives.{refused-empty, never-nine}
 use Rattle.order_theory.specs.Order.{countedRules}
@@ -48,11 +46,10 @@ use Rattle.indexed_list.specs.InList.{grantedOf, reached, lookedIn, stopping, p
 use Rattle.indexed_list.specs.ListTable.{Lists, lists, lists-is, list-answer, before-hands-back, within-hands-back}
 use Rattle.replay.specs.Replaying.{replaying, striking, untold}
 use Rattle.replay.specs.Table.{Replays, replays, replays-only, replay-kept, Strikes, strikes, strikes-only, strike-kept}
-use Rattle.replay.specs.declared.Replayed.{Replayed}
-use Rattle.replay.specs.declared.Struck.{Struck}
+use Rattle.replay.specs.Flat.{Replayed, Struck}
 use Rattle.read_back.specs.ReadingBack.{readingBack}
 use Rattle.read_back.specs.Table.{ReadsBack, reads-back, reads-back-is, refused-back}
-use Rattle.read_back.specs.declared.ReadBack.{ReadBack}
+use Rattle.read_back.specs.Flat.{ReadBack}
 use Rattle.mend.specs.Calling.{mending}
 use Rattle.mend.specs.Table.{Mends, mends, mends-only, Written, mend-written, Kept, mend-kept}
 use Rattle.promises.specs.Tables as table
@@ -134,7 +131,7 @@ pub record Demand1 : Type 0 where
   pub execute : (c : FlatChart) (m : Marking) (e r : ℕ) → Executes c m e r (executing c m e r)
   pub executeOnly : (c : FlatChart) (m : Marking) (e r : ℕ) (s : Step) → Executes c m e r s → s ≡ executing c m e r
   pub executeRefused : (c : FlatChart) (m : Marking) (e r : ℕ) → (executing c m e r .answer .code ≡ 0 → ⊥) → executing c m e r .marking ≡ m
-  -- counting: 14; a refused count is 0 and 64
+  -- counting: 14; a refused count is 0 and 256
   pub count : (c : FlatChart) (m : Marking) → CountsOpen c m (counting c m)
   pub countOnly : (c : FlatChart) (m : Marking) (r : OpenCount) → CountsOpen c m r → r ≡ counting c m
   pub countGranted : (c : FlatChart) (m : Marking) → Fit c → FitMarking (c .count) m → counting c m .answer ≡ granted

@@ -20,8 +20,8 @@ use Rattle.flat_chart.specs.Roles.{Permits}
 use Rattle.flat_chart.specs.Fitness.{fit-tested}
 use Rattle.graph.specs.Steps.{isOpen, after, executing, refusing, granting}
 use Rattle.graph.specs.Execution.{Enabled, isForbidden, isDone, open-enabled, granted-enabled, after-executed, executes-only, refused-kept, after-fit, step-fit}
-use Rattle.flat_chart.specs.declared.FlatChart.{FlatChart}
-use Rattle.graph.specs.declared.Marking.{Marking}
+use Rattle.flat_chart.specs.Flat.{FlatChart}
+use Rattle.graph.specs.Flat.{Marking}
 use Rattle.book.specs.Text.{Snap, snapOf}
 use Rattle.book.specs.Book.{Book}
 use Rattle.book.specs.Image.{bookOf, stagesIn, marksIn}

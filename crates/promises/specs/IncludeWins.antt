@@ -17,9 +17,8 @@ use Rattle.graph.specs.Before.{Apart, fitChartThen, fitThen, chart-as-then, fit
 use Rattle.graph.specs.Steps.{refusing, steppingBy, executing, after}
 use Rattle.graph.specs.Execution.{Executed, granted-executed}
 use Rattle.graph.specs.Overruled.{inclusion-wins, exclusion-stands, standing, standing-fit, standing-steps}
-use Rattle.flat_chart.specs.declared.FlatChart.{FlatChart}
-use Rattle.graph.specs.declared.Marking.{Marking}
-use Rattle.graph.specs.declared.steps.Step.{Step}
+use Rattle.flat_chart.specs.Flat.{FlatChart}
+use Rattle.graph.specs.Flat.{Marking, Step}
 use Rattle.chart.specs.Reading.{reading, grantedReading}
 use Rattle.chart.specs.ReadingGives.{never-nine}
 use Rattle.chart.specs.Before.{readingThen, reads-as-then, nine-taken, apart-then}

@@ -18,4 +18,5 @@ pub mod ReadBack
 pub mod OneChart
 pub mod Smaller
 pub mod SmallerBooks
+pub mod Larger
 pub mod Rows

@@ -11,8 +11,8 @@ use Rattle.graph.specs.Fitness.{FitMarking}
 use Rattle.flat_chart.specs.Roles.{Permits}
 use Rattle.graph.specs.Steps.{executing}
 use Rattle.graph.specs.Execution.{granted-enabled}
-use Rattle.flat_chart.specs.declared.FlatChart.{FlatChart}
-use Rattle.graph.specs.declared.Marking.{Marking}
+use Rattle.flat_chart.specs.Flat.{FlatChart}
+use Rattle.graph.specs.Flat.{Marking}
 use Rattle.order_theory.specs.Order as order
 use Rattle.book.specs.Image.{bookOf}
 use Rattle.book.specs.declared.Snapshot.{Snapshot}

@@ -21,7 +21,7 @@ use Rattle.graph.specs.Steps.{unmetOf, awaitedOf, afterWith, stepping, stepping
 use Rattle.flat_chart.specs.Tests.{rowSpill, spillAt, spillOf, rolesFrom, fitTables, fitChart}
 use Rattle.graph.specs.Fitness.{fit-both}
 use Rattle.graph.specs.Examples.{none, marking}
-use Rattle.flat_chart.specs.declared.FlatChart.{FlatChart}
+use Rattle.flat_chart.specs.Flat.{FlatChart}
 use Rattle.order_theory.specs.Order.{countedRules}
 use Rattle.book.specs.Text.{Snap, snapOf}
 use Rattle.book.specs.Book.{Book, noRule}

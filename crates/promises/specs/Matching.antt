@@ -18,8 +18,8 @@ use Rattle.graph.specs.Fitness.{FitMarking, fit}
 use Rattle.graph.specs.Fitness.{fit-both, both-fit}
 use Rattle.graph.specs.Steps.{isOpen}
 use Rattle.graph.specs.Execution.{Enabled, open-enabled}
-use Rattle.flat_chart.specs.declared.FlatChart.{FlatChart}
-use Rattle.graph.specs.declared.Marking.{Marking}
+use Rattle.flat_chart.specs.Flat.{FlatChart}
+use Rattle.graph.specs.Flat.{Marking}
 use Rattle.book.specs.Text.{snapOf}
 use Rattle.general.specs.Lists.{each, length-each}
 use Rattle.derived.specs.Derived.{executedMark, includedMark, answeredMark}

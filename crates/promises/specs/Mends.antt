@@ -27,7 +27,7 @@ pub record Mending : Type 0 where
   -- "write one that is accepted and a list of the changes": what a granted call leaves in its rooms, and what the reader says of the chart
   pub written : (image chart list : List ℕ) → mendAnswer image (length chart) (length list) .code ≡ 0
       → Written image chart list × (reading (mendedImage image) .answer ≡ granted)
-  -- granted exactly if the header passes, at most 64 events remain, and both rooms are long enough
+  -- granted exactly if the header passes, at most 256 events remain, and both rooms are long enough
   pub exactly : (image chart list : List ℕ) → (mendAnswer image (length chart) (length list) .code ≡ 0)
       ↔ (Mendable image × (length (mendedImage image) ≤ length chart) × (length (listBytes image) ≤ length list))
   -- "the number of entries, 0 if refused", and no byte of either room is written

@@ -17,9 +17,8 @@ use Rattle.graph.specs.Fitness.{fit}
 use Rattle.flat_chart.specs.Fitness.{fit-tested}
 use Rattle.graph.specs.Steps.{stepping, steppingBy, testing, executing}
 use Rattle.graph.specs.Overruled.{standing}
-use Rattle.flat_chart.specs.declared.FlatChart.{FlatChart}
-use Rattle.graph.specs.declared.Marking.{Marking}
-use Rattle.graph.specs.declared.steps.Step.{Step}
+use Rattle.flat_chart.specs.Flat.{FlatChart}
+use Rattle.graph.specs.Flat.{Marking, Step}
 use Rattle.chart.specs.Reading.{reading}
 use Rattle.chart.specs.ReadingGives.{reading-fit}
 use Rattle.book.specs.Image.{bookOf}

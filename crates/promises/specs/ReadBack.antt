@@ -10,7 +10,7 @@ use Rattle.paper.specs.Answers.{granted}
 use Rattle.paper.specs.declared.Answer.{Answer}
 use Rattle.flat_chart.specs.Chart.{Kind, table, Fit}
 use Rattle.graph.specs.Overruled.{standing}
-use Rattle.flat_chart.specs.declared.FlatChart.{FlatChart}
+use Rattle.flat_chart.specs.Flat.{FlatChart}
 use Rattle.chart.specs.Reading.{reading}
 use Rattle.chart.specs.ReadingGives.{reading-fit}
 use Rattle.judge.specs.Checking.{BookPasses}
@@ -19,7 +19,7 @@ use Rattle.deriver.specs.Deriving.{derivedImage, derivingAnswer}
 use Rattle.gathering.specs.Behind.{Sized, bare, bare-same, bare-table}
 use Rattle.read_back.specs.ReadingBack.{readingBack}
 use Rattle.read_back.specs.Table.{Writes, readBack, back-granted, granted-back, granted-roles, foreign-told, told-foreign}
-use Rattle.read_back.specs.declared.ReadBack.{ReadBack}
+use Rattle.read_back.specs.Flat.{ReadBack}
 use Rattle.promises.specs.Demand2.{passes, written, granted-bytes}
 
 -- what derive writes for a chart that was read, read back, and derived again, each into room enough

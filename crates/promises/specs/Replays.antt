@@ -16,9 +16,8 @@ use Rattle.graph.specs.Fitness.{FitMarking}
 use Rattle.graph.specs.Fitness.{fit-both, fit}
 use Rattle.graph.specs.Steps.{executing}
 use Rattle.graph.specs.Execution.{Executes, isUnfit, isGone, isForbidden, isExcluded, isWanting, isAwaiting, isDone, executes, refused-kept, finished-when}
-use Rattle.flat_chart.specs.declared.FlatChart.{FlatChart}
-use Rattle.graph.specs.declared.Marking.{Marking}
-use Rattle.graph.specs.declared.steps.Step.{Step}
+use Rattle.flat_chart.specs.Flat.{FlatChart}
+use Rattle.graph.specs.Flat.{Marking, Step}
 use Rattle.deriver.specs.Deriving.{derivedImage}
 use Rattle.deriver.specs.Matching.{matchingOf}
 use Rattle.index_builder.specs.Building.{indexOf}

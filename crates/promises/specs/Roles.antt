@@ -22,14 +22,14 @@ use Rattle.flat_chart.specs.Roles.{Permits, permits-so}
 use Rattle.graph.specs.Steps.{refusing, executing}
 use Rattle.graph.specs.Execution.{granted-enabled, executes-only, isForbidden, refused-kept}
 use Rattle.graph.specs.HandedOn.{StepThen, refusingThen, steppingThen, steppingByThen, executingThen, leftOut, step-as-then}
-use Rattle.flat_chart.specs.declared.FlatChart.{FlatChart}
-use Rattle.graph.specs.declared.Marking.{Marking}
+use Rattle.flat_chart.specs.Flat.{FlatChart}
+use Rattle.graph.specs.Flat.{Marking}
 use Rattle.flattening.specs.Flattening.{flatChart}
 use Rattle.chart.specs.Reading.{reading}
 use Rattle.chart.specs.ReadingGives.{Names, granted-right, reading-names, reading-fit}
 use Rattle.chart.specs.Before.{apart-then}
 use Rattle.chart.specs.Stored.{Plain, readingBefore, then-as-before, reads-as-before, all-open}
-use Rattle.chart.specs.declared.Reading.{Reading}
+use Rattle.chart.specs.Flat.{Reading}
 
 -- ---- along a sequence of steps, each an event and a role: no step of event e by role r is granted, and none changes the marking
 abbrev pub NeverBy : FlatChart → ℕ → ℕ → Marking → List (ℕ × ℕ) → Type 0

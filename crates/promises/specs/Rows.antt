@@ -1,5 +1,5 @@
 -- The settled examples P1 to P12 as rows under one theorem. Assumes nothing.
-use Prim.Native.Nat.{ℕ, zero, suc, _+_, _*_, _≤_, _<_}
+use Prim.Native.Nat.{ℕ, zero, suc, _+_, _-_, _*_, _≤_, _<_}
 use mathlib.Core.Path.{_≡_, refl, sym, ap, ap₂, subst, _∙_}
 use mathlib.Core.Bool.{true, false}
 use mathlib.Core.List.{List, [], _∷_}
@@ -26,11 +26,11 @@ use Rattle.graph.specs.Steps.{openWith, unmetOf, awaitedOf, afterWith, testing,
 use Rattle.graph.specs.Execution.{holding}
 use Rattle.graph.specs.Examples.{none, pair, marking}
 use Rattle.graph.specs.Examples as graph
-use Rattle.flat_chart.specs.declared.FlatChart.{FlatChart}
-use Rattle.graph.specs.declared.Marking.{Marking}
+use Rattle.flat_chart.specs.Flat.{FlatChart}
+use Rattle.graph.specs.Flat.{Marking}
 use Rattle.chart.specs.Reading.{reading}
 use Rattle.chart.specs.ReadingGives.{reading-fit}
-use Rattle.chart.specs.declared.Reading.{Reading}
+use Rattle.chart.specs.Flat.{Reading}
 use Rattle.chart.specs.Examples.{wholeChart, groupChart, bothChart, bothReading}
 use Rattle.chart.specs.Examples as examples
 use Rattle.book.specs.Text.{snapOf}
@@ -64,7 +64,7 @@ use Rattle.runner.specs.declared.Completion.{Completion}
 use Rattle.gathering.specs.Behind.{bare}
 use Rattle.read_back.specs.ReadingBack.{readingBack}
 use Rattle.read_back.specs.Table.{readBack}
-use Rattle.read_back.specs.declared.ReadBack.{ReadBack}
+use Rattle.read_back.specs.Flat.{ReadBack}
 use Rattle.promises.specs.Matching.{matched, marks-whole}
 use Rattle.promises.specs.Demand2.{derived-passes, stages-are, Alike, written, ordered, Demand2, demand-2}
 use Rattle.promises.specs.Demand1.{demand-1}
@@ -120,7 +120,7 @@ module _ (r : Reading) where
   pub record BySmaller (bytes : List ℕ) : Type 0 where
     pub derives : derivingSmaller (r .chart) (r .marking) (length bytes) .answer ≡ granted
     pub book : bookOf (writtenSmaller (r .chart) (r .marking) bytes) ≡ paperSmaller
-    pub table : derivingSmaller (r .chart) (r .marking) (length bytes) .table ≡ 0 ∷ (1 ∷ (2 ∷ (noMark ∷ (3 ∷ (noMark ∷ (noMark ∷ (4 ∷ replicate 248 noMark)))))))
+    pub table : derivingSmaller (r .chart) (r .marking) (length bytes) .table ≡ 0 ∷ (1 ∷ (2 ∷ (noMark ∷ (3 ∷ (noMark ∷ (noMark ∷ (4 ∷ replicate (maxMarks - 8) noMark)))))))
 
 pub record Rows : Type 0 where
   -- the chart of the paper, byte for byte, is the one that it describes, and its derived book is the paper's listing
@@ -137,7 +137,7 @@ pub record Rows : Type 0 where
   pub p5 : executing (pair (set none 1 1) none none) (marking 0 0 2) 1 0 ≡ granting (marking 2 0 2)
   pub p6 : executing (pair none none (set none 1 1)) (marking 0 1 2) 1 0 ≡ granting (marking 2 1 2)
   -- "P7: group 0 with members 1, 2 is condition of 3: events 0 and 1 are conditions of 2."
-  pub p7 : (reading groupChart .answer ≡ granted) × (reading groupChart .chart .conditions ≡ 0 ∷ (0 ∷ (3 ∷ replicate 61 0)))
+  pub p7 : (reading groupChart .answer ≡ granted) × (reading groupChart .chart .conditions ≡ 0 ∷ (0 ∷ (3 ∷ replicate (maxEvents - 3) 0)))
   -- request (ix): the paper's chart read back from its book; and of P8's chart the exclusions, of which no inclusion overrules one: there are none
   pub back : readingBack (derivedImage paperChart) ≡ readBack granted paperChart
   pub backBoth : readingBack (derivedImage (bothReading .chart)) .chart .excludes ≡ replicate maxEvents 0

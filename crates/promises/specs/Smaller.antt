@@ -20,9 +20,8 @@ use Rattle.graph.specs.Fitness.{FitMarking}
 use Rattle.flat_chart.specs.Roles.{Permits}
 use Rattle.graph.specs.Steps.{after, executing, finishing}
 use Rattle.graph.specs.Execution.{isDone, granted-enabled, after-executed, executes-only, refused-kept, after-fit, finished-when}
-use Rattle.flat_chart.specs.declared.FlatChart.{FlatChart}
-use Rattle.graph.specs.declared.Marking.{Marking}
-use Rattle.graph.specs.declared.steps.Step.{Step}
+use Rattle.flat_chart.specs.Flat.{FlatChart}
+use Rattle.graph.specs.Flat.{Marking, Step}
 use Rattle.book.specs.Text.{Snap, snapOf}
 use Rattle.book.specs.Book.{Book}
 use Rattle.book.specs.Image.{bookOf, stagesIn, marksIn}

@@ -18,8 +18,8 @@ use Rattle.general.specs.Lists.{All, length-each}
 use Rattle.flat_chart.specs.Chart.{Fit}
 use Rattle.graph.specs.Fitness.{FitMarking}
 use Rattle.graph.specs.Fitness.{both-fit}
-use Rattle.flat_chart.specs.declared.FlatChart.{FlatChart}
-use Rattle.graph.specs.declared.Marking.{Marking}
+use Rattle.flat_chart.specs.Flat.{FlatChart}
+use Rattle.graph.specs.Flat.{Marking}
 use Rattle.book.specs.Text.{snapOf}
 use Rattle.book.specs.Book.{Book}
 use Rattle.book.specs.Image.{bookOf, stagesIn, marksIn}
@@ -75,7 +75,7 @@ module _ (c : FlatChart) (m : Marking) (bytes : List ℕ) where
     pub derives : derivingSmaller c m (length bytes) .answer ≡ granted
     pub writes : writtenSmaller ≡ smallerImage c m
     pub reads : bookOf writtenSmaller ≡ smallerBook c m
-    -- "a handed-back table of 256 new mark numbers, 65,535 for a dropped or absent mark"
+    -- "a handed-back table of .. new mark numbers, 65,535 for a dropped or absent mark"; request (xiv): "gets 1,024 places"
     pub places : length (derivingSmaller c m (length bytes) .table) ≡ maxMarks
     pub absent : (k : ℕ) → 4 * c .count ≤ k → numberOf k ≡ noMark
     -- which go: no stage; "Executed e goes if e is a condition of nothing."

@@ -19,8 +19,8 @@ use Rattle.flat_chart.specs.Tests.{fitChart}
 use Rattle.flat_chart.specs.Fitness.{fit-chart, fit-tested}
 use Rattle.graph.specs.Steps.{isOpen, counting, finishing}
 use Rattle.graph.specs.Execution.{Enabled, open-enabled, Counts, counts, count-refused, finish-refused}
-use Rattle.flat_chart.specs.declared.FlatChart.{FlatChart}
-use Rattle.graph.specs.declared.Marking.{Marking}
+use Rattle.flat_chart.specs.Flat.{FlatChart}
+use Rattle.graph.specs.Flat.{Marking}
 use Rattle.graph.specs.declared.steps.OpenCount.{OpenCount}
 use Rattle.graph.specs.declared.steps.Finished.{Finished}
 use Rattle.deriver.specs.Deriving.{derivedImage, derivingAnswer}
@@ -42,7 +42,7 @@ module _ (c : FlatChart) (m : Marking) where
   abbrev counted : Answer → ℕ → ℕ → OpenCount
   counted a n e = record { answer = a; count = n; lowest = e }
 
-  -- "A call reports the number of open events and the lowest-numbered one (64 if none)."; "a refused count 0 and 64"
+  -- "A call reports the number of open events and the lowest-numbered one"; request (xiv): ""No open event" is reported as 256, by a refused count too."
   pub data CountsOpen : OpenCount → Type 0 where
     isUnfit : Unfit → CountsOpen (record { answer = refusal unfit; count = 0; lowest = maxEvents })
     isNone : Fit c → FitMarking (c .count) m → ((e : ℕ) → Enabled c m e → ⊥) → CountsOpen (record { answer = granted; count = 0; lowest = maxEvents })
