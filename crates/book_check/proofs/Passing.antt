@@ -12,8 +12,8 @@ use Rattle.book.specs.declared.Counts.{Counts}
 use Rattle.rule_order.specs.Nets.{rulesOf, few-count}
 use Rattle.judge.specs.Checking.{CheckPasses, checking, passed-is}
 
-pub passes : (s : List ℕ) (stage room : ℕ) (a : Answer) → a ≡ checking s stage room → a .code ≡ 0 → CheckPasses s stage room
-passes s stage room a p q = passed-is s stage room (rw p at q)
+pub passes : (s : List ℕ) (stage room : ℕ) (a : Answer) → room ≡ maxRules → a ≡ checking s stage room → a .code ≡ 0 → CheckPasses s stage maxRules
+passes s stage room a e p q = rw e at (passed-is s stage room (rw p at q))
 
 pub rules-said : (s : List ℕ) (h : Counts) → h ≡ countsOf s → h .rules ≡ rulesIn s
 rules-said s h q = rw q

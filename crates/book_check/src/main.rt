@@ -1,6 +1,7 @@
 // Reads a stage's number (32 bits) and a rule book from standard input, checks the book for the stage, and prints the answer, and of a
 // book that passes the counts and that stage's running order.
 ghost use Prim.Native.Nat.{_<_, _≤_};
+ghost use lib.ListN.{length};
 ghost use Rattle.paper.specs.Limits.{maxRules};
 ghost use Rattle.judge.specs.Checking.{CheckPasses};
 use libc::STDIN_FILENO;
@@ -24,12 +25,12 @@ const INPUT: usize = STAGE
     + WORD_SIZE * MAX_WORDS
     + 1;
 
-fn wide(n: u16) -> u64 {
+fn wide(n: u32) -> u64 {
     n as u64
 }
 
 // The first numbers of the room, which are the running order, behind the word `order`.
-fn order_line(buffer: &mut [u8; ROOM], at: usize, order: &[u16; MAX_RULES], rules: usize) -> usize
+fn order_line(buffer: &mut [u8; ROOM], at: usize, order: &[u32; MAX_RULES], rules: usize) -> usize
     requires { ⌜ (at < 4096) × (rules ≤ maxRules) ⌝ }
     ensures { λ r. ⌜ r < 4096 ⌝ }
 {
@@ -48,7 +49,7 @@ fn passed_lines(
     at: usize,
     book: &[u8],
     stage: u32,
-    order: &[u16; MAX_RULES],
+    order: &[u32; MAX_RULES],
 ) -> usize
     requires { ⌜ (at < 4096) × (CheckPasses (now book) stage maxRules) ⌝ }
     ensures { λ r. ⌜ r < 4096 ⌝ }
@@ -67,26 +68,37 @@ fn passed_lines(
     order_line(buffer, a, order, counted)
 }
 
-fn report(book: &[u8], stage: u32) {
-    let mut order = [0u16; MAX_RULES];
-    let answer = judge::check(book, stage, &mut order);
+fn report(book: &[u8], stage: u32, order: &mut [u32; MAX_RULES]) {
+    let answer = judge::check(book, stage, order);
     let mut buffer = [0u8; ROOM];
     let at = printing::answer(&mut buffer, 0, b"checked", answer);
     if answer.code != 0 {
         printing::finish(buffer, at);
         return;
     }
-    let end = passed_lines(&mut buffer, at, book, stage, &order);
+    let end = passed_lines(&mut buffer, at, book, stage, order);
     printing::finish(buffer, end);
+}
+
+// The stage and the book behind it, of which so many bytes were read.
+fn check_read(input: &[u8], n: usize, order: &mut [u32; MAX_RULES])
+    requires { ⌜ n ≤ length (now input) ⌝ }
+{
+    if n < STAGE {
+        report(b"", 0, order);
+        return;
+    }
+    let stage = wire::u32_at(input, 0);
+    report(&input[STAGE..n], stage, order);
+}
+
+fn check_input(input: &mut [u8; INPUT], order: &mut [u32; MAX_RULES]) {
+    let n = io::read_full(STDIN_FILENO, input);
+    check_read(input, n, order);
 }
 
 fn main() {
     let mut input = [0u8; INPUT];
-    let n = io::read_full(STDIN_FILENO, &mut input);
-    if n < STAGE {
-        report(b"", 0);
-        return;
-    }
-    let stage = wire::u32_at(&input, 0);
-    report(&input[STAGE..n], stage);
+    let mut order = [0u32; MAX_RULES];
+    check_input(&mut input, &mut order);
 }

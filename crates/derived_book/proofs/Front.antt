@@ -9,7 +9,7 @@ use lib.Seq.{take-append-seam}
 use Rattle.paper.specs.declared.Answer.{Answer}
 use Rattle.general.specs.Cases.{cases}
 use Rattle.wire.specs.Laws.{u32-first}
-use Rattle.flat_chart.specs.declared.FlatChart.{FlatChart}
+use Rattle.flat_chart.specs.Flat.{FlatChart}
 use Rattle.flat_chart.specs.Chart.{Fit}
 use Rattle.flat_chart.specs.Tests.{fitChart}
 use Rattle.flat_chart.specs.Fitness.{tested-fit}

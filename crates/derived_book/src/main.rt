@@ -3,6 +3,7 @@ ghost use Prim.Native.Nat.{_≤_};
 ghost use mathlib.Core.Path.{_≡_};
 ghost use lib.ListN.{length, take};
 ghost use Rattle.paper.specs.Limits.{bookHeader};
+ghost use Rattle.flat_chart.specs.Numbers.{flatOf};
 ghost use Rattle.book.specs.Image.{rulesIn, conditionsIn, wordsIn, wordPlace};
 ghost use Rattle.deriver.specs.Deriving.{derivingAnswer, derivedImage};
 use book::header::counts_at;
@@ -27,7 +28,7 @@ use paper::WORD_SIZE;
 // The longest chart image, and one byte more, which shows a longer input for what it is.
 const INPUT: usize = CHART_HEADER + NODE_SIZE * MAX_NODES + RELATION_SIZE * MAX_RELATIONS + 1;
 
-// The longest derived book: a condition for each of 64 events.
+// The longest derived book: a condition for each event.
 const BOOK: usize = BOOK_HEADER
     + RULE_SIZE * MAX_RULES
     + CONDITION_SIZE * MAX_EVENTS
@@ -51,8 +52,8 @@ fn book_length(room: &[u8]) -> usize
 // The bytes counted are exactly the derived book.
 fn derive(chart: FlatChart, room: &mut [u8]) -> Derived
     requires { ⌜ bookHeader ≤ length (now room) ⌝ }
-    ensures { λ r. ⌜ r .answer ≡ derivingAnswer chart (length (now (room .entry))) ⌝ }
-    ensures { λ r. ⌜ (r .answer .code ≡ 0 → take (r .bytes) (now (room .exit)) ≡ derivedImage chart) ⌝ }
+    ensures { λ r. ⌜ r .answer ≡ derivingAnswer (flatOf chart) (length (now (room .entry))) ⌝ }
+    ensures { λ r. ⌜ (r .answer .code ≡ 0 → take (r .bytes) (now (room .exit)) ≡ derivedImage (flatOf chart)) ⌝ }
     ensures { λ r. ⌜ r .bytes ≤ length (now (room .exit)) ⌝ }
 {
     let answer = deriver::derive(chart, room);
@@ -75,15 +76,14 @@ fn refused(answer: Answer) {
     printing::finish(buffer, at);
 }
 
-fn write_book(chart: FlatChart) {
-    let mut room = [0u8; BOOK];
-    let derived = derive(chart, &mut room);
+fn write_book(chart: FlatChart, room: &mut [u8; BOOK]) {
+    let derived = derive(chart, room);
     let answer = derived.answer;
     if answer.code != 0 {
         refused(answer);
         return;
     }
-    write_first(&room, derived.bytes);
+    write_first(room, derived.bytes);
 }
 
 fn main() {
@@ -95,5 +95,6 @@ fn main() {
         refused(answer);
         return;
     }
-    write_book(reading.chart);
+    let mut room = [0u8; BOOK];
+    write_book(reading.chart, &mut room);
 }

@@ -10,9 +10,10 @@ use borrow.Author.Tests.{lt-ltb, ltb-true, ltb-false, leb-true}
 use Rattle.paper.specs.Limits.{andWord, orWord, notWord, maxEvents, maxMarks, maxRules, maxWords, maxNodes, maxRelations, chartHeader}
 use Rattle.paper.specs.declared.Answer.{Answer}
 use Rattle.general.specs.Cases.{cases, neither}
+use Rattle.sets.specs.Set.{has}
 use Rattle.general.specs.Below.{some, first, first-is, tally, tally-le}
-use Rattle.flat_chart.specs.declared.FlatChart.{FlatChart}
-use Rattle.flat_chart.specs.Chart.{Fit}
+use Rattle.flat_chart.specs.Flat.{FlatChart}
+use Rattle.flat_chart.specs.Chart.{response, include, exclude, setOf, Fit}
 use Rattle.flat_chart.specs.Tests.{fitChart}
 use Rattle.flat_chart.specs.Fitness.{tested-fit}
 use Rattle.records.specs.Image.{nodes, relations, outOfRange, misplaced, badNodeAt, badRelationAt}
@@ -20,16 +21,12 @@ use Rattle.nesting.specs.Nesting.{eventCount, isEvent, onLoopAt, flaggedGroupAt
 use Rattle.chart.specs.Reading.{readingRelations, readingNodes, reading}
 use Rattle.book.specs.Book.{Book, noRule, ruleOf, textOf}
 use Rattle.book.specs.GoodTexts.{GoodText, isOperator}
-use Rattle.book.specs.WellRead.{triggerExists, senseExists, RuleFormed}
+use Rattle.book.specs.WellRead.{RuleFormed}
 use Rattle.book.specs.Formed.{FormedBook}
-use Rattle.general.specs.Lists.{total, total-le, flat, length-flat, packed, all-at}
+use Rattle.general.specs.Lists.{total, total-le, flat, length-flat, packed, All, all-at}
 use Rattle.book.specs.ImageOf.{imageOf, image-length}
 use Rattle.book.specs.declared.Rule.{Rule}
-use Rattle.book.specs.declared.Trigger.{Trigger}
-use Rattle.book.specs.declared.Trigger.the-variants.{None, Completed, BecomeYes, BecomeNo}
-use Rattle.book.specs.declared.Sense.{Sense}
-use Rattle.book.specs.declared.Sense.the-variants.{NoCondition, AsWritten, Negated}
-use Rattle.derived.specs.Derived.{derivedText, derivedBook, derived-text}
+use Rattle.derived.specs.Derived.{executedMark, includedMark, answeredMark, on, opens, closes, inclusion, responding, answering, derivedText, derivedBook, derived-text, join}
 use Rattle.derived.specs.Sizes.{conditions-length}
 use Rattle.deriver.specs.Formed.{derived-formed}
 use Rattle.deriver.specs.Deriving.{derivedImage, derivingAnswer}
@@ -61,44 +58,44 @@ digits-most w n h = in-digits w (suc n) n h
 
 -- ---- one rule
 
-trigger-most : (S M : ℕ) (t : Trigger) → S ≤ maxEvents → triggerExists S M t ≡ true → length (triggerText t) ≤ 6
-unfolding triggerText tens triggerExists
-trigger-most S M None l h = omega arith
-trigger-most S M (Completed e) l h = let d : length (decimal e) ≤ 2 = digits-most 1 e (omega (arith, ltb-true e S h)) in omega arith
-trigger-most S M (BecomeYes m) l h = omega arith
-trigger-most S M (BecomeNo m) l h = omega arith
+-- the bytes of a rule's trigger and condition together: a rule of a derived book has one of them, never both
+abbrev Brief : Rule → Type 0
+Brief r = length (triggerText (r .trigger)) + length (senseText (r .sense)) ≤ 11
 
-sense-most : (Q : ℕ) (s : Sense) → Q ≤ maxEvents → senseExists Q s ≡ true → length (senseText s) ≤ 10
-unfolding senseText tens senseExists
-sense-most Q NoCondition l h = omega arith
-sense-most Q (AsWritten c) l h = let d : length (decimal c) ≤ 2 = digits-most 1 c (omega (arith, ltb-true c Q h)) in omega arith
-sense-most Q (Negated c) l h = let d : length (decimal c) ≤ 2 = digits-most 1 c (omega (arith, ltb-true c Q h)) in omega arith
+on-brief : (e : ℕ) (b : Bool) (m : ℕ) → e < maxEvents → Brief (on e b m)
+unfolding triggerText senseText tens
+on-brief e b m h = let d : length (decimal e) ≤ 3 = digits-most 2 e (omega arith) in omega arith
 
-effect-most : (b : Bool) (m : ℕ) → m < maxMarks → length (effectText b m) ≤ 10
+opens-brief : (e : ℕ) → e < maxEvents → Brief (opens e)
+unfolding triggerText senseText tens
+opens-brief e h = let d : length (decimal e) ≤ 3 = digits-most 2 e (omega arith) in omega arith
+
+closes-brief : (e : ℕ) → e < maxEvents → Brief (closes e)
+unfolding triggerText senseText tens
+closes-brief e h = let d : length (decimal e) ≤ 3 = digits-most 2 e (omega arith) in omega arith
+
+effect-most : (b : Bool) (m : ℕ) → m < maxMarks → length (effectText b m) ≤ 11
 unfolding effectText tens
-effect-most true m h = let d : length (decimal m) ≤ 3 = digits-most 2 m (omega arith) in omega arith
-effect-most false m h = let d : length (decimal m) ≤ 3 = digits-most 2 m (omega arith) in omega arith
+effect-most true m h = let d : length (decimal m) ≤ 4 = digits-most 3 m (omega arith) in omega arith
+effect-most false m h = let d : length (decimal m) ≤ 4 = digits-most 3 m (omega arith) in omega arith
 
-rule-most : (S M Q i : ℕ) (r : Rule) → S ≤ maxEvents → M ≤ maxMarks → Q ≤ maxEvents → i < maxRules → RuleFormed S M Q r → length (ruleLine i r) ≤ 32
+rule-most : (i : ℕ) (r : Rule) → i < maxRules → Brief r → r .target < maxMarks → length (ruleLine i r) ≤ 29
 unfolding ruleLine tens
-rule-most S M Q i r s m q h f =
-    let a : length (decimal i) ≤ 4 = digits-most 3 i (omega arith) in
-    let b : length (triggerText (r .trigger)) ≤ 6 = trigger-most S M (r .trigger) s (f .trigger) in
-    let d : length (senseText (r .sense)) ≤ 10 = sense-most Q (r .sense) q (f .sense) in
-    let t : r .target < M = f .target in
-    let e : length (effectText (r .effect) (r .target)) ≤ 10 = effect-most (r .effect) (r .target) (omega arith) in
+rule-most i r h f t =
+    let a : length (decimal i) ≤ 6 = digits-most 5 i (omega arith) in
+    let e : length (effectText (r .effect) (r .target)) ≤ 11 = effect-most (r .effect) (r .target) t in
     rw (length-append (decimal i), length-append (triggerText (r .trigger)), length-append (senseText (r .sense)), length-append (effectText (r .effect) (r .target))) (omega arith)
 
 -- ---- one condition
 
-word-most : (M w : ℕ) → M ≤ maxMarks → (isOperator w || ltb w M) ≡ true → length (wordText w) ≤ 4
+word-most : (M w : ℕ) → M ≤ maxMarks → (isOperator w || ltb w M) ≡ true → length (wordText w) ≤ 5
 unfolding wordText isOperator tens
 word-most M w l h =
     cases (eqb w andWord) (λ a. rw a (omega arith))
     (λ a. cases (eqb w orWord) (λ b. rw (a, b) (omega arith))
     (λ b. cases (eqb w notWord) (λ d. rw (a, b, d) (omega arith))
     (λ d. let k : w < M = ltb-true w M (rw (a, b, d) at h) in
-    let n : length (decimal w) ≤ 3 = digits-most 2 w (omega arith) in
+    let n : length (decimal w) ≤ 4 = digits-most 3 w (omega arith) in
     rw (a, b, d) (omega arith))))
 
 parts-most : (f : ℕ → List ℕ) (b : ℕ) (l : List ℕ) → ((k : ℕ) → k < length l → length (f (getD l k 0)) ≤ b) → length (packed f l) ≤ b * length l
@@ -109,31 +106,31 @@ parts-most f b (x ∷ l) h =
     let i : length (packed f l) ≤ b * length l = parts-most f b l (λ k j. h (suc k) (omega arith)) in
     rw (length-append (f x)) (omega arith)
 
-condition-most : (M c : ℕ) (t : List ℕ) → M ≤ maxMarks → c < maxEvents → GoodText M t → length (conditionLine c t) ≤ 9 + 4 * length t
+condition-most : (M c : ℕ) (t : List ℕ) → M ≤ maxMarks → c < maxEvents → GoodText M t → length (conditionLine c t) ≤ 10 + 5 * length t
 unfolding conditionLine GoodText tens
 condition-most M c t l h g =
-    let d : length (decimal c) ≤ 2 = digits-most 1 c (omega arith) in
-    let w : length (packed wordText t) ≤ 4 * length t = parts-most wordText 4 t (λ k j. word-most M (getD t k 0) l (g (λ m. false) .known k j)) in
+    let d : length (decimal c) ≤ 3 = digits-most 2 c (omega arith) in
+    let w : length (packed wordText t) ≤ 5 * length t = parts-most wordText 5 t (λ k j. word-most M (getD t k 0) l (g (λ m. false) .known k j)) in
     rw (length-append (decimal c), length-append (packed wordText t)) (omega arith)
 
-lines-most : {A : Type 0} (k : ℕ) (size : ℕ → ℕ) (g : ℕ → List A) → ((e : ℕ) → e < k → size e ≤ 9 + 4 * length (g e)) → total k size ≤ 9 * k + 4 * length (flat k g)
+lines-most : {A : Type 0} (k : ℕ) (size : ℕ → ℕ) (g : ℕ → List A) → ((e : ℕ) → e < k → size e ≤ 10 + 5 * length (g e)) → total k size ≤ 10 * k + 5 * length (flat k g)
 unfolding total flat
 lines-most zero size g h = omega arith
 lines-most (suc k) size g h =
-    let i : total k size ≤ 9 * k + 4 * length (flat k g) = lines-most k size g (λ e j. h e (omega arith)) in
-    let j : size k ≤ 9 + 4 * length (g k) = h k (omega arith) in
+    let i : total k size ≤ 10 * k + 5 * length (flat k g) = lines-most k size g (λ e j. h e (omega arith)) in
+    let j : size k ≤ 10 + 5 * length (g k) = h k (omega arith) in
     rw (length-append (flat k g)) (omega arith)
 
 -- ---- the first line
 
-counts-most : (S M R Q W : ℕ) → S ≤ maxEvents → M ≤ maxMarks → R ≤ maxRules → Q ≤ maxEvents → W ≤ maxWords → length (countsLine S M R Q W) ≤ 57
+counts-most : (S M R Q W : ℕ) → S ≤ maxEvents → M ≤ maxMarks → R ≤ maxRules → Q ≤ maxEvents → W ≤ maxWords → length (countsLine S M R Q W) ≤ 63
 unfolding countsLine tens
 counts-most S M R Q W s m r q w =
-    let a : length (decimal S) ≤ 2 = digits-most 1 S (omega arith) in
-    let b : length (decimal M) ≤ 3 = digits-most 2 M (omega arith) in
-    let d : length (decimal R) ≤ 4 = digits-most 3 R (omega arith) in
-    let e : length (decimal Q) ≤ 2 = digits-most 1 Q (omega arith) in
-    let f : length (decimal W) ≤ 5 = digits-most 4 W (omega arith) in
+    let a : length (decimal S) ≤ 3 = digits-most 2 S (omega arith) in
+    let b : length (decimal M) ≤ 4 = digits-most 3 M (omega arith) in
+    let d : length (decimal R) ≤ 6 = digits-most 5 R (omega arith) in
+    let e : length (decimal Q) ≤ 3 = digits-most 2 Q (omega arith) in
+    let f : length (decimal W) ≤ 6 = digits-most 5 W (omega arith) in
     rw (length-append (decimal S), length-append (decimal M), length-append (decimal R), length-append (decimal Q), length-append (decimal W)) (omega arith)
 
 -- ---- a book
@@ -151,27 +148,45 @@ module _ (c : FlatChart) (fit : Fit c) where
   few : length (derivedBook c .conditions) ≤ maxEvents
   few = rw (conditions-length c fit) (fit .few)
 
-  rules-size : length (flat (length (b .rules)) (λ i. ruleLine i (ruleOf b i))) ≤ length (b .rules) * 32
+  rules-brief : All Brief (derivedBook c .rules)
+  unfolding derivedBook inclusion responding answering
+  rules-brief =
+      let n : c .count ≤ maxEvents = fit .few in
+      join c Brief
+      (record {
+        inclusions = λ e h f i.
+            cases (has (setOf c include e) f) (λ x. rw x (on-brief e true (includedMark (c .count) f) (omega arith), tt))
+            (λ x. cases (has (setOf c exclude e) f) (λ y. rw (x, y) (on-brief e false (includedMark (c .count) f) (omega arith), tt)) (λ y. rw (x, y) tt));
+        responses = λ e h f i. cases (has (setOf c response e) f) (λ x. rw x (on-brief e false (answeredMark (c .count) f) (omega arith), tt)) (λ x. rw x tt);
+        answers = λ e h. cases (has (setOf c response e) e) (λ x. rw x tt) (λ x. rw x (on-brief e true (answeredMark (c .count) e) (omega arith), tt));
+        executed = λ e h. on-brief e true (executedMark (c .count) e) (omega arith);
+        opened = λ e h. opens-brief e (omega arith);
+        closed = λ e h. closes-brief e (omega arith);
+      })
+
+  rules-size : length (flat (length (b .rules)) (λ i. ruleLine i (ruleOf b i))) ≤ length (b .rules) * 29
   rules-size =
       rw (length-flat (length (b .rules)) (λ i. ruleLine i (ruleOf b i)))
-      (total-le (length (b .rules)) 32 (λ i. length (ruleLine i (ruleOf b i)))
+      (total-le (length (b .rules)) 29 (λ i. length (ruleLine i (ruleOf b i)))
       (λ i h. let r : length (b .rules) ≤ maxRules = formed .rules in
-      rule-most (b .stages) (b .marks) Q i (ruleOf b i) (formed .stages) (formed .marks) few (omega arith) (all-at (RuleFormed (b .stages) (b .marks) Q) noRule (b .rules) (formed .eachRule) i h)))
+      let m : b .marks ≤ maxMarks = formed .marks in
+      let t : ruleOf b i .target < b .marks = all-at (RuleFormed (b .stages) (b .marks) Q) noRule (b .rules) (formed .eachRule) i h .target in
+      rule-most i (ruleOf b i) (omega arith) (all-at Brief noRule (b .rules) rules-brief i h) (omega arith)))
 
   words-are : b .words ≡ flat (c .count) (derivedText c)
   unfolding derivedBook
   words-are = refl
 
-  conditions-size : length (flat Q (λ e. conditionLine e (textOf b e))) ≤ 9 * Q + 4 * length (b .words)
+  conditions-size : length (flat Q (λ e. conditionLine e (textOf b e))) ≤ 10 * Q + 5 * length (b .words)
   conditions-size =
       let q : Q ≡ c .count = conditions-length c fit in
       let n : Q ≤ maxEvents = few in
       let w : length (flat Q (derivedText c)) ≡ length (b .words) = ap (λ (k : ℕ). length (flat k (derivedText c))) q ∙ ap length (sym words-are) in
       let l : length (flat Q (λ e. conditionLine e (textOf b e))) ≡ total Q (λ e. length (conditionLine e (textOf b e))) = length-flat Q _ in
-      let t : total Q (λ e. length (conditionLine e (textOf b e))) ≤ 9 * Q + 4 * length (flat Q (derivedText c)) =
+      let t : total Q (λ e. length (conditionLine e (textOf b e))) ≤ 10 * Q + 5 * length (flat Q (derivedText c)) =
       lines-most Q (λ e. length (conditionLine e (textOf b e))) (derivedText c) (λ e h.
       let x : textOf b e ≡ derivedText c e = derived-text c e (rw q at h) in
-      let y : length (conditionLine e (textOf b e)) ≤ 9 + 4 * length (textOf b e) = condition-most (b .marks) e (textOf b e) (formed .marks) (omega arith) (formed .texts e h) in
+      let y : length (conditionLine e (textOf b e)) ≤ 10 + 5 * length (textOf b e) = condition-most (b .marks) e (textOf b e) (formed .marks) (omega arith) (formed .texts e h) in
       let z : length (textOf b e) ≡ length (derivedText c e) = ap length x in
       omega arith) in
       omega arith
@@ -180,10 +195,10 @@ module _ (c : FlatChart) (fit : Fit c) where
   pub book-most : 4 * length (bookText (derivedBook c)) ≤ 13 * length (derivedImage c)
   unfolding bookText
   book-most =
-      let h : length (countsLine (b .stages) (b .marks) (length (b .rules)) Q (length (b .words))) ≤ 57 =
+      let h : length (countsLine (b .stages) (b .marks) (length (b .rules)) Q (length (b .words))) ≤ 63 =
       counts-most (b .stages) (b .marks) (length (b .rules)) Q (length (b .words)) (formed .stages) (formed .marks) (formed .rules) few (formed .words) in
-      let r : length (flat (length (b .rules)) (λ i. ruleLine i (ruleOf b i))) ≤ length (b .rules) * 32 = rules-size in
-      let q : length (flat Q (λ e. conditionLine e (textOf b e))) ≤ 9 * Q + 4 * length (b .words) = conditions-size in
+      let r : length (flat (length (b .rules)) (λ i. ruleLine i (ruleOf b i))) ≤ length (b .rules) * 29 = rules-size in
+      let q : length (flat Q (λ e. conditionLine e (textOf b e))) ≤ 10 * Q + 5 * length (b .words) = conditions-size in
       let i : length (imageOf b) ≡ 32 + 10 * length (b .rules) + 8 * Q + 2 * length (b .words) = image-length b in
       rw (
         length-append (countsLine (b .stages) (b .marks) (length (b .rules)) Q (length (b .words))),

@@ -7,7 +7,7 @@ use Rattle.paper.specs.Answers.{granted}
 use Rattle.paper.specs.declared.Answer.{Answer}
 use Rattle.sets.specs.Set.{has}
 use Rattle.flat_chart.specs.Tests.{rowSpill, spillAt, spillOf, rolesFrom, fitTables, fitChart}
-use Rattle.chart.specs.declared.Reading.{Reading}
+use Rattle.chart.specs.Flat.{Reading}
 use Rattle.chart.specs.Examples.{wholeChart}
 use Rattle.chart.specs.Examples as chart
 use Rattle.book.specs.Book.{Book, textOf}

@@ -13,11 +13,13 @@ use Rattle.paper.specs.Limits.{bookHeader, wordSize}
 use Rattle.paper.specs.declared.Answer.{Answer}
 use Rattle.general.specs.Cases.{cases, coincide}
 use Rattle.wire.specs.Laws.{u32-first}
-use Rattle.flat_chart.specs.declared.FlatChart.{FlatChart}
+use Rattle.flat_chart.specs.Flat.{FlatChart}
+use Rattle.flat_chart.specs.Numbers.{flatOf}
 use Rattle.flat_chart.specs.Chart.{Fit}
 use Rattle.flat_chart.specs.Tests.{fitChart}
 use Rattle.flat_chart.specs.Fitness.{tested-fit}
 use Rattle.chart.specs.Reading.{reading}
+use Rattle.chart.specs.Numbers.{readingOf}
 use Rattle.chart.specs.declared.Reading.{Reading}
 use Rattle.book.specs.Image.{conditionPlace, bookOf}
 use Rattle.book.specs.ImageOf.{book-of-image}
@@ -98,10 +100,10 @@ module _ (input room : List ℕ) where
 
 -- ---- an image: the reader's refusal, or its chart
 
-module _ (image room : List ℕ) (big : maxListing ≤ length room) (r : Reading) (e : r ≡ reading image) where
-  text-of : imageText image ≡ unlessRefused (r .answer) (chartText (r .chart))
+module _ (image room : List ℕ) (big : maxListing ≤ length room) (r : Reading) (e : readingOf r ≡ reading image) where
+  text-of : imageText image ≡ unlessRefused (r .answer) (chartText (flatOf (r .chart)))
   unfolding imageText
-  text-of = rw e
+  text-of = rw (← e)
 
   module _ (z : r .answer .code ≡ 0 → ⊥) where
     refused-is : imageText image ≡ refusalLine (r .answer)
@@ -113,7 +115,7 @@ module _ (image room : List ℕ) (big : maxListing ≤ length room) (r : Reading
     pub read-wrote : (next : ℕ) (after : List ℕ) → Wrote room 0 (refusalLine (r .answer)) next after → Wrote room 0 (imageText image) next after
     read-wrote next after w = rw refused-is w
 
-  pub image-wrote : r .answer .code ≡ 0 → (next : ℕ) (after : List ℕ) → Wrote room 0 (chartText (r .chart)) next after → Wrote room 0 (imageText image) next after
+  pub image-wrote : r .answer .code ≡ 0 → (next : ℕ) (after : List ℕ) → Wrote room 0 (chartText (flatOf (r .chart))) next after → Wrote room 0 (imageText image) next after
   image-wrote z next after w = rw (text-of, eq-eqb (r .answer .code) 0 z) w
 
 -- ---- a chart: the deriver's refusal, or its book

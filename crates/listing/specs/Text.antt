@@ -5,7 +5,7 @@ use mathlib.Core.List.{List, _++_}
 use lib.Dec.{eqb}
 use lib.ListN.{length, take}
 use Rattle.paper.specs.declared.Answer.{Answer}
-use Rattle.flat_chart.specs.declared.FlatChart.{FlatChart}
+use Rattle.flat_chart.specs.Flat.{FlatChart}
 use Rattle.chart.specs.Reading.{reading}
 use Rattle.book.specs.Book.{Book, ruleOf, textOf}
 use Rattle.general.specs.Lists.{flat}

@@ -2,6 +2,7 @@
 ghost use mathlib.Core.Path.{_≡_};
 ghost use Prim.Native.Nat.{_≤_};
 ghost use lib.ListN.{length};
+ghost use Rattle.flat_chart.specs.Numbers.{flatOf};
 ghost use Rattle.book.specs.Image.{bookOf};
 ghost use Rattle.book.specs.WellFormed.{WellFormed};
 ghost use Rattle.general.specs.Writing.{Wrote};
@@ -12,10 +13,10 @@ ghost use Rattle.listing.specs.Listing.{listedLength, listedRoom};
 use flat_chart::FlatChart;
 use paper::WORD_SIZE;
 
-// How many bytes of a chart the listing reads: the longest image, and one byte more, which shows a longer input for what it is.
+// How many bytes of a chart the listing reads; a longer one is cut, and its length then does not fit its counts.
 pub const LISTING_INPUT: usize = 25097;
 
-// Into how many bytes it derives.
+// Into how many bytes it derives; a larger book is refused.
 pub const LISTING_BOOK: usize = 49152;
 
 // How many bytes its text has at most.
@@ -35,7 +36,7 @@ fn book_text(room: &mut [u8], image: &[u8]) -> usize
 // The derived book's text, or the deriver's refusal.
 fn chart_text(room: &mut [u8], chart: FlatChart) -> usize
     requires { ⌜ maxListing ≤ length (now room) ⌝ }
-    ensures { λ r. ⌜ Wrote (now (room .entry)) 0 (chartText chart) r (now (room .exit)) ⌝ }
+    ensures { λ r. ⌜ Wrote (now (room .entry)) 0 (chartText (flatOf chart)) r (now (room .exit)) ⌝ }
 {
     let mut bytes = [0u8; LISTING_BOOK];
     let answer = deriver::derive(chart, &mut bytes);
@@ -64,7 +65,7 @@ fn image_text(room: &mut [u8], image: &[u8]) -> usize
 
 // The listing of a chart from the start of the room, and its length in bytes, which is never 0.
 // A room of under `MAX_LISTING` bytes is left as it was, and the length is then 0.
-// Stack: about 70 KiB, of which the derived book takes 48.
+// Stack: about 200 KiB, of which the derived book takes 48 and the chart, by value, 41 at each call.
 pub fn list(input: &[u8], room: &mut [u8]) -> usize
     ensures { λ r. ⌜ (r ≡ listedLength (now (input .entry)) (now (room .entry))) × (now (room .exit) ≡ listedRoom (now (input .entry)) (now (room .entry))) ⌝ }
 {

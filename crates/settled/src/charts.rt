@@ -1,29 +1,30 @@
-// Charts: one case for each refusal of the reader, 64 events and 65, and the paper's whole chart.
+// Charts: one case for each refusal of the reader, 256 events and 257, and the paper's whole chart.
 ghost use mathlib.Core.Path.{_≡_};
 ghost use Prim.Native.Nat.{_≤_};
 ghost use lib.ListN.{length};
 use crate::show;
 
-// An image of 65 nodes without parents.
-const PLAIN: usize = 268;
+// An image of 257 nodes without parents.
+const PLAIN: usize = 1036;
 
 fn case(name: &[u8], image: &[u8]) {
     let reading = chart::read(image);
     show::line(name, reading.answer);
 }
 
-// The header of so many nodes and no relation, and 65 nodes that are included events.
+// The header of so many nodes and no relation, and 257 nodes that are included events.
 fn plain(events: usize) -> [u8; PLAIN]
-    requires { ⌜ events ≤ 65 ⌝ }
-    ensures { λ r. ⌜ length r ≡ 268 ⌝ }
+    requires { ⌜ events ≤ 257 ⌝ }
+    ensures { λ r. ⌜ length r ≡ 1036 ⌝ }
 {
     let mut image = [0u8; PLAIN];
     let end = 8 + 4 * events;
-    image[0] = events as u8;
+    image[0] = (events % 256) as u8;
+    image[1] = (events / 256) as u8;
     image[4] = 8;
     image[6] = (end % 256) as u8;
     image[7] = (end / 256) as u8;
-    for i in 0..65 {
+    for i in 0..257 {
         image[8 + 4 * i] = 255;
         image[9 + 4 * i] = 255;
         image[10 + 4 * i] = 4;
@@ -32,17 +33,26 @@ fn plain(events: usize) -> [u8; PLAIN]
 }
 
 fn sizes() {
-    let most = plain(64);
-    case(b"chart-64-events", &most[..264]);
-    let over = plain(65);
-    case(b"chart-65-events", &over);
+    let most = plain(256);
+    case(b"chart-256-events", &most[..1032]);
+    let over = plain(257);
+    case(b"chart-257-events", &over);
 }
 
 fn headers() {
     case(b"chart-7-bytes", b"\x01\x00\x00\x00\x08\x00\x0C");
     case(b"chart-no-nodes", b"\x00\x00\x00\x00\x08\x00\x08\x00");
-    case(b"chart-129-nodes", b"\x81\x00\x00\x00\x08\x00\x0C\x02");
-    case(b"chart-4097-relations", b"\x01\x00\x01\x10\x08\x00\x0C\x00");
+    // the most nodes and relations get as far as the length
+    case(b"chart-512-nodes", b"\x00\x02\x00\x00\x08\x00\x08\x08");
+    case(b"chart-513-nodes", b"\x01\x02\x00\x00\x08\x00\x0C\x08");
+    case(
+        b"chart-16384-relations",
+        b"\x01\x00\x00\x40\x08\x00\x0C\x00",
+    );
+    case(
+        b"chart-16385-relations",
+        b"\x01\x00\x01\x40\x08\x00\x0C\x00",
+    );
     case(
         b"chart-wrong-offset",
         b"\x01\x00\x00\x00\x09\x00\x0C\x00\xFF\xFF\x04\x00",

@@ -3,7 +3,7 @@
 use crate::show;
 
 fn case(name: &[u8], book: &[u8], stage: u32) {
-    let mut order = [9999u16; 4];
+    let mut order = [9999u32; 4];
     show::line(name, judge::check(book, stage, &mut order));
 }
 
@@ -41,18 +41,18 @@ fn apart() {
 fn room() {
     let book =
         b"\x02\x00\x00\x00\x04\x00\x00\x00\x03\x00\x00\x00\x00\x00\x00\x00\x00\x00\x00\x00\x20\x00\x00\x00\x3E\x00\x00\x00\x3E\x00\x00\x00\x01\x00\x01\x00\x00\x00\x00\x00\x02\x00\x02\x00\x01\x00\x02\x00\x00\x00\x03\x00\x01\x00\x00\x00\x01\x00\x00\x00\x02\x00";
-    let mut one = [9999u16; 1];
+    let mut one = [9999u32; 1];
     show::line(b"check-no-room", judge::check(book, 0, &mut one));
     show::line(b"check-stage-before-room", judge::check(book, 2, &mut one));
     show::order(b"check-room-left", &one);
-    let mut two = [9999u16; 2];
+    let mut two = [9999u32; 2];
     show::line(b"check-room-for-two", judge::check(book, 0, &mut two));
     show::order(b"check-two-of-three", &two);
 }
 
 // The order of a stage for which one rule counts.
 fn single(name: &[u8], listed: &[u8], book: &[u8], stage: u32) {
-    let mut order = [9999u16; 1];
+    let mut order = [9999u32; 1];
     show::line(name, judge::check(book, stage, &mut order));
     show::order(listed, &order);
 }
@@ -77,7 +77,7 @@ fn derived() {
     );
     let mut book = [0u8; 162];
     show::line(b"check-derive", deriver::derive(read.chart, &mut book));
-    let mut order = [9999u16; 7];
+    let mut order = [9999u32; 7];
     show::line(b"check-derived", judge::check(&book, 0, &mut order));
     show::order(b"check-order", &order);
     show::line(b"check-derived-other", judge::check(&book, 1, &mut order));

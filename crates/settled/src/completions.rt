@@ -2,8 +2,8 @@
 use crate::show;
 use book::Snapshot;
 
-// Mark m is worth 2 to the m in the first of four numbers, mark 64 + m in the second, and so on.
-fn case(name: &[u8], book: &[u8], order: &[u16], snapshot: Snapshot, stage: u32) -> Snapshot {
+// Mark m is worth 2 to the m in the first of sixteen numbers, mark 64 + m in the second, and so on.
+fn case(name: &[u8], book: &[u8], order: &[u32], snapshot: Snapshot, stage: u32) -> Snapshot {
     let done = runner::complete(book, order, snapshot, stage);
     show::marked(name, done.answer, done.snapshot);
     done.snapshot
@@ -11,7 +11,7 @@ fn case(name: &[u8], book: &[u8], order: &[u16], snapshot: Snapshot, stage: u32)
 
 // The same along the order that the check writes for the stage `asked`, of a book for which seven rules count for each.
 fn checked(name: &[u8], book: &[u8], asked: u32, snapshot: Snapshot, stage: u32) -> Snapshot {
-    let mut order = [9999u16; 7];
+    let mut order = [9999u32; 7];
     judge::check(book, asked, &mut order);
     case(name, book, &order, snapshot, stage)
 }
@@ -79,23 +79,23 @@ fn pair() {
     case(b"complete-pair-second", book, &[1], Snapshot { marks }, 1);
 }
 
-// On completion of 0 set 255, of 256 marks; and of 255 marks none, while 255 is yes.
+// On completion of 0 set 1,023, of 1,024 marks; and of 1,023 marks none, while 1,023 is yes.
 fn last_mark() {
     let mut marks = [false; paper::MAX_MARKS];
     marks[0] = true;
     marks[64] = true;
     let open = Snapshot { marks };
     case(
-        b"complete-mark-255",
-        b"\x01\x00\x00\x00\x00\x01\x00\x00\x01\x00\x00\x00\x00\x00\x00\x00\x00\x00\x00\x00\x20\x00\x00\x00\x2A\x00\x00\x00\x2A\x00\x00\x00\x01\x00\x01\x00\x00\x00\x00\x00\xFF\x00",
+        b"complete-mark-1023",
+        b"\x01\x00\x00\x00\x00\x04\x00\x00\x01\x00\x00\x00\x00\x00\x00\x00\x00\x00\x00\x00\x20\x00\x00\x00\x2A\x00\x00\x00\x2A\x00\x00\x00\x01\x00\x01\x00\x00\x00\x00\x00\xFF\x03",
         &[0],
         open,
         0,
     );
-    marks[255] = true;
+    marks[1023] = true;
     case(
-        b"complete-mark-255-above",
-        b"\x01\x00\x00\x00\xFF\x00\x00\x00\x00\x00\x00\x00\x00\x00\x00\x00\x00\x00\x00\x00\x20\x00\x00\x00\x20\x00\x00\x00\x20\x00\x00\x00",
+        b"complete-mark-1023-above",
+        b"\x01\x00\x00\x00\xFF\x03\x00\x00\x00\x00\x00\x00\x00\x00\x00\x00\x00\x00\x00\x00\x20\x00\x00\x00\x20\x00\x00\x00\x20\x00\x00\x00",
         &[],
         Snapshot { marks },
         0,

@@ -51,8 +51,8 @@ fn both() {
     show::sets(
         b"p8-includes-excludes",
         read.answer,
-        chart.includes[2],
-        chart.excludes[2],
+        wide::row(&chart.includes, 2),
+        wide::row(&chart.excludes, 2),
     );
     let taken = step(b"p8-step", chart, read.marking, 2);
     show::sets(

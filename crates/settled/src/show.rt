@@ -5,9 +5,13 @@ use book::Snapshot;
 use libc::STDOUT_FILENO;
 use paper::Answer;
 use paper::MAX_MARKS;
+use wide::SET_WORDS;
+use wide::Set;
 
 // Marks are shown by so many.
 const SHOWN: usize = 64;
+
+const MARK_NUMBERS: usize = MAX_MARKS / SHOWN;
 
 fn number(n: u64) {
     io::write_all(STDOUT_FILENO, b" ");
@@ -35,11 +39,18 @@ pub fn counted(name: &[u8], answer: Answer, count: u32, lowest: u32) {
     io::write_all(STDOUT_FILENO, b"\n");
 }
 
+// A set, word by word.
+fn set(s: Set) {
+    for i in 0..SET_WORDS {
+        number(wide::word(s, i));
+    }
+}
+
 // One case with two sets.
-pub fn sets(name: &[u8], answer: Answer, one: u64, other: u64) {
+pub fn sets(name: &[u8], answer: Answer, one: Set, other: Set) {
     answered(name, answer);
-    number(one);
-    number(other);
+    set(one);
+    set(other);
     io::write_all(STDOUT_FILENO, b"\n");
 }
 
@@ -64,25 +75,24 @@ fn worth(marks: &[bool; MAX_MARKS], from: usize) -> u64
     word
 }
 
-// One case with a snapshot: every mark, in four numbers.
+// One case with a snapshot: every mark, in sixteen numbers.
 pub fn marked(name: &[u8], answer: Answer, snapshot: Snapshot) {
     answered(name, answer);
-    number(worth(&snapshot.marks, 0));
-    number(worth(&snapshot.marks, SHOWN));
-    number(worth(&snapshot.marks, 2 * SHOWN));
-    number(worth(&snapshot.marks, 3 * SHOWN));
-    io::write_all(STDOUT_FILENO, b"\n");
-}
-
-// An order, rule by rule.
-pub fn order(name: &[u8], rules: &[u16]) {
-    io::write_all(STDOUT_FILENO, name);
-    for j in 0..rules.len() {
-        number(wide(rules[j]));
+    for i in 0..MARK_NUMBERS {
+        number(worth(&snapshot.marks, SHOWN * i));
     }
     io::write_all(STDOUT_FILENO, b"\n");
 }
 
-fn wide(n: u16) -> u64 {
+// An order, rule by rule.
+pub fn order(name: &[u8], rules: &[u32]) {
+    io::write_all(STDOUT_FILENO, name);
+    for j in 0..rules.len() {
+        number(widened(rules[j]));
+    }
+    io::write_all(STDOUT_FILENO, b"\n");
+}
+
+fn widened(n: u32) -> u64 {
     n as u64
 }

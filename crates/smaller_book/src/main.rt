@@ -3,6 +3,8 @@ ghost use Prim.Native.Nat.{_≤_};
 ghost use mathlib.Core.Path.{_≡_};
 ghost use lib.ListN.{length, take};
 ghost use Rattle.paper.specs.Limits.{bookHeader};
+ghost use Rattle.flat_chart.specs.Numbers.{flatOf};
+ghost use Rattle.graph.specs.Numbers.{marksOf};
 ghost use Rattle.book.specs.Image.{rulesIn, conditionsIn, wordsIn, wordPlace};
 ghost use Rattle.smaller_deriver.specs.Calling.{derivingSmaller, smallerImage};
 use book::header::counts_at;
@@ -28,7 +30,7 @@ use paper::WORD_SIZE;
 // The longest chart image, and one byte more, which shows a longer input for what it is.
 const INPUT: usize = CHART_HEADER + NODE_SIZE * MAX_NODES + RELATION_SIZE * MAX_RELATIONS + 1;
 
-// The longest derived book, a condition for each of 64 events: a smaller one is never longer.
+// The longest derived book, a condition for each event: a smaller one is never longer.
 const BOOK: usize = BOOK_HEADER
     + RULE_SIZE * MAX_RULES
     + CONDITION_SIZE * MAX_EVENTS
@@ -52,8 +54,8 @@ fn book_length(room: &[u8]) -> usize
 // The bytes counted are exactly the smaller book.
 fn derive(chart: FlatChart, start: Marking, room: &mut [u8]) -> Derived
     requires { ⌜ bookHeader ≤ length (now room) ⌝ }
-    ensures { λ r. ⌜ r .answer ≡ derivingSmaller chart start (length (now (room .entry))) .answer ⌝ }
-    ensures { λ r. ⌜ (r .answer .code ≡ 0 → take (r .bytes) (now (room .exit)) ≡ smallerImage chart start) ⌝ }
+    ensures { λ r. ⌜ r .answer ≡ derivingSmaller (flatOf chart) (marksOf start) (length (now (room .entry))) .answer ⌝ }
+    ensures { λ r. ⌜ (r .answer .code ≡ 0 → take (r .bytes) (now (room .exit)) ≡ smallerImage (flatOf chart) (marksOf start)) ⌝ }
     ensures { λ r. ⌜ r .bytes ≤ length (now (room .exit)) ⌝ }
 {
     let smaller = smaller_deriver::derive_smaller(chart, start, room);
@@ -77,15 +79,14 @@ fn refused(answer: Answer) {
     printing::finish(buffer, at);
 }
 
-fn write_book(chart: FlatChart, start: Marking) {
-    let mut room = [0u8; BOOK];
-    let derived = derive(chart, start, &mut room);
+fn write_book(chart: FlatChart, start: Marking, room: &mut [u8; BOOK]) {
+    let derived = derive(chart, start, room);
     let answer = derived.answer;
     if answer.code != 0 {
         refused(answer);
         return;
     }
-    write_first(&room, derived.bytes);
+    write_first(room, derived.bytes);
 }
 
 fn main() {
@@ -97,5 +98,6 @@ fn main() {
         refused(answer);
         return;
     }
-    write_book(reading.chart, reading.marking);
+    let mut room = [0u8; BOOK];
+    write_book(reading.chart, reading.marking, &mut room);
 }

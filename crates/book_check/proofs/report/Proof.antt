@@ -8,12 +8,11 @@ pub report-spec : {M : Type 1} → statement M
 report-spec =
     tie.close
     (tie.spec
-    (λ c. search needs)
     (λ c κs. search needs)
     (λ c. search needs)
     (λ c κs. search needs)
     (λ c κs. search needs)
     (λ c. search needs)
-    (λ c κs. search passes)
+    (λ c κs. (search needs, search passes))
     (λ c κs. search needs)
     (λ c. search needs))

@@ -7,10 +7,10 @@ use Rattle.settled.proofs.charts.plain.Statement.{statement}
 use Rattle.settled.proofs.charts.plain.Tie as tie
 
 abbrev Inv-loop : tie.InvT-loop
-Inv-loop events image₀ end i₀ image i = (i ≤ 65) × (length image ≡ 268)
+Inv-loop events image₀ end i₀ image i = (i ≤ 257) × (length image ≡ 1036)
 
 abbrev μ-loop : tie.MeasureT-loop
-μ-loop events image₀ end i₀ image i = 65 - i
+μ-loop events image₀ end i₀ image i = 257 - i
 
 pub plain-spec : {M : Type 1} → statement M
 plain-spec =
@@ -18,6 +18,8 @@ plain-spec =
     (tie.spec
     Inv-loop
     μ-loop
+    (λ c. search needs)
+    (λ c. search needs)
     (λ c. search needs)
     (λ c. search needs)
     (λ c. search needs)

@@ -12,7 +12,7 @@ sizes-spec =
     (λ c κs. search needs)
     (λ c. search needs)
     (λ c. search needs)
-    (λ c. sym (length-take-le 264 (c .before .before .plain .result) (search needs)))
+    (λ c. sym (length-take-le 1032 (c .before .before .plain .result) (search needs)))
     (λ c κs. search needs)
     (λ c κs. search needs)
     (λ c. search needs)
