@@ -56,23 +56,21 @@ static bool granted(FILE *file, const char *call, struct ozhimka_answer answer)
     return false;
 }
 
-static void say_events(const char *sort, const char *state, uint64_t set)
+static void say_events(const char *sort, const char *state, struct ozhimka_set set)
 {
-    if (set != 0)
-        printf("; %s%s %s: ", sort, (set & (set - 1)) == 0 ? "" : "s", state);
-    for (uint64_t left = set; left != 0; left &= left - 1) {
-        uint32_t e = 0;
-        while ((left >> e & 1) == 0)
-            e++;
+    const char *between = "";
+    if (!ozhimka_set_empty(set))
+        printf("; %s%s %s: ", sort, ozhimka_set_count(set) == 1 ? "" : "s", state);
+    for (uint32_t e = ozhimka_set_next(set, 0); e < OZHIMKA_NO_EVENT; e = ozhimka_set_next(set, e + 1), between = ", ") {
         if (named)
-            printf("%s%s", left == set ? "" : ", ", names[e]);
+            printf("%s%s", between, names[e]);
         else
-            printf("%sevent %" PRIu32, left == set ? "" : ", ", e);
+            printf("%sevent %" PRIu32, between, e);
     }
 }
 
 // Ends the line of a refused event with why the chart refuses it: all that blocks it, or that it is not included.
-static void print_blocking(uint32_t code, uint64_t conditions, uint64_t milestones)
+static void print_blocking(uint32_t code, struct ozhimka_set conditions, struct ozhimka_set milestones)
 {
     if (code == OZHIMKA_NOT_INCLUDED)
         printf("; %s", ozhimka_reason(code));
@@ -121,7 +119,8 @@ static void load_names(const char *path)
 
 static bool load(void)
 {
-    struct ozhimka_reading reading = ozhimka_read_chart(image, image_length);
+    static struct ozhimka_reading reading;
+    reading = ozhimka_read_chart(image, image_length);
     if (!granted(stderr, "read", reading.answer) || !granted(stderr, "derive", ozhimka_derive(&reading.chart, book, sizeof book)))
         return false;
     counts = ozhimka_book_counts(book);
@@ -343,7 +342,7 @@ static void test(uint32_t event)
     snprintf(call, sizeof call, "test %" PRIu32, event);
     if (open.answer.code == OZHIMKA_GRANTED) {
         printf("%s: open\n", call);
-    } else if ((open.conditions | open.milestones) == 0) { // no such event, or one that is not included
+    } else if (ozhimka_set_empty(open.conditions) && ozhimka_set_empty(open.milestones)) { // no such event, or one that is not included
         granted(stdout, call, open.answer);
     } else {
         printf("%s refused: code %" PRIu32, call, open.answer.code);
@@ -376,8 +375,7 @@ static void replay(void)
     struct ozhimka_replayed replayed = ozhimka_replay(&chart, start, record, recorded);
     if (!granted(stdout, "replay", replayed.answer))
         return;
-    bool same = replayed.marking.executed == marking.executed && replayed.marking.pending == marking.pending
-                && replayed.marking.included == marking.included;
+    bool same = ozhimka_marking_same(replayed.marking, marking);
     printf("replay: %" PRIu64 " of %zu steps, %s%s\n", replayed.steps, recorded, same ? "to where it stands" : "to somewhere else",
            replayed.finished ? ", finished" : "");
 }

@@ -1,7 +1,8 @@
-// Tries on the library what the header says of null pointers, of a book's length, of roles, of a chart's tables, of stages, of the index, of
-// lists, of the rules evaluated, of what blocks an event, of records, of reading a book back, of smaller books, of mending, of the words for
-// each code, and of the stack.
-// Prints what does not hold; exit status 0 if nothing, else 1. Wants POSIX contexts, to run a call on a stack that was painted before.
+// Tries on the library what the header says of null pointers, of sets, of the largest sizes, of a book's length, of roles, of a chart's tables,
+// of stages, of the index, of lists, of the rules evaluated, of what blocks an event, of records, of reading a book back, of smaller books, of
+// mending, of the words for each code, and of the stack.
+// Prints what does not hold; exit status 0 if nothing, else 1. With an argument it prints the stack of each call, too. Wants POSIX contexts,
+// to run a call on a stack that was painted before.
 #define _XOPEN_SOURCE 700
 #include "ozhimka.h"
 
@@ -9,19 +10,33 @@
 #include <string.h>
 #include <ucontext.h>
 
-enum { PAINT = 0xA5, ROOM = 1 << 18, STEPS = 1000 };
+enum { PAINT = 0xA5, ROOM = 1 << 23, STEPS = 1000 };
+
+// What the header says of the stack, in KiB.
+enum {
+    STACK_READ_CHART = 128,
+    STACK_READ_BACK = 160,
+    STACK_CHECK = 64,    // and building an index
+    STACK_COMPLETE = 64, // and completing through an index
+    STACK_MEND = 4,
+    STACK_SMALLER = 16,
+    STACK_MATCHING = 4,
+    STACK_OTHER = 4
+};
 
 static int failures;
 static uint8_t image[OZHIMKA_MAX_CHART], book[OZHIMKA_MAX_BOOK];
 static uint8_t index_image[OZHIMKA_MAX_DERIVED_INDEX], mended_image[OZHIMKA_MAX_CHART], changes[OZHIMKA_MAX_CHANGE_LIST];
-static uint16_t order[OZHIMKA_MAX_RULES];
+static uint32_t order[OZHIMKA_MAX_RULES];
 static size_t image_length, book_length, index_length, ordered; // how many rules of the book count for stage 0
 static struct ozhimka_reading reading;
 static struct ozhimka_settled settled;
+static struct ozhimka_chart bare; // as many events as there can be, and no relations
 static struct ozhimka_recorded steps[STEPS]; // event 0 by role 0, each time
-static const struct ozhimka_marking done = {UINT64_MAX, 0, UINT64_MAX}; // everything was executed, and nothing is pending
+static struct ozhimka_marking done; // everything was executed, and nothing is pending
 static struct ozhimka_snapshot open; // stage 0 is open, and nothing else is yes
 static const uint32_t stages[4] = {0, 0, 3, 0};
+static bool telling; // the stack of each call
 
 static void expect(bool holds, const char *what)
 {
@@ -31,14 +46,45 @@ static void expect(bool holds, const char *what)
     }
 }
 
+// The set of some of the events 0 to 63, as bits.
+static struct ozhimka_set low(uint64_t bits)
+{
+    struct ozhimka_set set = ozhimka_set_below(0);
+    set.words[0] = bits;
+    return set;
+}
+
+static struct ozhimka_marking mark(uint64_t executed, uint64_t pending, uint64_t included)
+{
+    struct ozhimka_marking marking;
+    marking.executed = low(executed), marking.pending = low(pending), marking.included = low(included);
+    return marking;
+}
+
+static bool is_low(struct ozhimka_set set, uint64_t bits)
+{
+    return ozhimka_set_same(set, low(bits));
+}
+
 static void put16(uint8_t *at, size_t number)
 {
     at[0] = (uint8_t)number;
     at[1] = (uint8_t)(number >> 8);
 }
 
-// A chart of 64 groups, each in the one before, with an event in each, and 4,096 relations: all kinds but exclude. The first group names
-// role 0, and the last event role 7.
+static void put32(uint8_t *at, size_t number)
+{
+    put16(at, number);
+    put16(at + 2, number >> 16);
+}
+
+static size_t get32(const uint8_t *at)
+{
+    return at[0] | (size_t)at[1] << 8 | (size_t)at[2] << 16 | (size_t)at[3] << 24;
+}
+
+// A chart of 256 groups, each in the one before, with an event in each, and 16,384 relations: all kinds but exclude, the first of each from the
+// first group to itself, so that every event has all the others in four sets. The first group names role 0, and the last event role 7.
 static void largest_chart(void)
 {
     size_t nodes = OZHIMKA_MAX_NODES, events = OZHIMKA_MAX_EVENTS, relations_at = OZHIMKA_CHART_HEADER + OZHIMKA_NODE_SIZE * nodes;
@@ -55,33 +101,86 @@ static void largest_chart(void)
     image[relations_at - 1] = 1 << (OZHIMKA_MAX_ROLES - 1);
     for (size_t k = 0; k < OZHIMKA_MAX_RELATIONS; k++) {
         uint8_t *relation = image + relations_at + OZHIMKA_RELATION_SIZE * k;
-        put16(relation, events + k % events);
-        put16(relation + 2, events + k / events);
+        put16(relation, k < OZHIMKA_KIND_EXCLUDE ? 0 : events + k % events);
+        put16(relation + 2, k < OZHIMKA_KIND_EXCLUDE ? 0 : events + k / events);
         put16(relation + 4, k % OZHIMKA_KIND_EXCLUDE);
     }
     image_length = OZHIMKA_MAX_CHART;
 }
 
-// ---- the calls, each on the values above
+// A book of the largest counts, in which every rule sets a mark on a completion and under a condition that names the marks behind it: of each
+// stage the loops are searched for, and its rules wait for one another.
+static void largest_book(void)
+{
+    enum { S = 4, M = OZHIMKA_MAX_MARKS, /* few stages, so that their orders are soon made */ R = OZHIMKA_MAX_RULES, Q = OZHIMKA_MAX_CONDITIONS, W = OZHIMKA_MAX_WORDS, TEXT = W / Q };
+    const size_t conditions = OZHIMKA_BOOK_HEADER + OZHIMKA_RULE_SIZE * R, words = conditions + OZHIMKA_CONDITION_SIZE * Q;
+    const size_t header[8] = {S, M, R, Q, W, OZHIMKA_BOOK_HEADER, conditions, words};
+    memset(book, 0, sizeof book);
+    for (size_t i = 0; i < 8; i++)
+        put32(book + 4 * i, header[i]);
+    for (size_t p = 0; p < R; p++) {
+        uint8_t *rule = book + OZHIMKA_BOOK_HEADER + OZHIMKA_RULE_SIZE * p;
+        rule[0] = OZHIMKA_TRIGGER_COMPLETED, rule[1] = OZHIMKA_SENSE_AS_WRITTEN, rule[2] = OZHIMKA_EFFECT_SET;
+        put16(rule + 4, p % S);
+        put16(rule + 6, p / S % (M - 1));
+        put16(rule + 8, p / S % (M - 1));
+    }
+    for (size_t c = 0; c < Q; c++) {
+        put32(book + conditions + OZHIMKA_CONDITION_SIZE * c, TEXT * c);
+        put32(book + conditions + OZHIMKA_CONDITION_SIZE * c + 4, TEXT);
+        for (size_t i = 0; i < TEXT; i++) { // a mark, then mark and or by turns, and one not at the end
+            size_t above = c + 1 + (i + 1) / 2, mark = above < M ? above : M - 1;
+            put16(book + words + 2 * (TEXT * c + i), i == TEXT - 1 ? OZHIMKA_WORD_NOT : i > 0 && i % 2 == 0 ? OZHIMKA_WORD_OR : mark);
+        }
+    }
+    book_length = ozhimka_book_length(book);
+}
+
+// ---- the calls, each on the values above: granted, and refused as late as can be
 
 static void no_call(void) {}
 static void read_chart(void) { reading = ozhimka_read_chart(image, image_length); }
 static void mend(void) { settled.answer = ozhimka_mend(image, image_length, mended_image, sizeof mended_image, changes, sizeof changes).answer; }
-static void execute(void) { reading.marking = ozhimka_execute(&reading.chart, reading.marking, 0, 0).marking; }
-static void open_test(void) { order[0] = (uint16_t)ozhimka_open_test(&reading.chart, reading.marking, 0).conditions; }
-static void count_open(void) { order[0] = (uint16_t)ozhimka_count_open(&reading.chart, reading.marking).count; }
 static void finished(void) { settled.snapshot.marks[0] = ozhimka_finished(&reading.chart, reading.marking).yes; }
 static void matching(void) { settled = ozhimka_matching(&reading.chart, reading.marking); }
 static void derive(void) { settled.answer = ozhimka_derive(&reading.chart, book, sizeof book); }
 static void derive_smaller(void) { settled.answer = ozhimka_derive_smaller(&reading.chart, reading.marking, book, sizeof book).answer; }
 static void read_back(void) { settled.answer = ozhimka_read_back(book, book_length).answer; }
-static void replay(void) { reading.marking = ozhimka_replay(&reading.chart, done, steps, STEPS).marking; }
-static void strike(void) { reading.marking = ozhimka_strike(&reading.chart, done, steps, STEPS, 1).marking; }
 static void check(void) { settled.answer = ozhimka_check(book, book_length, 0, order, OZHIMKA_MAX_RULES); }
 static void complete(void) { settled = ozhimka_complete(book, book_length, order, ordered, open, 0); }
 static void build_index(void) { settled.answer = ozhimka_build_index(book, book_length, index_image, sizeof index_image); }
 static void complete_list(void) { settled.answer = ozhimka_complete_list(book, book_length, index_image, index_length, open, stages, 1).answer; }
 static void complete_indexed(void) { settled.answer = ozhimka_complete_indexed(book, book_length, index_image, index_length, open, 0).answer; }
+
+static void execute(void)
+{
+    order[0] = ozhimka_execute(&reading.chart, done, 0, 0).answer.code;
+    order[1] = ozhimka_execute(&reading.chart, reading.marking, 0, 0).answer.code;
+}
+
+static void open_test(void)
+{
+    order[0] = ozhimka_open_test(&reading.chart, done, 0).answer.code;
+    order[1] = ozhimka_open_test(&reading.chart, reading.marking, 0).answer.code;
+}
+
+static void count_open(void)
+{
+    order[0] = ozhimka_count_open(&reading.chart, done).answer.code;
+    order[1] = ozhimka_count_open(&reading.chart, reading.marking).lowest == OZHIMKA_NO_EVENT ? OZHIMKA_CONDITION_WANTING : 0;
+}
+
+static void replay(void)
+{
+    order[0] = ozhimka_replay(&bare, done, steps, STEPS).code;
+    order[1] = ozhimka_replay(&reading.chart, reading.marking, steps, STEPS).code;
+}
+
+static void strike(void)
+{
+    order[0] = ozhimka_strike(&bare, done, steps, STEPS, 1).answer.code;
+    order[1] = ozhimka_strike(&reading.chart, reading.marking, steps, STEPS, 1).answer.code;
+}
 
 static ucontext_t here, there;
 
@@ -105,36 +204,79 @@ static size_t stack_of(void (*call)(void))
 static void expect_stack(const char *name, void (*call)(void), size_t kib)
 {
     size_t bytes = stack_of(call) - stack_of(no_call);
-    if (settled.answer.code != OZHIMKA_GRANTED || bytes > 1024 * kib) {
-        printf("%s: %zu bytes of stack, %zu KiB said; code %u\n", name, bytes, kib, (unsigned)settled.answer.code);
+    if (telling)
+        printf("%s: %zu bytes of stack, %zu KiB said\n", name, bytes, kib);
+    if (bytes > 1024 * kib) {
+        printf("does not hold: %s: %zu bytes of stack, %zu KiB said\n", name, bytes, kib);
         failures++;
     }
 }
 
+// The stack of a call, and its code.
+static void expect_code(const char *name, void (*call)(void), size_t kib, uint32_t code)
+{
+    expect_stack(name, call, kib);
+    expect(settled.answer.code == code, name);
+}
+
+// The stack of a call on a marking in which event 0 is open, and on one in which a condition is wanting.
+static void expect_both(const char *name, void (*call)(void))
+{
+    expect_stack(name, call, STACK_OTHER);
+    expect(order[0] == OZHIMKA_GRANTED && order[1] == OZHIMKA_CONDITION_WANTING, name);
+}
+
+static void try_stack_of_books(void)
+{
+    index_length = ozhimka_index_length(book);
+    ordered = ozhimka_order_length(book, 0);
+    expect_code("ozhimka_check", check, STACK_CHECK, OZHIMKA_GRANTED);
+    expect_code("ozhimka_complete", complete, STACK_COMPLETE, OZHIMKA_GRANTED);
+    expect_code("ozhimka_build_index", build_index, STACK_CHECK, OZHIMKA_GRANTED);
+    expect_code("ozhimka_complete_indexed", complete_indexed, STACK_COMPLETE, OZHIMKA_GRANTED);
+    expect_code("ozhimka_complete_list", complete_list, STACK_COMPLETE, OZHIMKA_GRANTED);
+}
+
+// Groups 0 to 255 become a loop of parents.
+static void try_stack_of_loops(void)
+{
+    put16(image + OZHIMKA_CHART_HEADER, OZHIMKA_MAX_EVENTS - 1);
+    expect_stack("ozhimka_read_chart of a chart with a loop", read_chart, STACK_READ_CHART);
+    expect(reading.answer.code == OZHIMKA_PARENTS_LOOP && reading.answer.place == 0 && reading.chart.count == 0, "a loop of 256 groups");
+    expect_code("ozhimka_mend of a chart with a loop", mend, STACK_MEND, OZHIMKA_GRANTED);
+    largest_chart();
+}
+
+// The largest chart and its book, and the largest book by hand, without a loop and with one.
 static void try_stack(void)
 {
     largest_chart();
-    expect_stack("ozhimka_read_chart", read_chart, 17);
-    expect(reading.answer.code == OZHIMKA_GRANTED, "the largest chart is read");
-    expect_stack("ozhimka_mend", mend, 1);
-    expect_stack("ozhimka_execute", execute, 1);
-    expect_stack("ozhimka_open_test", open_test, 1);
-    expect_stack("ozhimka_count_open", count_open, 1);
-    expect_stack("ozhimka_finished", finished, 1);
-    expect_stack("ozhimka_replay", replay, 1);
-    expect_stack("ozhimka_strike", strike, 1);
-    expect_stack("ozhimka_derive_smaller", derive_smaller, 3);
-    expect_stack("ozhimka_derive", derive, 1);
+    try_stack_of_loops();
+    expect_stack("ozhimka_read_chart", read_chart, STACK_READ_CHART);
+    expect(reading.answer.code == OZHIMKA_GRANTED && reading.chart.count == OZHIMKA_MAX_EVENTS, "the largest chart is read");
+    expect_code("ozhimka_mend", mend, STACK_MEND, OZHIMKA_GRANTED);
+    expect_both("ozhimka_execute", execute);
+    expect_both("ozhimka_open_test", open_test);
+    expect_both("ozhimka_count_open", count_open);
+    expect_stack("ozhimka_finished", finished, STACK_OTHER);
+    expect_both("ozhimka_replay", replay);
+    expect_both("ozhimka_strike", strike);
+    expect_code("ozhimka_matching", matching, STACK_MATCHING, OZHIMKA_GRANTED);
+    largest_book();
+    if (telling)
+        printf("the largest book by hand:\n");
+    try_stack_of_books();
+    expect_code("ozhimka_read_back", read_back, STACK_READ_BACK, OZHIMKA_NOT_DERIVED);
+    put16(book + OZHIMKA_BOOK_HEADER + 8, 1); // its own condition names this mark
+    expect_code("ozhimka_check of a book with a loop", check, STACK_CHECK, OZHIMKA_LOOP);
+    expect_code("ozhimka_derive_smaller", derive_smaller, STACK_SMALLER, OZHIMKA_GRANTED);
+    expect_code("ozhimka_derive", derive, STACK_OTHER, OZHIMKA_GRANTED);
     book_length = ozhimka_book_length(book);
-    ordered = ozhimka_order_length(book, 0);
-    expect_stack("ozhimka_read_back", read_back, 25);
-    expect_stack("ozhimka_check", check, 20);
-    expect_stack("ozhimka_matching", matching, 2);
-    expect_stack("ozhimka_complete", complete, 21);
-    index_length = ozhimka_index_length(book);
-    expect_stack("ozhimka_build_index", build_index, 20);
-    expect_stack("ozhimka_complete_indexed", complete_indexed, 21);
-    expect_stack("ozhimka_complete_list", complete_list, 21);
+    expect(book_length == OZHIMKA_MAX_DERIVED, "the largest derived book");
+    if (telling)
+        printf("the largest derived book:\n");
+    try_stack_of_books();
+    expect_code("ozhimka_read_back", read_back, STACK_READ_BACK, OZHIMKA_GRANTED);
 }
 
 static bool is(struct ozhimka_answer answer, uint32_t code, size_t place)
@@ -171,11 +313,119 @@ static void try_null(void)
     expect(ozhimka_complete_indexed(book, book_length, index_image, index_length, open, 0).evaluated == ordered, "every rule, fired or not");
 }
 
+// What the header says of a set and of the functions beside it, at the edges of its words.
+static void try_sets(void)
+{
+    const uint32_t events[6] = {0, 63, 64, 127, 128, 255};
+    struct ozhimka_set set = ozhimka_set_below(0), all = ozhimka_set_below(OZHIMKA_MAX_EVENTS);
+    expect(ozhimka_set_empty(set) && ozhimka_set_count(set) == 0 && ozhimka_set_next(set, 0) == OZHIMKA_NO_EVENT, "the empty set");
+    for (size_t i = 0; i < 6; i++) {
+        ozhimka_set_put(&set, events[i]);
+        expect(ozhimka_set_has(set, events[i]) && set.words[events[i] / 64] >> events[i] % 64 == 1, "an event's bit");
+        expect(ozhimka_set_count(set) == i + 1 && !ozhimka_set_empty(set), "one event more");
+    }
+    size_t met = 0;
+    for (uint32_t e = ozhimka_set_next(set, 0); e < OZHIMKA_NO_EVENT; e = ozhimka_set_next(set, e + 1))
+        expect(met < 6 && e == events[met++], "the events of a set, lowest first");
+    expect(met == 6 && ozhimka_set_next(set, OZHIMKA_NO_EVENT) == OZHIMKA_NO_EVENT, "all of them, and none behind the last");
+    struct ozhimka_set same = set;
+    ozhimka_set_put(&same, OZHIMKA_MAX_EVENTS);
+    ozhimka_set_drop(&same, UINT32_MAX);
+    expect(ozhimka_set_same(set, same) && !ozhimka_set_has(all, OZHIMKA_MAX_EVENTS), "a number that is no event");
+    ozhimka_set_drop(&same, 64);
+    expect(!ozhimka_set_same(set, same) && !ozhimka_set_has(same, 64) && ozhimka_set_count(same) == 5, "an event less");
+    expect(ozhimka_set_count(all) == OZHIMKA_MAX_EVENTS && ozhimka_set_count(ozhimka_set_below(65)) == 65, "all events below a count");
+    expect(ozhimka_set_has(ozhimka_set_below(65), 64) && !ozhimka_set_has(ozhimka_set_below(64), 64), "up to the count, and no further");
+}
+
+// A chart of 256 events in which events from all four words of a set matter: 255 waits for condition 63 and milestone 64, and executing it
+// takes 64 out, brings 128 in and makes 0 pending.
+static struct ozhimka_chart wide_chart(void)
+{
+    struct ozhimka_chart chart = {.count = OZHIMKA_MAX_EVENTS};
+    ozhimka_set_put(&chart.conditions[255], 63);
+    ozhimka_set_put(&chart.milestones[255], 64);
+    ozhimka_set_put(&chart.excludes[255], 64);
+    ozhimka_set_put(&chart.includes[255], 128);
+    ozhimka_set_put(&chart.responses[255], 0);
+    return chart;
+}
+
+// What the header says at the limits: the highest event, mark and rule, and what is past them.
+static void try_limits(void)
+{
+    static struct ozhimka_chart chart;
+    struct ozhimka_marking marking = mark(0, 0, 0), next;
+    chart = wide_chart();
+    marking.included = ozhimka_set_below(OZHIMKA_MAX_EVENTS);
+    ozhimka_set_drop(&marking.included, 128);
+    ozhimka_set_put(&marking.pending, 64);
+    struct ozhimka_step step = ozhimka_execute(&chart, marking, 255, 0);
+    expect(is(step.answer, OZHIMKA_CONDITION_WANTING, 63) && ozhimka_set_same(step.conditions, chart.conditions[255]), "63 is wanting");
+    expect(ozhimka_set_same(step.milestones, chart.milestones[255]), "and 64 is pending");
+    marking = ozhimka_execute(&chart, marking, 63, 0).marking;
+    expect(is(ozhimka_open_test(&chart, marking, 255).answer, OZHIMKA_MILESTONE_WANTING, 64), "64 is pending");
+    struct ozhimka_open_count count = ozhimka_count_open(&chart, marking);
+    expect(count.count == 254 && count.lowest == 0, "all are open but 128 and 255");
+    marking = ozhimka_execute(&chart, marking, 64, 0).marking;
+    step = ozhimka_execute(&chart, marking, 255, 0);
+    next = marking;
+    ozhimka_set_put(&next.executed, 255), ozhimka_set_put(&next.pending, 0);
+    ozhimka_set_drop(&next.included, 64), ozhimka_set_put(&next.included, 128);
+    expect(is(step.answer, OZHIMKA_GRANTED, 0) && ozhimka_marking_same(step.marking, next), "a step of the last event");
+    expect(is(ozhimka_execute(&chart, marking, 256, 0).answer, OZHIMKA_NO_SUCH_EVENT, 0), "event 256");
+    expect(is(ozhimka_derive(&chart, book, sizeof book), OZHIMKA_GRANTED, 0), "its book");
+    size_t length = ozhimka_book_length(book), count_of_last = ozhimka_order_length(book, 255);
+    struct ozhimka_settled before = ozhimka_matching(&chart, marking), after = ozhimka_matching(&chart, next);
+    expect(before.snapshot.marks[1023] && before.snapshot.marks[768] && !after.snapshot.marks[768], "answered 255 is mark 1,023");
+    expect(is(ozhimka_check(book, length, 255, order, OZHIMKA_MAX_RULES), OZHIMKA_GRANTED, 0), "an order of stage 255");
+    settled = ozhimka_complete(book, length, order, count_of_last, before.snapshot, 255);
+    expect(is(settled.answer, OZHIMKA_GRANTED, 0) && memcmp(&settled.snapshot, &after.snapshot, sizeof open) == 0, "stage 255, completed");
+    expect(is(ozhimka_complete(book, length, order, count_of_last, before.snapshot, 256).answer, OZHIMKA_NO_SUCH_STAGE, 0), "stage 256");
+    chart.count = 255;
+    expect(is(ozhimka_count_open(&chart, mark(0, 0, 0)).answer, OZHIMKA_UNFIT, 0), "a set at the count");
+    chart.count = 257;
+    expect(is(ozhimka_finished(&chart, mark(0, 0, 0)).answer, OZHIMKA_UNFIT, 0), "257 events");
+}
+
+// No open event is 256, of small charts and of refused counts too; an empty snapshot is one of 1,024 marks, and the last of them is above any
+// book of fewer.
+static void try_none(void)
+{
+    static struct ozhimka_chart chart, unfit;
+    struct ozhimka_snapshot last = open;
+    chart.count = 2;
+    struct ozhimka_open_count count = ozhimka_count_open(&chart, mark(0, 0, 0)), refused = ozhimka_count_open(&unfit, mark(0, 0, 0));
+    expect(is(count.answer, OZHIMKA_GRANTED, 0) && count.count == 0 && count.lowest == 256, "no open event");
+    expect(is(refused.answer, OZHIMKA_UNFIT, 0) && refused.count == 0 && refused.lowest == 256, "no open event of a refused count");
+    expect(is(ozhimka_derive(&chart, book, sizeof book), OZHIMKA_GRANTED, 0), "a book of two events");
+    size_t length = ozhimka_book_length(book), rules = ozhimka_order_length(book, 0);
+    expect(is(ozhimka_check(book, length, 0, order, OZHIMKA_MAX_RULES), OZHIMKA_GRANTED, 0), "its order");
+    last.marks[1023] = true;
+    expect(is(ozhimka_complete(book, length, order, rules, last, 0).answer, OZHIMKA_MARK_ABOVE, 0), "mark 1,023 of a book of eight");
+    expect(is(ozhimka_complete(book, length, order, rules, open, 0).answer, OZHIMKA_GRANTED, 0), "and without it");
+    order[0] += 65536;
+    expect(is(ozhimka_complete(book, length, order, rules, open, 0).answer, OZHIMKA_ORDER_UNFIT, 0), "a number that agrees in 16 bits");
+}
+
+// Rules above 65,535, in an order and in the index: of the book that the largest chart has, with which this begins.
+static void try_high_rules(void)
+{
+    size_t last = OZHIMKA_MAX_RULES - 1, at = get32(index_image + OZHIMKA_INDEX_HEADER + OZHIMKA_INDEX_STAGE * 255);
+    size_t rules = ozhimka_order_length(book, 255);
+    expect(is(ozhimka_check(book, book_length, 255, order, OZHIMKA_MAX_RULES), OZHIMKA_GRANTED, 0), "the last stage's order");
+    expect(order[rules - 1] == last && order[0] > 65535 && order[0] < last, "its numbers");
+    expect(get32(index_image + at) == order[0] && get32(index_image + at + 4 * (rules - 1)) == last, "the same in the index");
+    expect(at + 4 * rules == index_length, "at the end of it");
+    order[0] -= 65536;
+    expect(is(ozhimka_complete(book, book_length, order, rules, open, 255).answer, OZHIMKA_ORDER_UNFIT, 0), "a number cut to 16 bits");
+}
+
 // What the header says of the roles in ozhimka_chart and of the order of ozhimka_execute's refusals.
 static void try_roles(void)
 {
     struct ozhimka_chart chart = reading.chart;
-    struct ozhimka_marking marking = {0, 0, 0};
+    struct ozhimka_marking marking = mark(0, 0, 0);
     uint32_t last = OZHIMKA_MAX_EVENTS - 1, role = OZHIMKA_MAX_ROLES - 1;
     expect(chart.roles[0] == 1 && chart.roles[last] == 129, "an event has its roles and those of the groups above it");
     expect(is(ozhimka_execute(&chart, marking, last, role).answer, OZHIMKA_NOT_INCLUDED, 0), "a role that the event names");
@@ -192,7 +442,7 @@ static void try_roles(void)
 
 static uint32_t codes_on(const struct ozhimka_chart *chart)
 {
-    struct ozhimka_marking none = {0, 0, 0};
+    struct ozhimka_marking none = mark(0, 0, 0);
     return ozhimka_count_open(chart, none).answer.code | ozhimka_finished(chart, none).answer.code
            | ozhimka_matching(chart, none).answer.code | ozhimka_derive(chart, book, sizeof book).code;
 }
@@ -213,17 +463,18 @@ static void try_common_events(struct ozhimka_chart chart)
 static void try_tables(void)
 {
     struct ozhimka_chart chart = {.count = 6};
-    struct ozhimka_marking marking = {2, 4, 39}, early = {60, 0, 39};
-    chart.conditions[0] = 2, chart.milestones[0] = 4, chart.responses[0] = 8, chart.includes[0] = 16, chart.excludes[0] = 32;
+    struct ozhimka_marking marking = mark(2, 4, 39), early = mark(60, 0, 39);
+    chart.conditions[0] = low(2), chart.milestones[0] = low(4), chart.responses[0] = low(8);
+    chart.includes[0] = low(16), chart.excludes[0] = low(32);
     expect(is(ozhimka_execute(&chart, early, 0, 0).answer, OZHIMKA_CONDITION_WANTING, 1), "a condition is wanting");
     expect(is(ozhimka_execute(&chart, marking, 0, 0).answer, OZHIMKA_MILESTONE_WANTING, 2), "a milestone is wanting");
     expect(ozhimka_count_open(&chart, early).lowest == 1 && ozhimka_count_open(&chart, marking).lowest == 1, "what is open");
     expect(!ozhimka_matching(&chart, early).snapshot.marks[0] && !ozhimka_matching(&chart, marking).snapshot.marks[0],
            "what is open in the matching snapshot");
     expect(!ozhimka_finished(&chart, marking).yes && ozhimka_finished(&chart, early).yes, "what is finished");
-    marking.pending = 0;
+    marking.pending = low(0);
     struct ozhimka_step step = ozhimka_execute(&chart, marking, 0, 0);
-    expect(step.marking.executed == 3 && step.marking.pending == 8 && step.marking.included == 23, "what a step does");
+    expect(ozhimka_marking_same(step.marking, mark(3, 8, 23)), "what a step does");
     expect(is(ozhimka_derive(&chart, book, sizeof book), OZHIMKA_GRANTED, 0), "a book is derived");
     expect(is(ozhimka_check(book, ozhimka_book_length(book), 0, order, OZHIMKA_MAX_RULES), OZHIMKA_GRANTED, 0), "and passes");
     struct ozhimka_settled start = ozhimka_matching(&chart, marking), end = ozhimka_matching(&chart, step.marking);
@@ -246,8 +497,8 @@ static void try_close_rules(const uint8_t *rest, size_t length)
     memcpy(book + OZHIMKA_BOOK_HEADER + sizeof rules, rest, length);
     book_length = OZHIMKA_BOOK_HEADER + sizeof rules + length;
     ordered = 2;
-    expect_stack("ozhimka_check with a search by stage", check, 20);
-    expect_stack("ozhimka_complete with a search by stage", complete, 21);
+    expect_code("ozhimka_check with a search by stage", check, STACK_CHECK, OZHIMKA_GRANTED);
+    expect_code("ozhimka_complete with a search by stage", complete, STACK_COMPLETE, OZHIMKA_GRANTED);
 }
 
 // What the header says of the rules that count for a stage, of their order, and of 29: on the request's two rules, of which each refers to
@@ -257,7 +508,7 @@ static void try_stages(void)
     uint8_t two[OZHIMKA_BOOK_HEADER + 2 * OZHIMKA_RULE_SIZE + 2 * OZHIMKA_CONDITION_SIZE + 2 * OZHIMKA_WORD_SIZE] = {0};
     const uint8_t counts[8] = {2, 4, 2, 2, 2, 32, 52, 68}, rules[20] = {1, 1, 1, 0, 0, 0, 0, 0, 3, 0, 1, 1, 1, 0, 1, 0, 1, 0, 2, 0};
     const uint8_t rest[20] = {0, 0, 0, 0, 1, 0, 0, 0, 1, 0, 0, 0, 1, 0, 0, 0, 2, 0, 3, 0};
-    uint16_t lent[3] = {7, 7, 7};
+    uint32_t lent[3] = {7, 7, 7};
     struct ozhimka_snapshot start = open;
     start.marks[1] = start.marks[2] = true;
     for (size_t i = 0; i < 8; i++)
@@ -270,7 +521,7 @@ static void try_stages(void)
         expect(lent[0] == stage && lent[1] == 7 && lent[2] == 7, "the stage's order, and nothing behind it");
         expect(ozhimka_order_length(two, stage) == 1, "the length of a stage's order");
     }
-    const uint16_t both[2] = {0, 1}, wrong[1] = {1}, right[1] = {0};
+    const uint32_t both[2] = {0, 1}, wrong[1] = {1}, right[1] = {0};
     expect(is(ozhimka_check(two, sizeof two, 2, NULL, 0), OZHIMKA_NO_SUCH_STAGE, 0), "no such stage, before room");
     expect(is(ozhimka_complete(two, sizeof two, both, 2, start, 2).answer, OZHIMKA_NO_SUCH_STAGE, 0), "no such stage, before the order");
     expect(is(ozhimka_complete(two, sizeof two, both, 2, start, 0).answer, OZHIMKA_ORDER_UNFIT, 0), "an order of the whole book");
@@ -280,8 +531,8 @@ static void try_stages(void)
     memcpy(book, two, sizeof two); // each stage has a completion rule with a condition, so loops are searched for
     book_length = sizeof two;
     ordered = 1;
-    expect_stack("ozhimka_check with a search for loops", check, 20);
-    expect_stack("ozhimka_complete with a search for loops", complete, 21);
+    expect_code("ozhimka_check with a search for loops", check, STACK_CHECK, OZHIMKA_GRANTED);
+    expect_code("ozhimka_complete with a search for loops", complete, STACK_COMPLETE, OZHIMKA_GRANTED);
     try_close_rules(two + OZHIMKA_BOOK_HEADER + sizeof rules, sizeof rest);
     two[OZHIMKA_BOOK_HEADER] = OZHIMKA_TRIGGER_NONE;
     for (uint32_t stage = 0; stage < 3; stage++)
@@ -293,78 +544,73 @@ static void try_list(const uint8_t *three, size_t length, const uint8_t *lent, s
 {
     static const uint32_t many[OZHIMKA_MAX_LIST + 1];
     const uint32_t closed[3] = {0, 1, 0};
-    struct ozhimka_list_completion all = ozhimka_complete_list(three, length, lent, 36, open, stages, 2);
+    struct ozhimka_list_completion all = ozhimka_complete_list(three, length, lent, 40, open, stages, 2);
     expect(is(all.answer, OZHIMKA_GRANTED, 0) && all.granted == 2 && memcmp(&all.snapshot, &once, sizeof open) == 0, "a list, whole");
     expect(all.evaluated == 2, "the rules of both completions");
-    all = ozhimka_complete_list(three, length, lent, 36, open, stages, 4);
+    all = ozhimka_complete_list(three, length, lent, 40, open, stages, 4);
     expect(is(all.answer, OZHIMKA_NO_SUCH_STAGE, 2) && all.granted == 2 && memcmp(&all.snapshot, &once, sizeof open) == 0,
            "a stage that the book has not, and the snapshot reached");
     expect(all.evaluated == 2, "the rules of the granted ones");
-    all = ozhimka_complete_list(three, length, lent, 36, open, closed, 3);
+    all = ozhimka_complete_list(three, length, lent, 40, open, closed, 3);
     expect(is(all.answer, OZHIMKA_STAGE_CLOSED, 1) && all.granted == 1 && memcmp(&all.snapshot, &once, sizeof open) == 0,
            "a closed stage, and the snapshot reached");
     expect(all.evaluated == 1, "the refused one evaluates nothing");
-    all = ozhimka_complete_list(three, length, lent, 36, open, NULL, 0);
+    all = ozhimka_complete_list(three, length, lent, 40, open, NULL, 0);
     expect(is(all.answer, OZHIMKA_GRANTED, 0) && all.granted == 0 && memcmp(&all.snapshot, &open, sizeof open) == 0, "an empty list");
     expect(all.evaluated == 0, "an empty list evaluates nothing");
-    all = ozhimka_complete_list(three, length, lent, 36, open, many, OZHIMKA_MAX_LIST);
+    all = ozhimka_complete_list(three, length, lent, 40, open, many, OZHIMKA_MAX_LIST);
     expect(is(all.answer, OZHIMKA_GRANTED, 0) && all.evaluated == OZHIMKA_MAX_LIST, "the longest list");
-    all = ozhimka_complete_list(three, length, lent, 36, open, many, OZHIMKA_MAX_LIST + 1);
+    all = ozhimka_complete_list(three, length, lent, 40, open, many, OZHIMKA_MAX_LIST + 1);
     expect(is(all.answer, OZHIMKA_LONG_LIST, OZHIMKA_MAX_LIST + 1) && all.granted == 0 && all.evaluated == 0, "a list that is too long");
-    all = ozhimka_complete_list(three, length, lent, 36, above, many, OZHIMKA_MAX_LIST + 1);
+    all = ozhimka_complete_list(three, length, lent, 40, above, many, OZHIMKA_MAX_LIST + 1);
     expect(is(all.answer, OZHIMKA_MARK_ABOVE, 0) && memcmp(&all.snapshot, &above, sizeof open) == 0, "a mark above, before 38");
-    expect(is(ozhimka_complete_list(three, length, lent, 35, above, stages, 4).answer, OZHIMKA_INDEX_UNFIT, 0), "a byte less, before 28");
+    expect(is(ozhimka_complete_list(three, length, lent, 39, above, stages, 4).answer, OZHIMKA_INDEX_UNFIT, 0), "a byte less, before 28");
 }
 
 // What the header says of the index: its length and fields, on three stages of which no rule counts for the second; which one is fit; the
 // order of refusals; and that a completion through it is one with the order from the check.
 static void try_index(void)
 {
-    uint8_t three[OZHIMKA_BOOK_HEADER + 2 * OZHIMKA_RULE_SIZE] = {0}, lent[40];
+    uint8_t three[OZHIMKA_BOOK_HEADER + 2 * OZHIMKA_RULE_SIZE] = {0}, lent[44];
     const uint8_t counts[8] = {3, 4, 2, 0, 0, 32, 52, 52}, rules[20] = {1, 0, 1, 0, 2, 0, 0, 0, 3, 0, 1, 0, 1, 0, 0, 0, 0, 0, 3, 0};
-    const uint8_t numbers[8] = {3, 2, 32, 1, 34, 0, 34, 1}, last[6] = {1, 0, 0, 0, PAINT, PAINT};
+    const uint8_t numbers[10] = {3, 2, 32, 1, 36, 0, 36, 1, 1, 0};
     struct ozhimka_snapshot above = open;
-    uint16_t lone[1];
+    uint32_t lone[1];
     for (size_t i = 0; i < 8; i++)
         three[4 * i] = counts[i];
     memcpy(three + OZHIMKA_BOOK_HEADER, rules, sizeof rules);
     memset(lent, PAINT, sizeof lent);
-    expect(ozhimka_index_length(three) == 36, "the length of an index");
-    expect(is(ozhimka_build_index(three, sizeof three, lent, 35), OZHIMKA_INDEX_ROOM, 36) && lent[0] == PAINT, "room one byte short");
+    expect(ozhimka_index_length(three) == 40, "the length of an index");
+    expect(is(ozhimka_build_index(three, sizeof three, lent, 39), OZHIMKA_INDEX_ROOM, 40) && lent[0] == PAINT, "room one byte short");
     expect(is(ozhimka_build_index(three, sizeof three, lent, sizeof lent), OZHIMKA_GRANTED, 0), "an index is built");
-    for (size_t i = 0; i < 8; i++)
-        expect(lent[4 * i] == numbers[i] && lent[4 * i + 1] == 0 && lent[4 * i + 2] == 0 && lent[4 * i + 3] == 0, "the index's numbers");
-    expect(memcmp(lent + 32, last, sizeof last) == 0, "the orders, and nothing behind them");
+    for (size_t i = 0; i < 10; i++)
+        expect(get32(lent + 4 * i) == numbers[i], "the index's numbers and orders");
+    expect(lent[40] == PAINT, "and nothing behind them");
     above.marks[4] = true;
-    expect(is(ozhimka_complete_indexed(three, sizeof three, lent, 37, above, 9).answer, OZHIMKA_INDEX_UNFIT, 0), "a byte more, before 28");
-    expect(is(ozhimka_complete_indexed(three, sizeof three, lent, 36, above, 9).answer, OZHIMKA_MARK_ABOVE, 0), "a mark above, before 29");
-    expect(is(ozhimka_complete_indexed(three, sizeof three, lent, 36, open, 3).answer, OZHIMKA_NO_SUCH_STAGE, 0), "no such stage");
-    struct ozhimka_indexed_completion next = ozhimka_complete_indexed(three, sizeof three, lent, 36, open, 1);
+    expect(is(ozhimka_complete_indexed(three, sizeof three, lent, 41, above, 9).answer, OZHIMKA_INDEX_UNFIT, 0), "a byte more, before 28");
+    expect(is(ozhimka_complete_indexed(three, sizeof three, lent, 40, above, 9).answer, OZHIMKA_MARK_ABOVE, 0), "a mark above, before 29");
+    expect(is(ozhimka_complete_indexed(three, sizeof three, lent, 40, open, 3).answer, OZHIMKA_NO_SUCH_STAGE, 0), "no such stage");
+    struct ozhimka_indexed_completion next = ozhimka_complete_indexed(three, sizeof three, lent, 40, open, 1);
     expect(is(next.answer, OZHIMKA_STAGE_CLOSED, 0) && next.evaluated == 0, "a closed stage, and no rule evaluated");
     expect(is(ozhimka_check(three, sizeof three, 0, lone, 1), OZHIMKA_GRANTED, 0), "the check's order");
     struct ozhimka_settled along = ozhimka_complete(three, sizeof three, lone, 1, open, 0);
-    next = ozhimka_complete_indexed(three, sizeof three, lent, 36, open, 0);
+    next = ozhimka_complete_indexed(three, sizeof three, lent, 40, open, 0);
     expect(is(next.answer, OZHIMKA_GRANTED, 0) && memcmp(&next.snapshot, &along.snapshot, sizeof open) == 0, "the same snapshot");
     expect(next.evaluated == 1, "the rules of the stage's order, not of the book");
     try_list(three, sizeof three, lent, above, next.snapshot);
-    lent[34] = 1; // the order of the last stage, which is not the one completed
-    expect(is(ozhimka_complete_indexed(three, sizeof three, lent, 36, open, 0).answer, OZHIMKA_INDEX_UNFIT, 0), "another stage's order");
-}
-
-static bool same_marking(struct ozhimka_marking one, struct ozhimka_marking other)
-{
-    return one.executed == other.executed && one.pending == other.pending && one.included == other.included;
+    lent[36] = 1; // the order of the last stage, which is not the one completed
+    expect(is(ozhimka_complete_indexed(three, sizeof three, lent, 40, open, 0).answer, OZHIMKA_INDEX_UNFIT, 0), "another stage's order");
 }
 
 static bool reaches(struct ozhimka_replayed told, uint64_t count, uint32_t code, struct ozhimka_marking marking, bool finished)
 {
-    return is(told.answer, OZHIMKA_GRANTED, 0) && told.steps == count && told.code == code && same_marking(told.marking, marking)
+    return is(told.answer, OZHIMKA_GRANTED, 0) && told.steps == count && told.code == code && ozhimka_marking_same(told.marking, marking)
            && told.finished == finished;
 }
 
 static bool strikes(struct ozhimka_struck struck, uint32_t code, uint32_t place, struct ozhimka_marking marking)
 {
-    return is(struck.answer, code, place) && same_marking(struck.marking, marking);
+    return is(struck.answer, code, place) && ozhimka_marking_same(struck.marking, marking);
 }
 
 // A step that is not allowed, by code, behind one that is.
@@ -375,7 +621,7 @@ static void try_stops(const struct ozhimka_chart *chart, struct ozhimka_marking 
                                OZHIMKA_NOT_PERMITTED, OZHIMKA_NOT_INCLUDED, OZHIMKA_CONDITION_WANTING};
     for (int i = 0; i < 6; i++) {
         struct ozhimka_recorded record[3] = {{2, 0}, stops[i], {0, 0}};
-        struct ozhimka_marking there = {4, 0, 7};
+        struct ozhimka_marking there = mark(4, 0, 7);
         expect(reaches(ozhimka_replay(chart, start, record, 3), 1, codes[i], there, true), "a step that is not allowed");
         expect(strikes(ozhimka_strike(chart, start, record, 3, 2), codes[i], 1, start), "a step that fails before the struck one");
         expect(strikes(ozhimka_strike(chart, start, record, 3, 0), codes[i], 1, start), "one behind it, by its old position");
@@ -387,9 +633,9 @@ static void try_stops(const struct ozhimka_chart *chart, struct ozhimka_marking 
 static void try_records(void)
 {
     struct ozhimka_chart chart = {.count = 4}, unfit = {.count = 0};
-    struct ozhimka_marking start = {0, 0, 7}, beyond = {16, 0, 7}, first = {1, 2, 7}, both = {5, 2, 7}, end = {7, 0, 7};
+    struct ozhimka_marking start = mark(0, 0, 7), beyond = mark(16, 0, 7), first = mark(1, 2, 7), both = mark(5, 2, 7), end = mark(7, 0, 7);
     struct ozhimka_recorded made[3] = {{0, 0}, {2, 7}, {1, 1}};
-    chart.conditions[1] = 1, chart.responses[0] = 2, chart.roles[3] = 32;
+    chart.conditions[1] = low(1), chart.responses[0] = low(2), chart.roles[3] = 32;
     expect(reaches(ozhimka_replay(&chart, start, NULL, 0), 0, 0, start, true), "an empty record");
     expect(reaches(ozhimka_replay(&chart, start, made, 2), 2, 0, both, false), "a record that is allowed, not finished");
     expect(reaches(ozhimka_replay(&chart, start, made, 3), 3, 0, end, true), "a record that is allowed, finished");
@@ -401,7 +647,7 @@ static void try_records(void)
     expect(strikes(ozhimka_strike(&chart, beyond, made, 3, 3), OZHIMKA_UNFIT, 0, beyond), "14 before 36");
     struct ozhimka_replayed refused = ozhimka_replay(&chart, beyond, made, 3);
     expect(is(refused.answer, OZHIMKA_UNFIT, 0) && refused.steps == 0 && refused.code == 0 && !refused.finished
-               && same_marking(refused.marking, beyond),
+               && ozhimka_marking_same(refused.marking, beyond),
            "an unfit marking");
     expect(is(ozhimka_replay(&unfit, start, made, 3).answer, OZHIMKA_UNFIT, 0), "an unfit chart");
     expect(ozhimka_replay_in(chart.count, chart.conditions, chart.responses, chart.milestones, chart.includes, chart.excludes, chart.roles,
@@ -421,20 +667,20 @@ static void expect_blocked(const struct ozhimka_chart *chart, struct ozhimka_mar
     struct ozhimka_step step = ozhimka_execute(chart, marking, event, 0);
     struct ozhimka_replayed told = ozhimka_replay(chart, marking, record, 1);
     struct ozhimka_struck struck = ozhimka_strike(chart, marking, record, 2, 1);
-    expect(is(open.answer, code, place) && open.conditions == conditions && open.milestones == milestones, "what blocks an event");
-    expect(is(step.answer, code, place) && step.conditions == conditions && step.milestones == milestones, "what blocks a step");
-    expect(same_marking(step.marking, marking), "a refused step changes nothing");
-    expect(told.conditions == conditions && told.milestones == milestones, "what blocks a record");
-    expect(struck.conditions == conditions && struck.milestones == milestones, "what blocks a record without a step");
+    expect(is(open.answer, code, place) && is_low(open.conditions, conditions) && is_low(open.milestones, milestones), "what blocks an event");
+    expect(is(step.answer, code, place) && is_low(step.conditions, conditions) && is_low(step.milestones, milestones), "what blocks a step");
+    expect(ozhimka_marking_same(step.marking, marking), "a refused step changes nothing");
+    expect(is_low(told.conditions, conditions) && is_low(told.milestones, milestones), "what blocks a record");
+    expect(is_low(struck.conditions, conditions) && is_low(struck.milestones, milestones), "what blocks a record without a step");
 }
 
 // Event 0 waits for conditions 1, 2 and 3 and for milestones 2, 3 and 4; 4 is out.
 static void try_blocking(void)
 {
     struct ozhimka_chart chart = {.count = 6}, unfit = {.count = 0};
-    const struct ozhimka_marking none = {0, 28, 15}, one = {2, 28, 15}, late = {14, 28, 15}, last = {14, 24, 15};
-    const struct ozhimka_marking out = {0, 28, 14}, beyond = {64, 28, 15};
-    chart.conditions[0] = 14, chart.milestones[0] = 28;
+    const struct ozhimka_marking none = mark(0, 28, 15), one = mark(2, 28, 15), late = mark(14, 28, 15), last = mark(14, 24, 15);
+    const struct ozhimka_marking out = mark(0, 28, 14), beyond = mark(64, 28, 15);
+    chart.conditions[0] = low(14), chart.milestones[0] = low(28);
     expect_blocked(&chart, none, 0, OZHIMKA_CONDITION_WANTING, 1, 14, 12);
     expect_blocked(&chart, one, 0, OZHIMKA_CONDITION_WANTING, 2, 12, 12);
     expect_blocked(&chart, late, 0, OZHIMKA_MILESTONE_WANTING, 2, 0, 12);
@@ -443,14 +689,14 @@ static void try_blocking(void)
     expect_blocked(&chart, none, 6, OZHIMKA_NO_SUCH_EVENT, 0, 0, 0);
     expect_blocked(&chart, beyond, 6, OZHIMKA_UNFIT, 0, 0, 0);
     expect_blocked(&unfit, none, 0, OZHIMKA_UNFIT, 0, 0, 0);
-    struct ozhimka_marking cleared = {14, 16, 15};
+    struct ozhimka_marking cleared = mark(14, 16, 15);
     struct ozhimka_tested open = ozhimka_open_test(&chart, cleared, 0);
-    expect(is(open.answer, OZHIMKA_GRANTED, 0) && open.conditions == 0 && open.milestones == 0, "an event that nothing blocks");
-    chart.conditions[0] = 0, cleared.pending = 28;
+    expect(is(open.answer, OZHIMKA_GRANTED, 0) && ozhimka_set_empty(open.conditions) && ozhimka_set_empty(open.milestones), "an event that nothing blocks");
+    chart.conditions[0] = low(0), cleared.pending = low(28);
     expect_blocked(&chart, cleared, 0, OZHIMKA_MILESTONE_WANTING, 2, 0, 12);
     chart.roles[0] = 2;
     struct ozhimka_step step = ozhimka_execute(&chart, cleared, 0, 0);
-    expect(is(step.answer, OZHIMKA_NOT_PERMITTED, 0) && step.conditions == 0 && step.milestones == 0, "a role that is not permitted");
+    expect(is(step.answer, OZHIMKA_NOT_PERMITTED, 0) && ozhimka_set_empty(step.conditions) && ozhimka_set_empty(step.milestones), "a role that is not permitted");
     expect(is(ozhimka_open_test(&chart, cleared, 0).answer, OZHIMKA_MILESTONE_WANTING, 2), "the open test asks for no role");
 }
 
@@ -476,7 +722,8 @@ static void try_read_back(void)
 {
     static uint8_t again[OZHIMKA_MAX_DERIVED];
     struct ozhimka_chart chart = {.count = 6}, lost = chart;
-    chart.conditions[0] = 2, chart.milestones[1] = 4, chart.responses[2] = 8, chart.includes[3] = 16, chart.excludes[4] = 33;
+    chart.conditions[0] = low(2), chart.milestones[1] = low(4), chart.responses[2] = low(8);
+    chart.includes[3] = low(16), chart.excludes[4] = low(33);
     chart.roles[0] = 255;
     expect(is(ozhimka_derive(&chart, book, sizeof book), OZHIMKA_GRANTED, 0), "a book to read back");
     size_t length = ozhimka_book_length(book);
@@ -521,7 +768,7 @@ static struct ozhimka_snapshot through(const struct ozhimka_smaller *smaller, st
 static void try_both_books(const struct ozhimka_chart *chart, struct ozhimka_marking start, const struct ozhimka_smaller *smaller,
                            const uint8_t *small, size_t length)
 {
-    static uint16_t small_order[OZHIMKA_MAX_RULES];
+    static uint32_t small_order[OZHIMKA_MAX_RULES];
     struct ozhimka_snapshot full = ozhimka_matching(chart, start).snapshot, kept = through(smaller, full);
     const uint32_t turns[3] = {0, 1, 0};
     expect(is(ozhimka_derive(chart, book, sizeof book), OZHIMKA_GRANTED, 0), "the full book");
@@ -561,9 +808,9 @@ static void try_smaller(void)
     enum { NONE = OZHIMKA_NO_MARK, LENGTH = 138 };
     const uint16_t table[8] = {0, 1, 2, NONE, 3, NONE, NONE, 4};
     struct ozhimka_chart chart = {.count = 2}, unfit = {.count = 0};
-    struct ozhimka_marking start = {0, 2, 3}, beyond = {0, 2, 7};
+    struct ozhimka_marking start = mark(0, 2, 3), beyond = mark(0, 2, 7);
     uint8_t lent[200], wanted[LENGTH];
-    chart.conditions[1] = 1, chart.responses[0] = 2, chart.excludes[1] = 1;
+    chart.conditions[1] = low(1), chart.responses[0] = low(2), chart.excludes[1] = low(1);
     expect_no_smaller(&chart, beyond, 0, OZHIMKA_UNFIT, 0);
     expect_no_smaller(&unfit, start, sizeof lent, OZHIMKA_UNFIT, 0);
     expect_no_smaller(&chart, start, LENGTH - 1, OZHIMKA_BOOK_ROOM, LENGTH);
@@ -576,7 +823,7 @@ static void try_smaller(void)
         expect(smaller.table[m] == (m < 8 ? table[m] : NONE), "the numbers of its marks");
     try_both_books(&chart, start, &smaller, lent, LENGTH);
     expect(is(ozhimka_read_back(lent, LENGTH).answer, OZHIMKA_NOT_DERIVED, 0), "it is no derived book");
-    chart.conditions[0] = 2, chart.includes[0] = 2, chart.responses[1] = 1;
+    chart.conditions[0] = low(2), chart.includes[0] = low(2), chart.responses[1] = low(1);
     expect(ozhimka_derive_smaller(&chart, start, lent, sizeof lent).table[7] == 7, "a condition, an include and a response keep their marks");
     expect(is(ozhimka_read_back(lent, ozhimka_book_length(lent)).answer, OZHIMKA_GRANTED, 0), "where no mark goes, it is the full book");
 }
@@ -584,7 +831,7 @@ static void try_smaller(void)
 // What keeps a mark of a single event: its start, and what it is to itself. Two events that nothing relates leave nothing but their stages.
 static void try_kept_marks(void)
 {
-    const struct ozhimka_marking in = {3, 0, 3}, alone = {1, 0, 1}, out = {0, 1, 0};
+    const struct ozhimka_marking in = mark(3, 0, 3), alone = mark(1, 0, 1), out = mark(0, 1, 0);
     struct ozhimka_chart bare = {.count = 2}, own = {.count = 1};
     uint8_t lent[200];
     struct ozhimka_smaller smaller = ozhimka_derive_smaller(&bare, in, lent, OZHIMKA_BOOK_HEADER + 2 * OZHIMKA_RULE_SIZE);
@@ -594,7 +841,7 @@ static void try_kept_marks(void)
     expect(lent[32] == OZHIMKA_TRIGGER_NONE && lent[33] == OZHIMKA_SENSE_NONE && lent[34] == OZHIMKA_EFFECT_SET, "without trigger and condition");
     smaller = ozhimka_derive_smaller(&own, out, lent, sizeof lent);
     expect(smaller.table[1] == OZHIMKA_NO_MARK && smaller.table[2] == 1 && smaller.table[3] == 2, "excluded and pending at the start");
-    own.conditions[0] = own.excludes[0] = own.responses[0] = 1;
+    own.conditions[0] = own.excludes[0] = own.responses[0] = low(1);
     smaller = ozhimka_derive_smaller(&own, alone, lent, sizeof lent);
     expect(smaller.table[1] == 1 && smaller.table[2] == 2 && smaller.table[3] == 3, "what an event is to itself counts");
 }
@@ -656,7 +903,7 @@ static void try_mending(void)
            "and mended again it is the same");
     length = draw(image, OZHIMKA_MAX_EVENTS + 1, many, 0, relations);
     put16(image + OZHIMKA_CHART_HEADER, NONE);
-    expect(is(ozhimka_mend(image, length, mended_image, length, changes, LISTED).answer, OZHIMKA_GRANTED, 0), "64 events in a group");
+    expect(is(ozhimka_mend(image, length, mended_image, length, changes, LISTED).answer, OZHIMKA_GRANTED, 0), "256 events in a group");
     put16(image + OZHIMKA_CHART_HEADER + OZHIMKA_NODE_SIZE, OZHIMKA_MAX_EVENTS + 1);
     for (size_t i = 2; i <= OZHIMKA_MAX_EVENTS; i++)
         put16(image + OZHIMKA_CHART_HEADER + OZHIMKA_NODE_SIZE * i, OZHIMKA_MAX_EVENTS + 1);
@@ -688,11 +935,21 @@ static void try_reasons(void)
     }
 }
 
-int main(void)
+int main(int argc, char **argv)
 {
+    (void)argv;
+    telling = argc > 1;
+    setvbuf(stdout, NULL, _IOLBF, BUFSIZ);
     open.marks[0] = true;
+    bare.count = OZHIMKA_MAX_EVENTS;
+    done = mark(0, 0, 0);
+    done.executed = done.included = ozhimka_set_below(OZHIMKA_MAX_EVENTS);
     try_stack();
     try_null();
+    try_high_rules();
+    try_sets();
+    try_limits();
+    try_none();
     try_roles();
     try_tables();
     try_stages();

@@ -7,14 +7,18 @@
 // once.
 //
 // The caller's duties. A slice goes in as a pointer and a count of elements. The pointer may be null where the count is 0; else it is
-// valid for as many elements as the count says, and nobody else writes them during the call. A pointer to uint16_t is even, one to
-// uint32_t or to a recorded step a multiple of 4. A chart goes in by a pointer that is never null, and nobody writes the chart during the
-// call. Room that is lent to be written overlaps nothing else that the call is given. A `bool` is 0 or 1.
+// valid for as many elements as the count says, and nobody else writes them during the call. A pointer to uint32_t or to a recorded step is a
+// multiple of 4. A chart goes in by a pointer that is never null, a multiple of 8, and nobody writes the chart during the call. Room that is
+// lent to be written overlaps nothing else that the call is given. A `bool` is 0 or 1.
+//
+// Large structs. A chart takes 41,224 bytes and a snapshot 1,024: a chart goes in by pointer, but ozhimka_read_chart and
+// ozhimka_read_back hand one back by value, and a snapshot goes both ways by value. What is kept of them is best static, or the caller's own.
 //
 // Stack, at most, with the copies that the caller's code makes there of structs that go in or come back by value (ozhimka_reading takes
-// 2,672 bytes), and without what the C library and the dynamic linker take: ozhimka_read_back 25 KiB, ozhimka_check and ozhimka_build_index
-// 20 KiB, ozhimka_complete, ozhimka_complete_indexed and ozhimka_complete_list 21 KiB, ozhimka_read_chart 17 KiB, ozhimka_derive_smaller
-// 3 KiB, ozhimka_matching 2 KiB, every other call 1 KiB.
+// 41,336 bytes), and without what the C library and the dynamic linker take: ozhimka_read_back 160 KiB, ozhimka_check and
+// ozhimka_build_index 64 KiB, ozhimka_complete, ozhimka_complete_indexed and ozhimka_complete_list 64 KiB, ozhimka_read_chart
+// 128 KiB, ozhimka_mend 4 KiB, ozhimka_derive_smaller 16 KiB, ozhimka_matching 4 KiB, every other call 4
+// KiB. examples/header_test.c measures them.
 //
 // Every answer is a code, a place and an other. Code 0 is granted; any other refuses, and then
 //   - a marking or a snapshot that was handed in is handed back as it was; but where ozhimka_complete_list refuses within the list, it hands
@@ -27,7 +31,7 @@
 // first refused completion's 29 or 30; within a code the lowest place, then the lowest other.
 //
 // Chart image. Numbers of 16 bits, little-endian, and nothing behind the last:
-//   header       count of nodes N (1 to 128), count of relations K (0 to 4,096), 8, 8 + 4 N
+//   header       count of nodes N (1 to 512), count of relations K (0 to 16,384), 8, 8 + 4 N
 //   N nodes      parent (a node, or 65,535 for none), flags: the lower byte is the sum of 1 executed, 2 pending, 4 included, the upper byte
 //                the roles that the node names, role r (0 to 7) worth 256 times 2 to the r
 //   K relations  from (a node), to (a node), kind: 0 from is a condition of to, 1 to is a response of from, 2 from is a milestone of to,
@@ -42,8 +46,8 @@
 //   the record   as it stood before that step: a node's parent and flags and 0, or a relation's from, to and kind
 //
 // Book image, little-endian, and nothing behind the last word:
-//   header, 32 bits each        stages S (0 to 64), marks M (S to 256), rules R (0 to 8,384), conditions Q (0 to 256),
-//                               words W (0 to 41,024), 32, 32 + 10 R, 32 + 10 R + 8 Q
+//   header, 32 bits each        stages S (0 to 256), marks M (S to 1,024), rules R (0 to 131,840), conditions Q (0 to 1,024),
+//                               words W (0 to 655,616), 32, 32 + 10 R, 32 + 10 R + 8 Q
 //   R rules, 10 bytes each      trigger (8 bits: 0 none, 1 a stage completed, 2 a mark become yes, 3 a mark become no), sense (8 bits: 0 no
 //                               condition, 1 as written, 2 negated), effect (8 bits: 0 clear, 1 set), 0 (8 bits), trigger's stage or mark,
 //                               condition, target mark (16 bits each); 0 for the number of an absent trigger or condition
@@ -68,9 +72,10 @@
 // Index image, little-endian, the running orders of a book's stages beside it:
 //   header, 32 bits each        stages S and rules R, both as in the book
 //   S stages, 8 bytes each      where the stage's order begins, in bytes from the image's start, and how many rules it has (32 bits each)
-//   S orders, 16 bits a rule    the stages' running orders, one behind the other without gaps
+//   S orders, 32 bits a rule    the stages' running orders, one behind the other without gaps
 // A stage for which no rule counts has the offset at which its order would begin. An index is fit for a book exactly if it is, byte for byte
-// and in length, what ozhimka_build_index writes for it: one byte more or less, an order of another stage or of another book is unfit.
+// and in length, what ozhimka_build_index writes for it: one byte more or less, an order of another stage or of another book is unfit, and so
+// is an index with 16 bits a rule, which version 5 wrote, unless it lists no rule.
 #ifndef OZHIMKA_H
 #define OZHIMKA_H
 
@@ -87,9 +92,9 @@
 
 // The header's version. A new major number changes what a program written for the one before relies on; a new minor number adds to it.
 // Structs grow with either: an object built with an older header gives them too little room, so compile anew.
-#define OZHIMKA_VERSION_MAJOR 5
-#define OZHIMKA_VERSION_MINOR 2
-#define OZHIMKA_VERSION "5.2"
+#define OZHIMKA_VERSION_MAJOR 6
+#define OZHIMKA_VERSION_MINOR 0
+#define OZHIMKA_VERSION "6.0"
 
 #ifdef __cplusplus
 extern "C" {
@@ -97,15 +102,16 @@ extern "C" {
 
 // Limits.
 enum {
-    OZHIMKA_MAX_NODES = 128,                     // nodes of a chart image, events and groups
-    OZHIMKA_MAX_RELATIONS = 4096,                // relations of a chart image
-    OZHIMKA_MAX_EVENTS = 64,                     // events of a chart
-    OZHIMKA_NO_EVENT = OZHIMKA_MAX_EVENTS,       // the lowest open event where none is open
+    OZHIMKA_MAX_NODES = 512,                     // nodes of a chart image, events and groups
+    OZHIMKA_MAX_RELATIONS = 16384,               // relations of a chart image
+    OZHIMKA_MAX_EVENTS = 256,                    // events of a chart
+    OZHIMKA_NO_EVENT = OZHIMKA_MAX_EVENTS,       // the lowest event of a set that has none, and the lowest open one where none is open
+    OZHIMKA_SET_WORDS = OZHIMKA_MAX_EVENTS / 64, // numbers of 64 bits that a set of events has
     OZHIMKA_MAX_STAGES = OZHIMKA_MAX_EVENTS,     // stages of a book
-    OZHIMKA_MAX_MARKS = 256,                     // marks of a book and of a snapshot
-    OZHIMKA_MAX_RULES = 8384,                    // rules of a book, and numbers of an order
-    OZHIMKA_MAX_CONDITIONS = 256,                // conditions of a book
-    OZHIMKA_MAX_WORDS = 41024,                   // words of a book
+    OZHIMKA_MAX_MARKS = 1024,                    // marks of a book and of a snapshot
+    OZHIMKA_MAX_RULES = 131840,                  // rules of a book, and numbers of an order
+    OZHIMKA_MAX_CONDITIONS = 1024,               // conditions of a book
+    OZHIMKA_MAX_WORDS = 655616,                  // words of a book
     OZHIMKA_MAX_STACK = 16,                      // values that a condition's text holds at once
     OZHIMKA_MAX_ROLES = 8,                       // roles, which are 0 to 7
     OZHIMKA_MAX_LIST = 4096                      // stages of a list of completions
@@ -169,7 +175,7 @@ enum {
 enum {
     OZHIMKA_INDEX_HEADER = 8,
     OZHIMKA_INDEX_STAGE = 8,
-    OZHIMKA_INDEX_RULE = 2,
+    OZHIMKA_INDEX_RULE = 4,
     OZHIMKA_MAX_INDEX = OZHIMKA_INDEX_HEADER + OZHIMKA_INDEX_STAGE * OZHIMKA_MAX_STAGES
                         + OZHIMKA_INDEX_RULE * OZHIMKA_MAX_STAGES * OZHIMKA_MAX_RULES,
     OZHIMKA_MAX_DERIVED_INDEX = OZHIMKA_INDEX_HEADER + OZHIMKA_INDEX_STAGE * OZHIMKA_MAX_STAGES
@@ -209,7 +215,7 @@ enum ozhimka_code {
     OZHIMKA_BAD_NODE = 4,          // a parent from N to 65,534, or the lower byte of the flags above 7; place: node
     OZHIMKA_PARENTS_LOOP = 5,      // parents loop; place: lowest node on a loop
     OZHIMKA_GROUP_FLAGS = 6,       // group with flags in the lower byte; place: node
-    OZHIMKA_MANY_EVENTS = 7,       // over 64 events, in ozhimka_mend after mending; place: how many
+    OZHIMKA_MANY_EVENTS = 7,       // over 256 events, in ozhimka_mend after mending; place: how many
     OZHIMKA_BAD_RELATION = 8,      // from or to not below N, or a kind above 4; place: relation
     OZHIMKA_INCLUDE_EXCLUDE = 9,   // never given any more, and reserved: a pair may have include and exclude, and inclusion wins
     OZHIMKA_NO_SUCH_EVENT = 10,
@@ -246,20 +252,25 @@ struct ozhimka_answer {
     uint32_t code, place, other;
 };
 
-// A flat chart: sets of events, event f at bit f. conditions[e] and milestones[e] hold event e back; responses[e] become pending,
-// includes[e] included and excludes[e] excluded when e is executed. Role r may execute e where bit r of roles[e] is set; where roles[e] is
-// 0, e is open to everyone, which is to roles 0 to 7. The chart is fit if count is 1 to 64, no set has a bit at or above count, and every
-// entry at or above count is 0, in roles too. What e both excludes and includes is included.
+// A set of events, event e at bit e % 64 of words[e / 64]; ozhimka_set_has and the functions beside it spare one that.
+struct ozhimka_set {
+    uint64_t words[OZHIMKA_SET_WORDS];
+};
+
+// A flat chart: sets of events. conditions[e] and milestones[e] hold event e back; responses[e] become pending, includes[e] included and
+// excludes[e] excluded when e is executed. Role r may execute e where bit r of roles[e] is set; where roles[e] is 0, e is open to everyone,
+// which is to roles 0 to 7. The chart is fit if count is 1 to 256, no set has an event at or above count, and every entry at or above count is
+// empty, or 0 in roles. What e both excludes and includes is included.
 struct ozhimka_chart {
     uint32_t count;
-    uint64_t conditions[OZHIMKA_MAX_EVENTS], responses[OZHIMKA_MAX_EVENTS], milestones[OZHIMKA_MAX_EVENTS];
-    uint64_t includes[OZHIMKA_MAX_EVENTS], excludes[OZHIMKA_MAX_EVENTS];
+    struct ozhimka_set conditions[OZHIMKA_MAX_EVENTS], responses[OZHIMKA_MAX_EVENTS], milestones[OZHIMKA_MAX_EVENTS];
+    struct ozhimka_set includes[OZHIMKA_MAX_EVENTS], excludes[OZHIMKA_MAX_EVENTS];
     uint8_t roles[OZHIMKA_MAX_EVENTS];
 };
 
-// Which events were executed, are pending, are included. It is fit for a chart if no bit stands at or above the chart's count.
+// Which events were executed, are pending, are included. It is fit for a chart if no set has an event at or above the chart's count.
 struct ozhimka_marking {
-    uint64_t executed, pending, included;
+    struct ozhimka_set executed, pending, included;
 };
 
 // Marks of a book, yes or no. Mark e below the book's count of stages is stage e. In a derived book of n events, stage e is open,
@@ -300,14 +311,14 @@ struct ozhimka_smaller {
 // condition in the first set was executed and every milestone in the second is pending no more, with nothing else changed, the event is open.
 struct ozhimka_tested {
     struct ozhimka_answer answer;
-    uint64_t conditions, milestones;
+    struct ozhimka_set conditions, milestones;
 };
 
 // The sets are those that ozhimka_open_test gives with 12 and 13, and empty with every other code.
 struct ozhimka_step {
     struct ozhimka_answer answer;
     struct ozhimka_marking marking;
-    uint64_t conditions, milestones;
+    struct ozhimka_set conditions, milestones;
 };
 
 struct ozhimka_open_count {
@@ -354,28 +365,103 @@ struct ozhimka_replayed {
     uint64_t steps;
     struct ozhimka_marking marking;
     bool finished;
-    uint64_t conditions, milestones;
+    struct ozhimka_set conditions, milestones;
 };
 
 // With 12 and 13 the sets are all that blocks the step that fails, as ozhimka_step has them; else both are empty.
 struct ozhimka_struck {
     struct ozhimka_answer answer;
     struct ozhimka_marking marking;
-    uint64_t conditions, milestones;
+    struct ozhimka_set conditions, milestones;
 };
 
 // The sizes that the archive is built with: a compiler that lays the structs out in another way stops here.
-typedef char ozhimka_sizes[sizeof(size_t) == 8 && sizeof(struct ozhimka_answer) == 12 && sizeof(struct ozhimka_chart) == 2632
-                                   && sizeof(struct ozhimka_marking) == 24 && sizeof(struct ozhimka_snapshot) == 256
-                                   && sizeof(struct ozhimka_reading) == 2672 && sizeof(struct ozhimka_step) == 56
-                                   && sizeof(struct ozhimka_tested) == 32 && sizeof(struct ozhimka_open_count) == 20
-                                   && sizeof(struct ozhimka_finish) == 16 && sizeof(struct ozhimka_settled) == 268
-                                   && sizeof(struct ozhimka_indexed_completion) == 272 && sizeof(struct ozhimka_list_completion) == 276
-                                   && sizeof(struct ozhimka_recorded) == 8 && sizeof(struct ozhimka_replayed) == 72
-                                   && sizeof(struct ozhimka_struck) == 56 && sizeof(struct ozhimka_chart_behind) == 2648
-                                   && sizeof(struct ozhimka_mended) == 16 && sizeof(struct ozhimka_smaller) == 524
+typedef char ozhimka_sizes[sizeof(size_t) == 8 && sizeof(struct ozhimka_answer) == 12 && sizeof(struct ozhimka_set) == 32
+                                   && sizeof(struct ozhimka_chart) == 41224 && offsetof(struct ozhimka_chart, conditions) == 8
+                                   && offsetof(struct ozhimka_chart, roles) == 40968 && sizeof(struct ozhimka_marking) == 96
+                                   && sizeof(struct ozhimka_snapshot) == 1024 && sizeof(struct ozhimka_reading) == 41336
+                                   && sizeof(struct ozhimka_step) == 176 && sizeof(struct ozhimka_tested) == 80
+                                   && sizeof(struct ozhimka_open_count) == 20 && sizeof(struct ozhimka_finish) == 16
+                                   && sizeof(struct ozhimka_settled) == 1036 && sizeof(struct ozhimka_indexed_completion) == 1040
+                                   && sizeof(struct ozhimka_list_completion) == 1044 && sizeof(struct ozhimka_recorded) == 8
+                                   && sizeof(struct ozhimka_replayed) == 192 && offsetof(struct ozhimka_replayed, conditions) == 128
+                                   && sizeof(struct ozhimka_struck) == 176 && sizeof(struct ozhimka_chart_behind) == 41240
+                                   && sizeof(struct ozhimka_mended) == 16 && sizeof(struct ozhimka_smaller) == 2060
                                ? 1
                                : -1];
+
+// ---- sets of events
+
+// Whether an event is in a set; no number from OZHIMKA_MAX_EVENTS on is.
+static inline bool ozhimka_set_has(struct ozhimka_set set, uint32_t event)
+{
+    return event < OZHIMKA_MAX_EVENTS && (set.words[event / 64] >> event % 64 & 1) != 0;
+}
+
+// Puts an event into a set, or takes it out; a number from OZHIMKA_MAX_EVENTS on changes nothing.
+static inline void ozhimka_set_put(struct ozhimka_set *set, uint32_t event)
+{
+    if (event < OZHIMKA_MAX_EVENTS)
+        set->words[event / 64] |= (uint64_t)1 << event % 64;
+}
+
+static inline void ozhimka_set_drop(struct ozhimka_set *set, uint32_t event)
+{
+    if (event < OZHIMKA_MAX_EVENTS)
+        set->words[event / 64] &= ~((uint64_t)1 << event % 64);
+}
+
+// The lowest event of a set that is not below `from`, or OZHIMKA_NO_EVENT where there is none. All events of a set, lowest first:
+//   for (uint32_t e = ozhimka_set_next(set, 0); e < OZHIMKA_NO_EVENT; e = ozhimka_set_next(set, e + 1))
+static inline uint32_t ozhimka_set_next(struct ozhimka_set set, uint32_t from)
+{
+    while (from < OZHIMKA_MAX_EVENTS && (set.words[from / 64] >> from % 64 & 1) == 0)
+        from = set.words[from / 64] >> from % 64 == 0 ? (from / 64 + 1) * 64 : from + 1;
+    return from < OZHIMKA_MAX_EVENTS ? from : (uint32_t)OZHIMKA_NO_EVENT;
+}
+
+// How many events a set has.
+static inline uint32_t ozhimka_set_count(struct ozhimka_set set)
+{
+    uint32_t count = 0;
+    for (int i = 0; i < OZHIMKA_SET_WORDS; i++)
+        for (uint64_t left = set.words[i]; left != 0; left &= left - 1)
+            count++;
+    return count;
+}
+
+static inline bool ozhimka_set_empty(struct ozhimka_set set)
+{
+    uint64_t any = 0;
+    for (int i = 0; i < OZHIMKA_SET_WORDS; i++)
+        any |= set.words[i];
+    return any == 0;
+}
+
+static inline bool ozhimka_set_same(struct ozhimka_set one, struct ozhimka_set other)
+{
+    uint64_t differ = 0;
+    for (int i = 0; i < OZHIMKA_SET_WORDS; i++)
+        differ |= one.words[i] ^ other.words[i];
+    return differ == 0;
+}
+
+// The set of all events below `count`, and so of a whole chart; below 0, the empty set.
+static inline struct ozhimka_set ozhimka_set_below(uint32_t count)
+{
+    struct ozhimka_set set;
+    for (uint32_t i = 0; i < OZHIMKA_SET_WORDS; i++)
+        set.words[i] = count >= 64 * i + 64 ? UINT64_MAX : count <= 64 * i ? 0 : ((uint64_t)1 << count % 64) - 1;
+    return set;
+}
+
+static inline bool ozhimka_marking_same(struct ozhimka_marking one, struct ozhimka_marking other)
+{
+    return ozhimka_set_same(one.executed, other.executed) && ozhimka_set_same(one.pending, other.pending)
+           && ozhimka_set_same(one.included, other.included);
+}
+
+// ---- the calls, and what a book's header tells
 
 // The five counts at the start of a book image.
 struct ozhimka_counts {
@@ -402,7 +488,7 @@ struct ozhimka_reading ozhimka_read_chart(const uint8_t *image, size_t length);
 // it was. `length` bytes are always enough for the chart. A chart of N nodes and K relations has at most 2 N + K changes, since steps 1 and 3
 // leave a node without a parent and there are no more groups than nodes with one: OZHIMKA_MAX_CHANGE_LIST bytes are enough for any list. The
 // three slices do not overlap.
-// Refuses with the first that holds of 1, 2, 3 (a header that cannot be mended), 7 (over 64 events after mending, place: how many; bad
+// Refuses with the first that holds of 1, 2, 3 (a header that cannot be mended), 7 (over 256 events after mending, place: how many; bad
 // relations do not hide it), 37 (either room too short, place: bytes that the chart needs, other: bytes that the list needs, both whichever is
 // short); then nothing is written to either room, and there are 0 entries.
 struct ozhimka_mended ozhimka_mend(const uint8_t *image, size_t length, uint8_t *chart, size_t chart_length, uint8_t *list,
@@ -410,34 +496,39 @@ struct ozhimka_mended ozhimka_mend(const uint8_t *image, size_t length, uint8_t 
 
 // What the archive has for the calls on a chart: each takes the count and the tables of one, of OZHIMKA_MAX_EVENTS entries each, where they
 // stand. The calls below that take a chart are these.
-struct ozhimka_step ozhimka_execute_in(uint32_t count, const uint64_t *conditions, const uint64_t *responses, const uint64_t *milestones,
-                                       const uint64_t *includes, const uint64_t *excludes, const uint8_t *roles,
-                                       struct ozhimka_marking marking, uint32_t event, uint32_t role);
-struct ozhimka_tested ozhimka_open_test_in(uint32_t count, const uint64_t *conditions, const uint64_t *responses,
-                                              const uint64_t *milestones, const uint64_t *includes, const uint64_t *excludes,
-                                              const uint8_t *roles, struct ozhimka_marking marking, uint32_t event);
-struct ozhimka_open_count ozhimka_count_open_in(uint32_t count, const uint64_t *conditions, const uint64_t *responses,
-                                                const uint64_t *milestones, const uint64_t *includes, const uint64_t *excludes,
-                                                const uint8_t *roles, struct ozhimka_marking marking);
-struct ozhimka_finish ozhimka_finished_in(uint32_t count, const uint64_t *conditions, const uint64_t *responses, const uint64_t *milestones,
-                                          const uint64_t *includes, const uint64_t *excludes, const uint8_t *roles,
-                                          struct ozhimka_marking marking);
-struct ozhimka_settled ozhimka_matching_in(uint32_t count, const uint64_t *conditions, const uint64_t *responses,
-                                           const uint64_t *milestones, const uint64_t *includes, const uint64_t *excludes,
-                                           const uint8_t *roles, struct ozhimka_marking marking);
-struct ozhimka_answer ozhimka_derive_in(uint32_t count, const uint64_t *conditions, const uint64_t *responses, const uint64_t *milestones,
-                                        const uint64_t *includes, const uint64_t *excludes, const uint8_t *roles, uint8_t *room,
-                                        size_t length);
-struct ozhimka_smaller ozhimka_derive_smaller_in(uint32_t count, const uint64_t *conditions, const uint64_t *responses,
-                                                 const uint64_t *milestones, const uint64_t *includes, const uint64_t *excludes,
-                                                 const uint8_t *roles, struct ozhimka_marking start, uint8_t *room, size_t length);
+struct ozhimka_step ozhimka_execute_in(uint32_t count, const struct ozhimka_set *conditions, const struct ozhimka_set *responses,
+                                       const struct ozhimka_set *milestones, const struct ozhimka_set *includes,
+                                       const struct ozhimka_set *excludes, const uint8_t *roles, struct ozhimka_marking marking,
+                                       uint32_t event, uint32_t role);
+struct ozhimka_tested ozhimka_open_test_in(uint32_t count, const struct ozhimka_set *conditions, const struct ozhimka_set *responses,
+                                           const struct ozhimka_set *milestones, const struct ozhimka_set *includes,
+                                           const struct ozhimka_set *excludes, const uint8_t *roles, struct ozhimka_marking marking,
+                                           uint32_t event);
+struct ozhimka_open_count ozhimka_count_open_in(uint32_t count, const struct ozhimka_set *conditions, const struct ozhimka_set *responses,
+                                                const struct ozhimka_set *milestones, const struct ozhimka_set *includes,
+                                                const struct ozhimka_set *excludes, const uint8_t *roles, struct ozhimka_marking marking);
+struct ozhimka_finish ozhimka_finished_in(uint32_t count, const struct ozhimka_set *conditions, const struct ozhimka_set *responses,
+                                          const struct ozhimka_set *milestones, const struct ozhimka_set *includes,
+                                          const struct ozhimka_set *excludes, const uint8_t *roles, struct ozhimka_marking marking);
+struct ozhimka_settled ozhimka_matching_in(uint32_t count, const struct ozhimka_set *conditions, const struct ozhimka_set *responses,
+                                           const struct ozhimka_set *milestones, const struct ozhimka_set *includes,
+                                           const struct ozhimka_set *excludes, const uint8_t *roles, struct ozhimka_marking marking);
+struct ozhimka_answer ozhimka_derive_in(uint32_t count, const struct ozhimka_set *conditions, const struct ozhimka_set *responses,
+                                        const struct ozhimka_set *milestones, const struct ozhimka_set *includes,
+                                        const struct ozhimka_set *excludes, const uint8_t *roles, uint8_t *room, size_t length);
+struct ozhimka_smaller ozhimka_derive_smaller_in(uint32_t count, const struct ozhimka_set *conditions, const struct ozhimka_set *responses,
+                                                 const struct ozhimka_set *milestones, const struct ozhimka_set *includes,
+                                                 const struct ozhimka_set *excludes, const uint8_t *roles, struct ozhimka_marking start,
+                                                 uint8_t *room, size_t length);
 // Of a record these take the numbers, event and role in turn, and how many numbers there are; an odd last number is no step.
-struct ozhimka_replayed ozhimka_replay_in(uint32_t count, const uint64_t *conditions, const uint64_t *responses, const uint64_t *milestones,
-                                          const uint64_t *includes, const uint64_t *excludes, const uint8_t *roles,
-                                          struct ozhimka_marking start, const uint32_t *recorded, size_t numbers);
-struct ozhimka_struck ozhimka_strike_in(uint32_t count, const uint64_t *conditions, const uint64_t *responses, const uint64_t *milestones,
-                                        const uint64_t *includes, const uint64_t *excludes, const uint8_t *roles,
-                                        struct ozhimka_marking start, const uint32_t *recorded, size_t numbers, uint32_t position);
+struct ozhimka_replayed ozhimka_replay_in(uint32_t count, const struct ozhimka_set *conditions, const struct ozhimka_set *responses,
+                                          const struct ozhimka_set *milestones, const struct ozhimka_set *includes,
+                                          const struct ozhimka_set *excludes, const uint8_t *roles, struct ozhimka_marking start,
+                                          const uint32_t *recorded, size_t numbers);
+struct ozhimka_struck ozhimka_strike_in(uint32_t count, const struct ozhimka_set *conditions, const struct ozhimka_set *responses,
+                                        const struct ozhimka_set *milestones, const struct ozhimka_set *includes,
+                                        const struct ozhimka_set *excludes, const uint8_t *roles, struct ozhimka_marking start,
+                                        const uint32_t *recorded, size_t numbers, uint32_t position);
 
 // The marking after an event is executed by a role. The role has to be permitted: 0 to 7, and one of roles[event] unless that is 0; for a
 // chart that names no roles any of 0 to 7 will do. The event has to be open: included, each included condition of it executed, no included
@@ -559,7 +650,7 @@ struct ozhimka_chart_behind ozhimka_read_back(const uint8_t *book, size_t length
 // place for `count` numbers; OZHIMKA_MAX_RULES are enough for any book. It writes one number for each rule that counts for the stage, as
 // many as ozhimka_order_length says; what lies behind them stays as it was. A stage's order holds as long as the book stays the same.
 // Refuses with the first that holds of 20 to 26 (whichever stage is asked for), 29 (no such stage; always where the book has none), 31.
-struct ozhimka_answer ozhimka_check(const uint8_t *book, size_t length, uint32_t stage, uint16_t *room, size_t count);
+struct ozhimka_answer ozhimka_check(const uint8_t *book, size_t length, uint32_t stage, uint32_t *room, size_t count);
 
 // The snapshot after a stage is completed: goes once through the order, which has one number for each rule that counts for this stage (as
 // ozhimka_check writes it for the stage; any fit order of the stage ends alike), and fires each rule whose trigger and condition hold.
@@ -567,13 +658,14 @@ struct ozhimka_answer ozhimka_check(const uint8_t *book, size_t length, uint32_t
 // Books carry no roles: who may complete a stage is for ozhimka_execute to say first.
 // Refuses with the first that holds of 20 to 26, 29 (no such stage), 27 (unfit order), 28 (a mark above), 30 (stage closed), and then
 // hands the snapshot back.
-struct ozhimka_settled ozhimka_complete(const uint8_t *book, size_t length, const uint16_t *order, size_t count,
+struct ozhimka_settled ozhimka_complete(const uint8_t *book, size_t length, const uint32_t *order, size_t count,
                                         struct ozhimka_snapshot snapshot, uint32_t stage);
 
 // Checks a book of `length` bytes, for all of its stages, and writes its index to the start of the room, which has `bytes` bytes;
-// OZHIMKA_MAX_INDEX are enough for any book, OZHIMKA_MAX_DERIVED_INDEX for a derived one. ozhimka_index_length tells its length; what lies
-// behind it stays as it was. The index holds as long as the book stays the same: a controller makes it once, when it loads the book, and
-// keeps both. Refuses with the first that holds of 20 to 26, 35.
+// OZHIMKA_MAX_DERIVED_INDEX are enough for a derived book. For any book OZHIMKA_MAX_INDEX are, some 129 MiB, since a rule that waits for no
+// completion stands in the order of every stage; ozhimka_index_length tells how long the index of one book is. What lies behind it stays as
+// it was. The index holds as long as the book stays the same: a controller makes it once, when it loads the book, and keeps both. Refuses with
+// the first that holds of 20 to 26, 35.
 struct ozhimka_answer ozhimka_build_index(const uint8_t *book, size_t length, uint8_t *room, size_t bytes);
 
 // The snapshot after a stage is completed along the order that the index has for it: for a stage that the book has, the same answer and
@@ -656,7 +748,7 @@ static inline const char *ozhimka_reason(uint32_t code)
     case OZHIMKA_BAD_NODE: return "a node's parent is no node of the chart, or the lower byte of its flags is above 7 (place: the node)";
     case OZHIMKA_PARENTS_LOOP: return "parents form a loop (place: the lowest node on one)";
     case OZHIMKA_GROUP_FLAGS: return "a group has flags in the lower byte (place: its node)";
-    case OZHIMKA_MANY_EVENTS: return "the chart has over 64 events (place: how many)";
+    case OZHIMKA_MANY_EVENTS: return "the chart has over 256 events (place: how many)";
     case OZHIMKA_BAD_RELATION: return "a relation names no node of the chart, or no kind (place: the relation)";
     case OZHIMKA_INCLUDE_EXCLUDE: return "a code that is never given any more: an event may both include and exclude another";
     case OZHIMKA_NO_SUCH_EVENT: return "the chart has no such event";

@@ -2,9 +2,13 @@
 // no call copies it.
 ghost use mathlib.Core.Path.{_≡_};
 ghost use lib.ListN.{length};
+ghost use Rattle.wide.specs.Number.{rowsOf};
 ghost use Rattle.flat_chart.specs.Chart.{chartOf};
+ghost use Rattle.graph.specs.Numbers.{marksOf, testOf, stepOf};
 ghost use Rattle.graph.specs.Steps.{opening, executing, counting, finishing};
+ghost use Rattle.chart.specs.Numbers.{readingOf};
 ghost use Rattle.chart.specs.Reading.{reading};
+ghost use Rattle.replay.specs.Numbers.{replayedOf, struckOf};
 ghost use Rattle.replay.specs.Replaying.{replaying, striking};
 ghost use Rattle.deriver.specs.Deriving.{derivingAnswer, derivedRoom};
 ghost use Rattle.deriver.specs.Matching.{matchingOf};
@@ -14,6 +18,7 @@ ghost use Rattle.runner.specs.Completing.{completing};
 ghost use Rattle.index_builder.specs.Building.{building, builtRoom};
 ghost use Rattle.indexed.specs.Indexed.{completingIndexed};
 ghost use Rattle.indexed_list.specs.InList.{completingList};
+ghost use Rattle.read_back.specs.Numbers.{backOf};
 ghost use Rattle.read_back.specs.ReadingBack.{readingBack};
 ghost use Rattle.mend.specs.Calling.{mending, mendedRoom, changesRoom};
 use book::Snapshot;
@@ -34,10 +39,11 @@ use replay::Replayed;
 use replay::Struck;
 use runner::Completion;
 use smaller_deriver::Smaller;
+use wide::TABLE;
 
 #[no_mangle]
 pub extern "C" fn ozhimka_read_chart(image: &[u8]) -> Reading
-    ensures { λ r. ⌜ r ≡ reading (now (image .entry)) ⌝ }
+    ensures { λ r. ⌜ readingOf r ≡ reading (now (image .entry)) ⌝ }
 {
     chart::read(image)
 }
@@ -45,17 +51,17 @@ pub extern "C" fn ozhimka_read_chart(image: &[u8]) -> Reading
 #[no_mangle]
 pub extern "C" fn ozhimka_execute_in<'a>(
     count: u32,
-    conditions: &'a [u64; MAX_EVENTS],
-    responses: &'a [u64; MAX_EVENTS],
-    milestones: &'a [u64; MAX_EVENTS],
-    includes: &'a [u64; MAX_EVENTS],
-    excludes: &'a [u64; MAX_EVENTS],
+    conditions: &'a [u64; TABLE],
+    responses: &'a [u64; TABLE],
+    milestones: &'a [u64; TABLE],
+    includes: &'a [u64; TABLE],
+    excludes: &'a [u64; TABLE],
     roles: &'a [u8; MAX_EVENTS],
     marking: Marking,
     event: u32,
     role: u32,
 ) -> Step
-    ensures { λ r. ⌜ r ≡ executing (chartOf count (now (conditions .entry)) (now (responses .entry)) (now (milestones .entry)) (now (includes .entry)) (now (excludes .entry)) (now (roles .entry))) marking event role ⌝ }
+    ensures { λ r. ⌜ stepOf r ≡ executing (chartOf count (rowsOf (now (conditions .entry))) (rowsOf (now (responses .entry))) (rowsOf (now (milestones .entry))) (rowsOf (now (includes .entry))) (rowsOf (now (excludes .entry))) (now (roles .entry))) (marksOf marking) event role ⌝ }
 {
     marking.execute_in(
         count,
@@ -73,16 +79,16 @@ pub extern "C" fn ozhimka_execute_in<'a>(
 #[no_mangle]
 pub extern "C" fn ozhimka_open_test_in<'a>(
     count: u32,
-    conditions: &'a [u64; MAX_EVENTS],
-    responses: &'a [u64; MAX_EVENTS],
-    milestones: &'a [u64; MAX_EVENTS],
-    includes: &'a [u64; MAX_EVENTS],
-    excludes: &'a [u64; MAX_EVENTS],
+    conditions: &'a [u64; TABLE],
+    responses: &'a [u64; TABLE],
+    milestones: &'a [u64; TABLE],
+    includes: &'a [u64; TABLE],
+    excludes: &'a [u64; TABLE],
     roles: &'a [u8; MAX_EVENTS],
     marking: Marking,
     tested: u32,
 ) -> OpenTest
-    ensures { λ r. ⌜ r ≡ opening (chartOf count (now (conditions .entry)) (now (responses .entry)) (now (milestones .entry)) (now (includes .entry)) (now (excludes .entry)) (now (roles .entry))) marking tested ⌝ }
+    ensures { λ r. ⌜ testOf r ≡ opening (chartOf count (rowsOf (now (conditions .entry))) (rowsOf (now (responses .entry))) (rowsOf (now (milestones .entry))) (rowsOf (now (includes .entry))) (rowsOf (now (excludes .entry))) (now (roles .entry))) (marksOf marking) tested ⌝ }
 {
     marking.open_test_in(
         count,
@@ -99,15 +105,15 @@ pub extern "C" fn ozhimka_open_test_in<'a>(
 #[no_mangle]
 pub extern "C" fn ozhimka_count_open_in<'a>(
     count: u32,
-    conditions: &'a [u64; MAX_EVENTS],
-    responses: &'a [u64; MAX_EVENTS],
-    milestones: &'a [u64; MAX_EVENTS],
-    includes: &'a [u64; MAX_EVENTS],
-    excludes: &'a [u64; MAX_EVENTS],
+    conditions: &'a [u64; TABLE],
+    responses: &'a [u64; TABLE],
+    milestones: &'a [u64; TABLE],
+    includes: &'a [u64; TABLE],
+    excludes: &'a [u64; TABLE],
     roles: &'a [u8; MAX_EVENTS],
     marking: Marking,
 ) -> OpenCount
-    ensures { λ r. ⌜ r ≡ counting (chartOf count (now (conditions .entry)) (now (responses .entry)) (now (milestones .entry)) (now (includes .entry)) (now (excludes .entry)) (now (roles .entry))) marking ⌝ }
+    ensures { λ r. ⌜ r ≡ counting (chartOf count (rowsOf (now (conditions .entry))) (rowsOf (now (responses .entry))) (rowsOf (now (milestones .entry))) (rowsOf (now (includes .entry))) (rowsOf (now (excludes .entry))) (now (roles .entry))) (marksOf marking) ⌝ }
 {
     marking.count_in(
         count,
@@ -123,15 +129,15 @@ pub extern "C" fn ozhimka_count_open_in<'a>(
 #[no_mangle]
 pub extern "C" fn ozhimka_finished_in<'a>(
     count: u32,
-    conditions: &'a [u64; MAX_EVENTS],
-    responses: &'a [u64; MAX_EVENTS],
-    milestones: &'a [u64; MAX_EVENTS],
-    includes: &'a [u64; MAX_EVENTS],
-    excludes: &'a [u64; MAX_EVENTS],
+    conditions: &'a [u64; TABLE],
+    responses: &'a [u64; TABLE],
+    milestones: &'a [u64; TABLE],
+    includes: &'a [u64; TABLE],
+    excludes: &'a [u64; TABLE],
     roles: &'a [u8; MAX_EVENTS],
     marking: Marking,
 ) -> Finished
-    ensures { λ r. ⌜ r ≡ finishing (chartOf count (now (conditions .entry)) (now (responses .entry)) (now (milestones .entry)) (now (includes .entry)) (now (excludes .entry)) (now (roles .entry))) marking ⌝ }
+    ensures { λ r. ⌜ r ≡ finishing (chartOf count (rowsOf (now (conditions .entry))) (rowsOf (now (responses .entry))) (rowsOf (now (milestones .entry))) (rowsOf (now (includes .entry))) (rowsOf (now (excludes .entry))) (now (roles .entry))) (marksOf marking) ⌝ }
 {
     marking.finished_in(
         count,
@@ -147,15 +153,15 @@ pub extern "C" fn ozhimka_finished_in<'a>(
 #[no_mangle]
 pub extern "C" fn ozhimka_matching_in<'a>(
     count: u32,
-    conditions: &'a [u64; MAX_EVENTS],
-    responses: &'a [u64; MAX_EVENTS],
-    milestones: &'a [u64; MAX_EVENTS],
-    includes: &'a [u64; MAX_EVENTS],
-    excludes: &'a [u64; MAX_EVENTS],
+    conditions: &'a [u64; TABLE],
+    responses: &'a [u64; TABLE],
+    milestones: &'a [u64; TABLE],
+    includes: &'a [u64; TABLE],
+    excludes: &'a [u64; TABLE],
     roles: &'a [u8; MAX_EVENTS],
     marking: Marking,
 ) -> Matched
-    ensures { λ r. ⌜ r ≡ matchingOf (chartOf count (now (conditions .entry)) (now (responses .entry)) (now (milestones .entry)) (now (includes .entry)) (now (excludes .entry)) (now (roles .entry))) marking ⌝ }
+    ensures { λ r. ⌜ r ≡ matchingOf (chartOf count (rowsOf (now (conditions .entry))) (rowsOf (now (responses .entry))) (rowsOf (now (milestones .entry))) (rowsOf (now (includes .entry))) (rowsOf (now (excludes .entry))) (now (roles .entry))) (marksOf marking) ⌝ }
 {
     deriver::marks::matching_in(
         marking,
@@ -172,15 +178,15 @@ pub extern "C" fn ozhimka_matching_in<'a>(
 #[no_mangle]
 pub extern "C" fn ozhimka_derive_in<'a>(
     count: u32,
-    conditions: &'a [u64; MAX_EVENTS],
-    responses: &'a [u64; MAX_EVENTS],
-    milestones: &'a [u64; MAX_EVENTS],
-    includes: &'a [u64; MAX_EVENTS],
-    excludes: &'a [u64; MAX_EVENTS],
+    conditions: &'a [u64; TABLE],
+    responses: &'a [u64; TABLE],
+    milestones: &'a [u64; TABLE],
+    includes: &'a [u64; TABLE],
+    excludes: &'a [u64; TABLE],
     roles: &'a [u8; MAX_EVENTS],
     room: &mut [u8],
 ) -> Answer
-    ensures { λ r. ⌜ (r ≡ derivingAnswer (chartOf count (now (conditions .entry)) (now (responses .entry)) (now (milestones .entry)) (now (includes .entry)) (now (excludes .entry)) (now (roles .entry))) (length (now (room .entry)))) × (now (room .exit) ≡ derivedRoom (chartOf count (now (conditions .entry)) (now (responses .entry)) (now (milestones .entry)) (now (includes .entry)) (now (excludes .entry)) (now (roles .entry))) (now (room .entry))) ⌝ }
+    ensures { λ r. ⌜ (r ≡ derivingAnswer (chartOf count (rowsOf (now (conditions .entry))) (rowsOf (now (responses .entry))) (rowsOf (now (milestones .entry))) (rowsOf (now (includes .entry))) (rowsOf (now (excludes .entry))) (now (roles .entry))) (length (now (room .entry)))) × (now (room .exit) ≡ derivedRoom (chartOf count (rowsOf (now (conditions .entry))) (rowsOf (now (responses .entry))) (rowsOf (now (milestones .entry))) (rowsOf (now (includes .entry))) (rowsOf (now (excludes .entry))) (now (roles .entry))) (now (room .entry))) ⌝ }
 {
     deriver::derive_in(
         count,
@@ -197,16 +203,16 @@ pub extern "C" fn ozhimka_derive_in<'a>(
 #[no_mangle]
 pub extern "C" fn ozhimka_derive_smaller_in<'a>(
     count: u32,
-    conditions: &'a [u64; MAX_EVENTS],
-    responses: &'a [u64; MAX_EVENTS],
-    milestones: &'a [u64; MAX_EVENTS],
-    includes: &'a [u64; MAX_EVENTS],
-    excludes: &'a [u64; MAX_EVENTS],
+    conditions: &'a [u64; TABLE],
+    responses: &'a [u64; TABLE],
+    milestones: &'a [u64; TABLE],
+    includes: &'a [u64; TABLE],
+    excludes: &'a [u64; TABLE],
     roles: &'a [u8; MAX_EVENTS],
     start: Marking,
     room: &mut [u8],
 ) -> Smaller
-    ensures { λ r. ⌜ (r ≡ derivingSmaller (chartOf count (now (conditions .entry)) (now (responses .entry)) (now (milestones .entry)) (now (includes .entry)) (now (excludes .entry)) (now (roles .entry))) start (length (now (room .entry)))) × (now (room .exit) ≡ smallerRoom (chartOf count (now (conditions .entry)) (now (responses .entry)) (now (milestones .entry)) (now (includes .entry)) (now (excludes .entry)) (now (roles .entry))) start (now (room .entry))) ⌝ }
+    ensures { λ r. ⌜ (r ≡ derivingSmaller (chartOf count (rowsOf (now (conditions .entry))) (rowsOf (now (responses .entry))) (rowsOf (now (milestones .entry))) (rowsOf (now (includes .entry))) (rowsOf (now (excludes .entry))) (now (roles .entry))) (marksOf start) (length (now (room .entry)))) × (now (room .exit) ≡ smallerRoom (chartOf count (rowsOf (now (conditions .entry))) (rowsOf (now (responses .entry))) (rowsOf (now (milestones .entry))) (rowsOf (now (includes .entry))) (rowsOf (now (excludes .entry))) (now (roles .entry))) (marksOf start) (now (room .entry))) ⌝ }
 {
     smaller_deriver::derive_smaller_in(
         start,
@@ -225,16 +231,16 @@ pub extern "C" fn ozhimka_derive_smaller_in<'a>(
 #[no_mangle]
 pub extern "C" fn ozhimka_replay_in<'a>(
     count: u32,
-    conditions: &'a [u64; MAX_EVENTS],
-    responses: &'a [u64; MAX_EVENTS],
-    milestones: &'a [u64; MAX_EVENTS],
-    includes: &'a [u64; MAX_EVENTS],
-    excludes: &'a [u64; MAX_EVENTS],
+    conditions: &'a [u64; TABLE],
+    responses: &'a [u64; TABLE],
+    milestones: &'a [u64; TABLE],
+    includes: &'a [u64; TABLE],
+    excludes: &'a [u64; TABLE],
     roles: &'a [u8; MAX_EVENTS],
     start: Marking,
     recorded: &'a [u32],
 ) -> Replayed
-    ensures { λ r. ⌜ r ≡ replaying (chartOf count (now (conditions .entry)) (now (responses .entry)) (now (milestones .entry)) (now (includes .entry)) (now (excludes .entry)) (now (roles .entry))) start (now (recorded .entry)) ⌝ }
+    ensures { λ r. ⌜ replayedOf r ≡ replaying (chartOf count (rowsOf (now (conditions .entry))) (rowsOf (now (responses .entry))) (rowsOf (now (milestones .entry))) (rowsOf (now (includes .entry))) (rowsOf (now (excludes .entry))) (now (roles .entry))) (marksOf start) (now (recorded .entry)) ⌝ }
 {
     replay::replay_in(
         count,
@@ -252,17 +258,17 @@ pub extern "C" fn ozhimka_replay_in<'a>(
 #[no_mangle]
 pub extern "C" fn ozhimka_strike_in<'a>(
     count: u32,
-    conditions: &'a [u64; MAX_EVENTS],
-    responses: &'a [u64; MAX_EVENTS],
-    milestones: &'a [u64; MAX_EVENTS],
-    includes: &'a [u64; MAX_EVENTS],
-    excludes: &'a [u64; MAX_EVENTS],
+    conditions: &'a [u64; TABLE],
+    responses: &'a [u64; TABLE],
+    milestones: &'a [u64; TABLE],
+    includes: &'a [u64; TABLE],
+    excludes: &'a [u64; TABLE],
     roles: &'a [u8; MAX_EVENTS],
     start: Marking,
     recorded: &'a [u32],
     position: u32,
 ) -> Struck
-    ensures { λ r. ⌜ r ≡ striking (chartOf count (now (conditions .entry)) (now (responses .entry)) (now (milestones .entry)) (now (includes .entry)) (now (excludes .entry)) (now (roles .entry))) start (now (recorded .entry)) position ⌝ }
+    ensures { λ r. ⌜ struckOf r ≡ striking (chartOf count (rowsOf (now (conditions .entry))) (rowsOf (now (responses .entry))) (rowsOf (now (milestones .entry))) (rowsOf (now (includes .entry))) (rowsOf (now (excludes .entry))) (now (roles .entry))) (marksOf start) (now (recorded .entry)) position ⌝ }
 {
     replay::strike_in(
         count,
@@ -279,7 +285,7 @@ pub extern "C" fn ozhimka_strike_in<'a>(
 }
 
 #[no_mangle]
-pub extern "C" fn ozhimka_check(book: &[u8], stage: u32, room: &mut [u16]) -> Answer
+pub extern "C" fn ozhimka_check(book: &[u8], stage: u32, room: &mut [u32]) -> Answer
     ensures { λ r. ⌜ (r ≡ checking (now (book .entry)) stage (length (now (room .entry)))) × (now (room .exit) ≡ checkedRoom (now (book .entry)) stage (now (room .entry))) ⌝ }
 {
     judge::check(book, stage, room)
@@ -288,7 +294,7 @@ pub extern "C" fn ozhimka_check(book: &[u8], stage: u32, room: &mut [u16]) -> An
 #[no_mangle]
 pub extern "C" fn ozhimka_complete(
     book: &[u8],
-    order: &[u16],
+    order: &[u32],
     snapshot: Snapshot,
     stage: u32,
 ) -> Completion
@@ -330,7 +336,7 @@ pub extern "C" fn ozhimka_complete_list(
 
 #[no_mangle]
 pub extern "C" fn ozhimka_read_back(book: &[u8]) -> ReadBack
-    ensures { λ r. ⌜ r ≡ readingBack (now (book .entry)) ⌝ }
+    ensures { λ r. ⌜ backOf r ≡ readingBack (now (book .entry)) ⌝ }
 {
     read_back::read_back(book)
 }
