@@ -1,8 +1,8 @@
 # Random charts, markings, books, orders and snapshots, and the families of random requests made from them.
 
 import ozhimka as model
-from ozhimka import AND, NONE, NOT, OR, Book, Marking, Rule
-from protocol import (FLAT_BYTES, back_request, check_request, complete_request, count_request, derive_request, execute_request,
+from ozhimka import AND, MAX_EVENTS, MAX_MARKS, NONE, NOT, OR, Book, Marking, Rule, snapshot_of
+from protocol import (FLAT_BYTES, MARKING_BYTES, MAX_ROOM_BYTES, back_request, check_request, complete_request, count_request, derive_request, execute_request,
                       finished_request, index_request, indexed_request, list_request, listing_request, matching_request, mend_request,
                       open_request, read_request, replay_request, smaller_request, strike_request)
 
@@ -62,15 +62,21 @@ def random_relations(rng, nodes, count):
     return relations
 
 
-def random_chart_image(rng):
-    count = rng.choice((1, 2, 3, 4, 5, 6, 8, 10, 12, 16))
+# event counts at the ends of a set's words, and between them
+WIDE_COUNTS = (65, 66, 100, 127, 128, 129, 150, 191, 192, 193, 200, 254, 255, 256)
+
+
+def random_chart_image(rng, count=None):
+    """Most have a few nodes, some up to all that a chart may have."""
+    count = count or (rng.choice((1, 2, 3, 4, 5, 6, 8, 10, 12, 16)) if rng.random() < 0.95 else rng.choice((64, 65, 128, 200, 257, 300, 511, 512)))
     nodes = random_nodes(rng, count, rng.choice((0, 0.3, 0.6, 0.9)))
     return model.chart_image(nodes, random_relations(rng, nodes, rng.randrange(0, 3 * count + 1)))
 
 
 def random_flat(rng, count=None, chance=None):
-    count = count or rng.choice((1, 2, 3, 4, 5, 8, 13, 32, 63, 64))
-    chance = rng.choice((0.02, 0.1, 0.3, 0.7)) if chance is None else chance
+    """Most have a few events, some up to all that a set holds, and these fewer relations for each."""
+    count = count or (rng.choice((1, 2, 3, 4, 5, 8, 13, 32, 63, 64)) if rng.random() < 0.8 else rng.choice(WIDE_COUNTS))
+    chance = rng.choice((0.02, 0.1, 0.3, 0.7) if count <= 64 else (0.002, 0.01, 0.05, 0.2)) if chance is None else chance
     chart = model.empty_chart(count)
     named, apart = rng.random() < 0.6, rng.random() < 0.4
     for e in range(count):
@@ -80,12 +86,6 @@ def random_flat(rng, count=None, chance=None):
         for f in chart.includes[e] & chart.excludes[e] if apart else ():
             rng.choice((chart.includes, chart.excludes))[e].discard(f)
     return chart
-
-
-def told_by_book(chart):
-    """What of a chart its book tells: no roles, and of the exclusions those that no inclusion overrules."""
-    overruled = [excluded - included for excluded, included in zip(chart.excludes, chart.includes)]
-    return chart._replace(excludes=overruled, roles=[set() for e in range(64)])
 
 
 def random_marking(rng, count):
@@ -117,7 +117,7 @@ def random_texts(rng, marks, conditions, longest=6):
     words, spans = [], []
     while len(spans) < conditions:
         if rng.random() < 0.3:
-            words += [rng.choice((AND, OR, NOT, 0, 256, 60000)) for _ in range(rng.randrange(1, 4))]
+            words += [rng.choice((AND, OR, NOT, 0, 256, 1024, 60000)) for _ in range(rng.randrange(1, 4))]
         part, found = expression(rng, marks, rng.randrange(1, longest + 1))
         rng.shuffle(found)
         spans += [(len(words) + start, count) for start, count in found[:rng.choice((1, 1, 2, 4))]]
@@ -142,6 +142,32 @@ def wild_book(rng):
     return Book(stages, marks, rules, conditions, words)
 
 
+# marks at the ends of a snapshot's words
+EDGES = (62, 63, 64, 65, 127, 128, 191, 192, 254, 255, 256, 257, 319, 320, 511, 512, 575, 767, 768, 959, 960, 1021, 1022, 1023)
+
+
+def scattered(rng, book):
+    """The book with its marks that are no stages under other numbers, up to the highest: what loops or clashes still does, and nothing else."""
+    others = range(book.stages, book.marks)
+    edges = [mark for mark in EDGES if mark >= book.stages]
+    if len(others) > len(edges):
+        return book
+    numbers = dict(zip(others, rng.sample(edges, len(others))))
+    rules = [rule._replace(target=numbers.get(rule.target, rule.target), number=numbers.get(rule.number, rule.number) if rule.trigger > 1 else rule.number)
+             for rule in book.rules]
+    marks = max(numbers.values(), default=book.marks - 1) + 1
+    return Book(book.stages, rng.choice((marks, MAX_MARKS)), rules, book.conditions, [numbers.get(word, word) for word in book.words])
+
+
+def at_times_scattered(make):
+    """The maker of books, one in seven of which is scattered."""
+    def maker(rng):
+        book = make(rng)
+        return scattered(rng, book) if rng.random() < 0.15 else book
+
+    return maker
+
+
 def ranks_by_stage(rng, stages, marks, crossed):
     """A rank of the marks for each stage: mostly one for all, or the lower part of it in another order for each stage."""
     row = rng.sample(range(marks), marks)
@@ -153,7 +179,7 @@ def ranks_by_stage(rng, stages, marks, crossed):
 def sound_book(rng, stages=None, marks=None, rules=None, conditions=None, longest=None, crossed=False):
     """A book without loop and clash: in the ranks of each stage that a rule counts for, its target ranks above what it refers to, and
     each target has one way to be apart. The whole book often has a loop, from one stage's completion to another's and back."""
-    stages = rng.choice((1, 2, 3, 5, 8)) if stages is None else stages
+    stages = (rng.choice((1, 2, 3, 5, 8)) if rng.random() < 0.97 else rng.choice((64, 65, 128, 255, 256))) if stages is None else stages
     marks = stages + rng.choice((1, 2, 4, 8, 20)) if marks is None else marks
     count = rng.choice((0, 1, 2, 3, 5, 8, 12, 20, 30)) if rules is None else rules
     ranks = ranks_by_stage(rng, stages, marks, crossed)
@@ -302,16 +328,15 @@ def a_trigger_less(rng, book):
 
 def a_stage(rng, stages):
     """A stage to ask for: mostly one that the book has, now and then the first past it or one far off."""
-    return rng.randrange(stages) if stages and rng.random() < 0.85 else rng.choice((stages, stages + 1, 64, 65536, (1 << 32) - 1))
+    return rng.randrange(stages) if stages and rng.random() < 0.85 else rng.choice((stages, stages + 1, 64, 256, 65536, (1 << 32) - 1))
 
 
 def random_order(rng, book, stage):
     """Some fit order of the stage: any rule that is ready comes next."""
-    refers = model.references(book)
     order, unwritten = [], model.counted(book, stage)
     while unwritten:
-        targets = {book.rules[p].target for p in unwritten}
-        rule = rng.choice([q for q in unwritten if not refers[q] & targets])
+        targets = model.mark_bits(book.rules[p].target for p in unwritten)
+        rule = rng.choice([q for q in unwritten if not book.refers[q] & targets])
         order.append(rule)
         unwritten.remove(rule)
     return order
@@ -342,7 +367,8 @@ def disturbed(rng, order, count):
     elif way == 'longer' or not order:
         order.insert(rng.randrange(len(order) + 1), rng.randrange(count + 1))
     elif way == 'outside':
-        order[rng.randrange(len(order))] = rng.choice((count, count + 1, 65535))
+        place = rng.randrange(len(order))
+        order[place] = rng.choice((count, count + 1, 65535, 65536 + order[place], (1 << 31) + order[place], (1 << 32) - 1))  # some would pass if they were cut
     elif way == 'repeat':
         order[rng.randrange(len(order))] = rng.choice(order)
     elif way == 'move':
@@ -357,27 +383,30 @@ def disturbed(rng, order, count):
 
 def disturbed_index(rng, book, index):
     """An index changed in one way; now and then it is still the book's."""
-    way = rng.choice(('bytes', 'bytes', 'entry', 'entry', 'rule', 'rule', 'another book', 'another order'))
+    way = rng.choice(('bytes', 'bytes', 'entry', 'entry', 'rule', 'rule', 'another book', 'another order', 'narrow'))
     orders_at = 8 + 8 * book.stages
+    if way == 'narrow':
+        return model.index_image(book, 2)  # as it was stored with 16 bits a rule
     if way == 'another book':
         rules = rng.sample(book.rules, len(book.rules))
         return model.index_image(book._replace(rules=rules if rng.random() < 0.5 else rules[1:]))
     if way == 'another order' and book.stages:
         stage = rng.randrange(book.stages)
         at, order = model.number32(index, 8 + 8 * stage), random_order(rng, book, stage)
-        return index[:at] + b''.join(model.bytes16(p) for p in order) + index[at + 2 * len(order):]
+        return index[:at] + model.run32(order) + index[at + 4 * len(order):]
     if way == 'entry':
         at = rng.randrange(0, orders_at, 4)
         return index[:at] + model.bytes32((model.number32(index, at) + rng.choice((-2, -1, 1, 2, 4))) % (1 << 32)) + index[at + 4:]
     if way == 'rule' and len(index) > orders_at:
-        at = rng.randrange(orders_at, len(index), 2)
-        return index[:at] + model.bytes16(rng.randrange(len(book.rules) + 1)) + index[at + 2:]
+        at = rng.randrange(orders_at, len(index), 4)
+        number = rng.choice((rng.randrange(len(book.rules) + 1), model.number32(index, at) + 65536))
+        return index[:at] + model.bytes32(number) + index[at + 4:]
     return with_bytes_changed(rng, index)
 
 
 def random_snapshot(rng, marks):
     chance = rng.choice((0.2, 0.5, 0.8))
-    return [mark < marks and rng.random() < chance for mark in range(256)]
+    return snapshot_of(some(rng, range(marks), chance))
 
 
 # ---- families of requests: each yields bodies
@@ -397,18 +426,18 @@ def steps(rng):
     included = marking.included | {event} if rng.random() < 0.7 else marking.included
     marking = marking._replace(included=included)
     cleared_opens(chart, marking, event)
-    yield open_request(chart, marking, event if rng.random() < 0.95 else rng.choice((chart.count, 64, 65536 + event)))
+    yield open_request(chart, marking, event if rng.random() < 0.95 else rng.choice((chart.count, 64, 256, 256 + event, 65536 + event)))
 
 
 def cleared_opens(chart, marking, event):
     """Once the conditions of the first set have run and the milestones of the second are no longer pending, the event is open; each of
-    them alone holds it back."""
+    them alone holds it back, of which the last and some before it are tried."""
     (code, place, _), blocks = model.open_test(chart, marking, event)
     cleared = marking._replace(executed=marking.executed | blocks.conditions, pending=marking.pending - blocks.milestones)
     assert model.open_test(chart, cleared, event)[0] == ((11, 0, 0) if code == 11 else model.GRANTED)
-    for f in blocks.conditions:
+    for f in sorted(blocks.conditions)[::-1 - len(blocks.conditions) // 8]:
         assert model.open_test(chart, cleared._replace(executed=cleared.executed - {f}), event) == ((12, f, 0), ({f}, set()))
-    for f in blocks.milestones:
+    for f in sorted(blocks.milestones)[::-1 - len(blocks.milestones) // 8]:
         assert model.open_test(chart, cleared._replace(pending=cleared.pending | {f}), event) == ((13, f, 0), (set(), {f}))
 
 
@@ -443,35 +472,35 @@ def derivings(rng):
 
 
 def wild_checks(rng):
-    book = wild_book(rng)
+    book = at_times_scattered(wild_book)(rng)
     stage = a_stage(rng, book.stages)
     yield check_request(max(0, len(model.counted(book, stage)) + rng.choice((0, 0, 1, 5, -1))), stage, model.book_image(book))
 
 
 def wild_completions(rng):
-    book = wild_book(rng)
+    book = at_times_scattered(wild_book)(rng)
     stage = a_stage(rng, book.stages)
     order = model.counted(book, stage)
     rng.shuffle(order)
-    snapshot = random_snapshot(rng, rng.choice((book.marks, book.marks, book.marks, 256)))
+    snapshot = random_snapshot(rng, rng.choice((book.marks, book.marks, book.marks, MAX_MARKS)))
     yield complete_request(stage, snapshot, order, model.book_image(book))
 
 
 def circles(rng):
     """A circle of rules in one completion, or over several, and the same with one trigger taken away: each stage is asked for."""
-    book = circle_of_completions(rng)
+    book = at_times_scattered(circle_of_completions)(rng)
     for book in (book, a_trigger_less(rng, book)):
         for stage in range(book.stages):
             order = model.counted(book, stage)
             yield check_request(len(order) + rng.choice((0, 1)), stage, model.book_image(book))
             rng.shuffle(order)
-            snapshot = [mark < book.stages or mark < book.marks and rng.random() < 0.5 for mark in range(256)]
+            snapshot = snapshot_of(set(range(book.stages)) | some(rng, range(book.marks), 0.5))
             yield complete_request(stage, snapshot, order, model.book_image(book))
 
 
 def crowded_books(rng):
     """A book with many rules on one mark: its check for a stage, and completions in the stage's running order and in any other."""
-    book = crowded_book(rng)
+    book = at_times_scattered(crowded_book)(rng)
     image, stage = model.book_image(book), a_stage(rng, book.stages)
     yield check_request(max(0, len(model.counted(book, stage)) + rng.choice((0, 0, 0, 1, -1))), stage, image)
     stage = rng.randrange(book.stages)
@@ -484,7 +513,7 @@ def crowded_books(rng):
 def sound_books(rng):
     """A sound hand-made book: its check for a stage, and completions in the stage's running order, in other fit orders, and in unfit
     ones, among them orders of another stage and of the whole book. Now and then a trigger is taken away, and it may be sound no more."""
-    book = rng.choice((sound_book, crossed_book))(rng)
+    book = at_times_scattered(rng.choice((sound_book, crossed_book)))(rng)
     image = model.book_image(book)
     stage = a_stage(rng, book.stages)
     yield check_request(len(model.counted(book, stage)) + rng.choice((0, 0, 3)), stage, image)
@@ -504,7 +533,7 @@ def sound_books(rng):
 
 def sound_runs(rng):
     """Completions of a sound hand-made book one after another, each from the snapshot before it, in the order of its stage."""
-    book = rng.choice((sound_book, crossed_book))(rng)
+    book = at_times_scattered(rng.choice((sound_book, crossed_book)))(rng)
     image, orders = model.book_image(book), [model.running_order(book, stage) for stage in range(book.stages)]
     snapshot = random_snapshot(rng, book.marks)
     for _ in range(rng.randrange(3, 12)):
@@ -517,14 +546,14 @@ def sound_runs(rng):
 def indexes(rng):
     """A book, sound or not, with room around what its index needs; completions through the index, through one that is disturbed, and
     through that of another book with the same rules, or one less."""
-    book = rng.choice((sound_book, crossed_book, wild_book))(rng)
+    book = at_times_scattered(rng.choice((sound_book, crossed_book, wild_book)))(rng)
     image, stages = model.book_image(book), range(book.stages)
-    needed = 8 + 8 * book.stages + 2 * sum(len(model.counted(book, stage)) for stage in stages)
+    needed = model.index_length(book)
     yield index_request(max(0, needed + rng.choice((0, 0, 0, 1, 7, -1, -2, -needed))), image)
     passes = model.build_index(image, bytes(needed))[0] == model.GRANTED
     index = model.index_image(book) if passes else rng.randbytes(needed)
     for _ in range(3):
-        snapshot = random_snapshot(rng, rng.choice((book.marks,) * 6 + (256,)))
+        snapshot = random_snapshot(rng, rng.choice((book.marks,) * 6 + (MAX_MARKS,)))
         opened = [s for s in stages if snapshot[s]]
         stage = rng.choice(opened) if opened and rng.random() < 0.8 else a_stage(rng, book.stages)
         yield indexed_request(stage, snapshot, index, image)
@@ -563,7 +592,7 @@ def in_turn(image, index, snapshot, stages):
 
 def lists(rng):
     """A list of a sound book's completions, and the same with the index disturbed or a mark above."""
-    book = rng.choice((sound_book, crossed_book))(rng)
+    book = at_times_scattered(rng.choice((sound_book, crossed_book)))(rng)
     image, index = model.book_image(book), model.index_image(book)
     for _ in range(2):
         snapshot = random_snapshot(rng, book.marks)
@@ -571,7 +600,7 @@ def lists(rng):
         assert model.complete_list(image, index, snapshot, stages)[1:] == in_turn(image, index, snapshot, stages)
         yield list_request(snapshot, stages, index, image)
     yield list_request(snapshot, stages, disturbed_index(rng, book, index), image)
-    yield list_request(random_snapshot(rng, rng.choice((book.marks, 256))), stages, index, image)
+    yield list_request(random_snapshot(rng, rng.choice((book.marks, MAX_MARKS))), stages, index, image)
 
 
 def accepted_image(rng):
@@ -707,7 +736,7 @@ def read_backs(rng):
     """A derived book read back, and the same changed in one way or two; whatever is accepted is what the deriver writes for its chart."""
     chart = random_flat(rng, rng.choice((1, 2, 2, 3, 3, 4, 5, 8)), rng.choice((0.0, 0.1, 0.3, 0.5, 1.0)))
     book = model.derived_book(chart)
-    assert model.read_back(model.book_image(book)) == (model.GRANTED, told_by_book(chart))
+    assert model.read_back(model.book_image(book)) == (model.GRANTED, model.told_by_book(chart))
     yield back_request(model.book_image(book))
     for ways in ((other_rules,), (other_rules,), (other_texts,), (other_texts,), (other_counts,), (other_rules, other_texts), (other_texts, other_texts)):
         other = book
@@ -765,7 +794,7 @@ def damaged_relations(rng, count):
 
 def mendings(rng):
     """A damaged chart mended, with both rooms around what is needed, and what comes out mended again and read."""
-    count = rng.choice((1, 2, 3, 4, 5, 6, 8, 12, 12, 66, 70, 100, 128))
+    count = rng.choice((1, 2, 3, 4, 5, 6, 8, 12, 12, 66, 70, 128) * 2 + (258, 280, 400, 512))
     image = model.chart_image(damaged_nodes(rng, count), damaged_relations(rng, count))
     nodes, relations, changes = model.mended(image)
     better = model.chart_image(nodes, relations)
@@ -782,7 +811,7 @@ def mendings(rng):
 def smallers(rng):
     """A chart and a start marking to the smaller book, in room around what is needed. Then both books through one sequence of completions, with
     closed stages among them: the model's two sides must agree at each."""
-    count = rng.choice((1, 2, 3, 4, 5, 6, 8, 8, 13, 32, 64))
+    count = rng.choice((1, 2, 3, 4, 5, 6, 8, 8, 13, 32, 64)) if rng.random() < 0.9 else rng.choice(WIDE_COUNTS)
     chart = random_flat(rng, count, rng.choice((0, 0.3 / count, 1 / count, 1 / count, 2 / count, 0.3)))
     for table in model.tables(chart):
         for e in range(count) if rng.random() < 0.2 else ():
@@ -819,7 +848,7 @@ def run_of_smaller(rng, chart, start, completions):
         completed, after = model.complete(image, order, snapshot, stage)
         if rng.random() < 0.5:
             yield complete_request(stage, snapshot, order, image)
-        marking, snapshot = model.execute(chart._replace(roles=[set() for e in range(64)]), marking, stage, 0)[1], after
+        marking, snapshot = model.execute(chart._replace(roles=[set() for e in range(MAX_EVENTS)]), marking, stage, 0)[1], after
         assert completed == answer and answer[0] in (0, 30) and of_full == model.matching(chart, marking)[1]
         assert snapshot == model.through_table(table, of_full)  # stages and kept marks
         assert all(of_full[mark] for mark in range(2 * n, 4 * n) if table[mark] == model.NO_MARK)  # included and answered read as yes
@@ -859,16 +888,16 @@ def damaged_flats(rng):
     chart = random_flat(rng)
     event = rng.randrange(chart.count + 2)
     body = bytearray(execute_request(chart, random_marking(rng, chart.count), event, random_role(rng, chart, event)))
-    roles_at = 1 + FLAT_BYTES - 64
+    roles_at, marking_at = 1 + FLAT_BYTES - MAX_EVENTS, 1 + FLAT_BYTES
     for _ in range(rng.choice((1, 1, 2))):
-        places = rng.choice(((5, roles_at), (5, len(body) - 8), (roles_at, roles_at + 64), (roles_at + chart.count - 1, roles_at + 64)))
+        places = rng.choice(((5, roles_at), (marking_at, marking_at + MARKING_BYTES), (roles_at, marking_at), (roles_at + chart.count - 1, marking_at)))
         body[rng.randrange(*places)] ^= 1 << rng.randrange(8)
     body[0] = rng.choice((2, 3, 4, 5, 14, 16))
     if body[0] == 16:
-        body[1:1] = (200000).to_bytes(4, 'little')
+        body[1:1] = model.bytes32(MAX_ROOM_BYTES)
     yield bytes(body) if body[0] in (2, 14) else bytes(body[:-8])
 
 
 SMALL = (charts, wild_checks, wild_completions, circles, crowded_books, sound_books, sound_runs, indexes, lists, read_backs,
          damaged_charts, badly_flagged, mendings, damaged_books, listings)
-WIDE = (steps, derivings, side_by_side, damaged_flats, records, smallers)  # their requests carry a flat chart of 2,628 bytes
+WIDE = (steps, derivings, side_by_side, damaged_flats, records, smallers)  # their requests carry a flat chart of 41,220 bytes

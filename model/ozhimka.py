@@ -1,15 +1,34 @@
 #!/usr/bin/env python3
-# The paper's calls in plain Python, written from the paper alone and slow on purpose: hold it beside the paper.
+# The paper's calls in plain Python, written from the paper alone and plain rather than fast: hold it beside the paper. Where the words of the paper
+# would take too long on a long book, a second function stands beside the one that follows them.
 #
-# Every call hands back its answer (code, place, other) first and its value after it. Sets are Python sets of numbers.
+# Every call hands back its answer (code, place, other) first and its value after it. A set of events is a Python set of numbers; the marks that rules
+# refer to are the bits of a number.
 # `model/ozhimka.py` alone runs the paper's settled examples; `model/ozhimka.py CHART` lists a chart's book, and with `--small` before it the
 # smaller one.
 
 import functools
 import heapq
 import random
+import struct
 import sys
+import zlib
 from collections import namedtuple
+
+# ---- Limits: they stand here and nowhere else
+
+MAX_NODES = 512
+MAX_RELATIONS = 16384
+MAX_EVENTS = 256  # and stages
+NO_EVENT = MAX_EVENTS  # "no open event", of any chart
+MAX_MARKS = 1024
+MAX_RULES = 131840
+MAX_CONDITIONS = 1024
+MAX_WORDS = 655616
+MAX_STACK = 16
+MAX_LIST = 4096
+LISTING_READS = 25097  # bytes that the program "book listing" reads
+LISTING_ROOM = 49152  # bytes that it derives into
 
 GRANTED = (0, 0, 0)
 
@@ -41,12 +60,25 @@ def number32(image, at):
     return number16(image, at) + 65536 * number16(image, at + 2)
 
 
+def records(image, start, end, fields):
+    """The records of an image from one place to another, each of these fields: B a byte, H 16 bits, I 32 bits."""
+    return list(struct.iter_unpack('<' + fields, image[start:end]))
+
+
 def bytes16(number):
     return number.to_bytes(2, 'little')
 
 
 def bytes32(number):
     return number.to_bytes(4, 'little')
+
+
+def run16(numbers):
+    return struct.pack('<%dH' % len(numbers), *numbers)
+
+
+def run32(numbers):
+    return struct.pack('<%dI' % len(numbers), *numbers)
 
 
 # ---- Chart image
@@ -58,14 +90,14 @@ CONDITION, RESPONSE, MILESTONE, INCLUDE, EXCLUDE = range(5)
 # the two bytes of a node's flags: the lower one as a number, the upper one as the set of its roles
 Node = namedtuple('Node', 'parent flags roles')
 Relation = namedtuple('Relation', 'origin to kind')
-# five tables of 64 sets: who holds e back (conditions, milestones), and what e does (responses, includes, excludes); then the roles
+# five tables of MAX_EVENTS sets: who holds e back (conditions, milestones), and what e does (responses, includes, excludes); then the roles
 # that e is open to, none for everyone
 FlatChart = namedtuple('FlatChart', 'count conditions responses milestones includes excludes roles')
 Marking = namedtuple('Marking', 'executed pending included')
 
 
 def empty_chart(count=0):
-    return FlatChart(count, *[[set() for e in range(64)] for table in range(6)])
+    return FlatChart(count, *[[set() for e in range(MAX_EVENTS)] for table in range(6)])
 
 
 def tables(chart):
@@ -83,26 +115,26 @@ def roles_in(byte):
 
 def chain_above(nodes, n):
     """The groups above node n, from the nearest on; it stops where it meets a node again."""
-    chain = []
+    chain = {}  # in order, the first one first
     n = nodes[n].parent
     while n != NONE and n not in chain:
-        chain.append(n)
+        chain[n] = None
         n = nodes[n].parent
-    return chain
+    return list(chain)
 
 
 def chart_header(image):
     """Where the relations begin: refusals 1 to 3."""
     refuse_if(1, len(image) < 8)
     node_count, relation_count, nodes_at, relations_at = [number16(image, at) for at in (0, 2, 4, 6)]
-    refuse_if(2, not (1 <= node_count <= 128) or not (0 <= relation_count <= 4096))
+    refuse_if(2, not (1 <= node_count <= MAX_NODES) or not (0 <= relation_count <= MAX_RELATIONS))
     refuse_if(3, nodes_at != 8 or relations_at != 8 + 4 * node_count)
     refuse_if(3, len(image) != 8 + 4 * node_count + 6 * relation_count)
     return node_count, relations_at
 
 
 def chart_relations(image, relations_at):
-    return [Relation(number16(image, at), number16(image, at + 2), number16(image, at + 4)) for at in range(relations_at, len(image), 6)]
+    return [Relation(*record) for record in records(image, relations_at, len(image), 'HHH')]
 
 
 def is_bad_relation(relation, node_count):
@@ -112,14 +144,14 @@ def is_bad_relation(relation, node_count):
 def chart_records(image):
     """The header, nodes and relations: refusals 1 to 8."""
     node_count, relations_at = chart_header(image)
-    nodes = [Node(number16(image, at), image[at + 2], roles_in(image[at + 3])) for at in range(8, relations_at, 4)]
+    nodes = [Node(parent, flags, roles_in(upper)) for parent, flags, upper in records(image, 8, relations_at, 'HBB')]
     refuse_lowest(4, [n for n, node in enumerate(nodes)
                       if (node.parent >= node_count and node.parent != NONE) or node.flags > 7])
     refuse_lowest(5, [n for n in range(node_count) if n in chain_above(nodes, n)])
     groups = {node.parent for node in nodes if node.parent != NONE}
     refuse_lowest(6, [n for n in groups if nodes[n].flags != 0])
     events = [n for n in range(node_count) if n not in groups]
-    if len(events) > 64:
+    if len(events) > MAX_EVENTS:
         raise Refused(7, len(events))
 
     relations = chart_relations(image, relations_at)
@@ -166,10 +198,10 @@ def read_chart(image):
 
 
 def is_fit_chart(chart):
-    return (1 <= chart.count <= 64
-            and all(f < chart.count for table in tables(chart) for entry in table for f in entry)
-            and all(not table[e] for table in tables(chart) for e in range(chart.count, 64))
-            and all(not chart.roles[e] for e in range(chart.count, 64)))
+    return (1 <= chart.count <= MAX_EVENTS
+            and all(max(entry, default=0) < chart.count for table in tables(chart) for entry in table)
+            and all(not table[e] for table in tables(chart) for e in range(chart.count, MAX_EVENTS))
+            and all(not chart.roles[e] for e in range(chart.count, MAX_EVENTS)))
 
 
 def is_fit_marking(chart, marking):
@@ -228,6 +260,13 @@ def open_test(chart, marking, event):
     """The answer and everything that blocks; nobody's role is asked for."""
     try:
         refuse_unfit(chart, marking)
+    except Refused as refused:
+        return refused.answer, NOTHING
+    return open_test_of_fit(chart, marking, event)
+
+
+def open_test_of_fit(chart, marking, event):
+    try:
         refuse_if(10, event >= chart.count)
         refuse_shut(chart, marking, event)
     except Refused as refused:
@@ -260,9 +299,9 @@ def count_open(chart, marking):
     try:
         refuse_unfit(chart, marking)
     except Refused as refused:
-        return refused.answer, 0, 64
-    opened = [e for e in range(chart.count) if open_test(chart, marking, e) == (GRANTED, NOTHING)]
-    return GRANTED, len(opened), min(opened, default=64)
+        return refused.answer, 0, NO_EVENT
+    opened = [e for e in range(chart.count) if open_test_of_fit(chart, marking, e) == (GRANTED, NOTHING)]
+    return GRANTED, len(opened), min(opened, default=NO_EVENT)
 
 
 def finished(chart, marking):
@@ -319,7 +358,48 @@ CLEAR, SET = range(2)
 AND, OR, NOT = 65533, 65534, 65535
 
 Rule = namedtuple('Rule', 'trigger sense effect zero number condition target')
-Book = namedtuple('Book', 'stages marks rules conditions words')  # a condition is (start, count) into the words
+
+
+class Book(namedtuple('Book', 'stages marks rules conditions words')):
+    """A condition is (start, count) into the words. What is asked of a book again and again is kept beside it."""
+
+    @functools.cached_property
+    def refers(self):
+        """Of each rule the marks that it refers to, as a number with these bits: those of its condition and of its become trigger."""
+        in_text = [mark_bits(word for word in set(text(self, c)) if word < self.marks) for c in range(len(self.conditions))]
+        return [(in_text[rule.condition] if rule.sense != NO_CONDITION else 0) | (1 << rule.number if rule.trigger in (BECOME_YES, BECOME_NO) else 0)
+                for rule in self.rules]
+
+    @functools.cached_property
+    def on_completions(self):
+        """The rules that a stage's completion triggers, by stage; the others, which count for every stage, at None."""
+        rules = {None: []}
+        for p, rule in enumerate(self.rules):
+            rules.setdefault(rule.number if rule.trigger == COMPLETED else None, []).append(p)
+        return rules
+
+    @functools.cached_property
+    def leading(self):
+        """Of the rules that count for every stage: of a mark the marks, as bits, to which a rule with this target refers."""
+        return leads(self, self.on_completions[None], {})
+
+
+def mark_bits(marks):
+    """The number whose bits are these marks."""
+    number = 0
+    for mark in marks:
+        number |= 1 << mark
+    return number
+
+
+def bits_of(number):
+    """The marks that are bits of a number, the lowest first."""
+    marks = []
+    while number:
+        lowest = number & -number
+        marks.append(lowest.bit_length() - 1)
+        number ^= lowest
+    return marks
 
 
 def text(book, condition):
@@ -344,7 +424,7 @@ def is_good_rule(rule, stages, marks, conditions):
 
 
 def is_good_text(words, marks):
-    """Postfix: nothing is taken from an empty stack, it never holds more than 16 values, it ends with one."""
+    """Postfix: nothing is taken from an empty stack, it never holds more than MAX_STACK values, it ends with one."""
     held = 0
     for word in words:
         if word < marks:
@@ -358,7 +438,7 @@ def is_good_text(words, marks):
                 return False
         else:
             return False
-        if held > 16:
+        if held > MAX_STACK:
             return False
     return held == 1
 
@@ -373,16 +453,15 @@ def read_book(image):
     refuse_if(20, len(image) < 32)
     header = [number32(image, at) for at in range(0, 32, 4)]
     stages, marks, rule_count, condition_count, word_count, rules_at, conditions_at, words_at = header
-    refuse_if(21, stages > 64 or not (stages <= marks <= 256))
-    refuse_if(21, rule_count > 8384 or condition_count > 256 or word_count > 41024)
+    refuse_if(21, stages > MAX_EVENTS or not (stages <= marks <= MAX_MARKS))
+    refuse_if(21, rule_count > MAX_RULES or condition_count > MAX_CONDITIONS or word_count > MAX_WORDS)
     refuse_if(22, rules_at != 32 or conditions_at != 32 + 10 * rule_count)
     refuse_if(22, words_at != 32 + 10 * rule_count + 8 * condition_count)
     refuse_if(22, len(image) != 32 + 10 * rule_count + 8 * condition_count + 2 * word_count)
 
-    rules = [Rule(*image[at:at + 4], number16(image, at + 4), number16(image, at + 6), number16(image, at + 8))
-             for at in range(rules_at, conditions_at, 10)]
-    conditions = [(number32(image, at), number32(image, at + 4)) for at in range(conditions_at, words_at, 8)]
-    words = [number16(image, at) for at in range(words_at, len(image), 2)]
+    rules = [Rule(*record) for record in records(image, rules_at, conditions_at, 'BBBBHHH')]
+    conditions = records(image, conditions_at, words_at, 'II')
+    words = [word for word, in records(image, words_at, len(image), 'H')]
     book = Book(stages, marks, rules, conditions, words)
     refuse_lowest(23, [p for p, rule in enumerate(rules) if not is_good_rule(rule, stages, marks, condition_count)])
     refuse_lowest(24, [c for c in range(condition_count) if not is_good_condition(book, c)])
@@ -395,12 +474,9 @@ def book_image(book):
     words_at = conditions_at + 8 * len(book.conditions)
     parts = [bytes32(number) for number in (book.stages, book.marks, len(book.rules), len(book.conditions),
                                             len(book.words), rules_at, conditions_at, words_at)]
-    for rule in book.rules:
-        parts += [bytes(rule[:4]), bytes16(rule.number), bytes16(rule.condition), bytes16(rule.target)]
-    for start, count in book.conditions:
-        parts += [bytes32(start), bytes32(count)]
-    parts += [bytes16(word) for word in book.words]
-    return b''.join(parts)
+    parts += [struct.pack('<BBBBHHH', *rule) for rule in book.rules]
+    parts += [bytes32(start) + bytes32(count) for start, count in book.conditions]
+    return b''.join(parts) + run16(book.words)
 
 
 # ---- Derived book
@@ -418,14 +494,10 @@ def derived_book(chart):
     stage, executed, included, answered = [lambda e, first=first: first + e for first in (0, n, 2 * n, 3 * n)]
     rules, conditions, words = [], [], []
     for e in range(n):
-        for f in range(n):
-            if f in chart.includes[e]:
-                rules.append(on_completion(e, SET, included(f)))
-            elif f in chart.excludes[e]:  # only where there is no include
-                rules.append(on_completion(e, CLEAR, included(f)))
-        for f in range(n):
-            if f in chart.responses[e]:
-                rules.append(on_completion(e, CLEAR, answered(f)))
+        for f in sorted(chart.includes[e] | chart.excludes[e]):  # a clearing rule only where there is no include
+            rules.append(on_completion(e, SET if f in chart.includes[e] else CLEAR, included(f)))
+        for f in sorted(chart.responses[e]):
+            rules.append(on_completion(e, CLEAR, answered(f)))
         if e not in chart.responses[e]:
             rules.append(on_completion(e, SET, answered(e)))
         rules.append(on_completion(e, SET, executed(e)))
@@ -454,13 +526,18 @@ def derive(chart, room):
     return GRANTED, image + room[len(image):]
 
 
+def snapshot_of(marks):
+    """The snapshot in which these marks are yes."""
+    return [mark in marks for mark in range(MAX_MARKS)]
+
+
 def matching(chart, marking):
     try:
         refuse_unfit(chart, marking)
     except Refused as refused:
-        return refused.answer, [False] * 256
+        return refused.answer, snapshot_of(())
     n = chart.count
-    snapshot = [False] * 256
+    snapshot = snapshot_of(())
     for e in range(n):
         snapshot[e] = is_open(chart, marking, e)
         snapshot[n + e] = e in marking.executed
@@ -471,51 +548,52 @@ def matching(chart, marking):
 
 # ---- Order and clash
 
-def references(book):
-    """For each rule, the marks it refers to: those of its condition and of its become trigger."""
-    in_text = [{word for word in set(text(book, c)) if word < book.marks} for c in range(len(book.conditions))]
-    refers = []
-    for rule in book.rules:
-        marks = set()
-        if rule.sense != NO_CONDITION:
-            marks |= in_text[rule.condition]
-        if rule.trigger in (BECOME_YES, BECOME_NO):
-            marks.add(rule.number)
-        refers.append(marks)
-    return refers
-
-
 def counted(book, stage):
     """For a stage: all rules but those triggered by another stage's completion."""
-    return [p for p, rule in enumerate(book.rules) if not (rule.trigger == COMPLETED and rule.number != stage)]
+    return sorted(book.on_completions[None] + book.on_completions.get(stage, []))
+
+
+def count_of(book, stage):
+    return len(book.on_completions[None]) + len(book.on_completions.get(stage, []))
 
 
 @functools.lru_cache(maxsize=256)
-def marks_reached_back(steps):
-    """Of steps (from, to) between marks: the marks from which some steps lead back."""
-    leads = {}
-    for mark, target in steps:
-        leads.setdefault(mark, set()).add(target)
+def marks_led_back_to(leading):
+    """Of pairs (mark, those that lead to it, as bits): the marks from which some steps lead back to them."""
+    before = dict(leading)
+    after = {mark: [] for mark in before}
+    for mark in before:
+        for one in bits_of(before[mark]):
+            after.setdefault(one, []).append(mark)
+    before.update({mark: 0 for mark in after if mark not in before})
+    done = [mark for mark in before if not before[mark]]
+    for mark in done:  # a mark to which none leads is not led back to, nor one to which none but these lead
+        for next_one in after[mark]:
+            before[next_one] ^= 1 << mark
+            if not before[next_one]:
+                done.append(next_one)
+    reached = {mark: before[mark] for mark in sorted(before) if before[mark]}
+    for through in reached:  # from which marks some steps lead here, through the marks so far
+        for mark in reached:
+            if reached[mark] >> through & 1:
+                reached[mark] |= reached[through]
+    return {mark for mark in reached if reached[mark] >> mark & 1}
 
-    def reached(start):
-        seen, todo = set(), [start]
-        while todo:
-            new = leads.get(todo.pop(), set()) - seen
-            seen |= new
-            todo += new
-        return seen
 
-    left, before = set(leads), None
-    while left != before:  # a mark that leads to none of these is not led back to
-        left, before = {mark for mark in left if not leads[mark].isdisjoint(left)}, left
-    return {mark for mark in left if mark in reached(mark)}
+def leads(book, rules, before):
+    """Of a mark the marks, as bits, that lead to it by these rules, beside those that do before: a rule leads from each mark that it refers to
+    to its target."""
+    before = dict(before)
+    for q in rules:
+        if book.refers[q]:
+            before[book.rules[q].target] = before.get(book.rules[q].target, 0) | book.refers[q]
+    return before
 
 
 def looping_targets(book, stage):
-    """The targets of the rules on a loop: a chain of rules counted for the stage, each before the next, that comes back to its start.
-    A rule leads from each mark that it refers to to its target, so these are the marks that are led back to."""
-    refers = references(book)
-    return marks_reached_back(frozenset((mark, book.rules[q].target) for q in counted(book, stage) for mark in refers[q]))
+    """The targets of the rules on a loop: a chain of rules counted for the stage, each before the next, that comes back to its start. These are
+    the marks that are led back to."""
+    return marks_led_back_to(tuple(sorted(leads(book, book.on_completions.get(stage, []), book.leading).items())))
 
 
 def are_apart(one, two):
@@ -524,7 +602,7 @@ def are_apart(one, two):
     return different_stages or opposite_senses
 
 
-def clashes(book):
+def clashes_as_said(book):
     """Every clashing pair, the lower rule first."""
     same_target = {}
     for p, rule in enumerate(book.rules):
@@ -533,31 +611,61 @@ def clashes(book):
             if book.rules[p].effect != book.rules[q].effect and not are_apart(book.rules[p], book.rules[q])]
 
 
+def clashes_of_long_book(book):
+    """The lowest clashing pair of each mark that has one, and perhaps others of that mark. Of rules that are alike in all that matters the first one
+    stands for all, and a rule on a completion is held against those on the same one and those on none."""
+    firsts = {}  # of a mark: by stage, or None, the first rule of each kind
+    for p, rule in enumerate(book.rules):
+        stage = rule.number if rule.trigger == COMPLETED else None
+        firsts.setdefault(rule.target, {}).setdefault(stage, {}).setdefault((rule.effect, rule.sense, rule.condition), p)
+    return [pair for by_stage in firsts.values() for stage, kinds in by_stage.items()
+            for pair in [first_clash(book, sorted({*kinds.values(), *by_stage.get(None, {}).values()}))] if pair]
+
+
+def first_clash(book, rules):
+    """The lowest clashing pair of some rules of one mark, or None."""
+    if len({book.rules[p].effect for p in rules}) < 2:
+        return None
+    return next(((p, q) for i, p in enumerate(rules) for q in rules[i + 1:]
+                 if book.rules[p].effect != book.rules[q].effect and not are_apart(book.rules[p], book.rules[q])), None)
+
+
+def clashes(book):
+    return clashes_as_said(book) if len(book.rules) <= 100 else clashes_of_long_book(book)
+
+
 def running_order_as_said(book, stage):
     """Always the lowest-numbered unwritten rule, of those counted for the stage, all of whose predecessors are written."""
-    refers = references(book)
     order, unwritten = [], counted(book, stage)
     while unwritten:
-        unwritten_targets = {book.rules[p].target for p in unwritten}
-        lowest = next(q for q in unwritten if not refers[q] & unwritten_targets)
+        unwritten_targets = mark_bits(book.rules[p].target for p in unwritten)
+        lowest = next(q for q in unwritten if not book.refers[q] & unwritten_targets)
         order.append(lowest)
         unwritten.remove(lowest)
     return order
 
 
 def running_order_of_long_book(book, stage):
-    """The same, with the rules that are ready kept in a heap and a rule made ready by the last mark it waits for."""
-    refers = references(book)
-    left = [0] * 256  # of a mark: how many rules with this target are unwritten
+    """The same, with the rules that are ready kept in a heap. Rules that refer to the same marks wait together, for the lowest of these marks
+    that an unwritten rule targets."""
+    left = [0] * MAX_MARKS  # of a mark: how many rules with this target are unwritten
+    alike = {}  # of marks, as bits: the rules that refer to them
     for p in counted(book, stage):
         left[book.rules[p].target] += 1
-    waits = {q: {mark for mark in refers[q] if left[mark]} for q in counted(book, stage)}
-    waiting = [[] for mark in range(256)]
-    for q, marks in waits.items():
-        for mark in marks:
-            waiting[mark].append(q)
-    ready = [q for q, marks in waits.items() if not marks]
-    heapq.heapify(ready)
+        alike.setdefault(book.refers[p], []).append(p)
+    unsettled = mark_bits(mark for mark in range(MAX_MARKS) if left[mark])
+    ready, waiting = [], {}
+
+    def go_on(marks):
+        awaited = marks & unsettled
+        if awaited:
+            waiting.setdefault(awaited & -awaited, []).append(marks)
+        else:
+            for q in alike[marks]:
+                heapq.heappush(ready, q)
+
+    for marks in alike:
+        go_on(marks)
     order = []
     while ready:
         p = heapq.heappop(ready)
@@ -565,10 +673,9 @@ def running_order_of_long_book(book, stage):
         target = book.rules[p].target
         left[target] -= 1
         if left[target] == 0:
-            for q in waiting[target]:
-                waits[q].remove(target)
-                if not waits[q]:
-                    heapq.heappush(ready, q)
+            unsettled ^= 1 << target
+            for marks in waiting.pop(1 << target, []):
+                go_on(marks)
     return order
 
 
@@ -580,14 +687,17 @@ def is_fit_order(book, stage, order):
     """Each rule counted for the stage once, no other, and none before one that comes before it."""
     if sorted(order) != counted(book, stage):
         return False
-    refers = references(book)
-    unlisted = [0] * 256  # of a mark: how many rules with this target are still to come
+    to_come = [0] * MAX_MARKS  # of a mark: how many rules with this target are still to come
     for p in order:
-        unlisted[book.rules[p].target] += 1
+        to_come[book.rules[p].target] += 1
+    unsettled = mark_bits(mark for mark in range(MAX_MARKS) if to_come[mark])
     for q in order:
-        if any(unlisted[mark] for mark in refers[q]):
+        if book.refers[q] & unsettled:
             return False
-        unlisted[book.rules[q].target] -= 1
+        target = book.rules[q].target
+        to_come[target] -= 1
+        if to_come[target] == 0:
+            unsettled ^= 1 << target
     return True
 
 
@@ -602,11 +712,11 @@ def judged_book(image):
 
 
 def check_book(image, stage, room):
-    """The answer and the room, a list of 16-bit numbers, after the call."""
+    """The answer and the room, a list of 32-bit numbers, after the call."""
     try:
         book = judged_book(image)
         refuse_if(29, stage >= book.stages)
-        needed = len(counted(book, stage))
+        needed = count_of(book, stage)
         if len(room) < needed:
             raise Refused(31, needed)
     except Refused as refused:
@@ -672,14 +782,20 @@ def complete(image, order, snapshot, stage):
 
 # ---- An index of orders beside the book
 
-def index_image(book):
-    """S and R, for each stage the byte offset from the image's start and the count of its order, then the running orders."""
+def index_image(book, width=4):
+    """S and R, for each stage the byte offset from the image's start and the count of its order, then the running orders, so many bytes a rule:
+    four, and two in an index that was stored before the books grew."""
     orders = [running_order(book, stage) for stage in range(book.stages)]
     image, at = bytes32(book.stages) + bytes32(len(book.rules)), 8 + 8 * book.stages
     for order in orders:
         image += bytes32(at) + bytes32(len(order))
-        at += 2 * len(order)
-    return image + b''.join(bytes16(p) for order in orders for p in order)
+        at += width * len(order)
+    return image + b''.join((run32 if width == 4 else run16)(order) for order in orders)
+
+
+def index_length(book):
+    """How long its index is; the longest has more bytes than one would write to know it."""
+    return 8 + 8 * book.stages + 4 * sum(count_of(book, stage) for stage in range(book.stages))
 
 
 @functools.lru_cache(maxsize=4)
@@ -691,21 +807,25 @@ def index_of(image):
 def build_index(image, room):
     """The answer and the room, in bytes, after the call."""
     try:
-        judged_book(image)
+        needed = index_length(judged_book(image))
+        if len(room) < needed:
+            raise Refused(35, needed)
         index = index_of(image)
-        if len(room) < len(index):
-            raise Refused(35, len(index))
     except Refused as refused:
         return refused.answer, room
     return GRANTED, index + room[len(index):]
 
 
+def is_fit_index(image, index):
+    """An index is fit exactly if it is what the builder writes for this book."""
+    return len(index) == index_length(judged_book(image)) and index == index_of(image)
+
+
 def complete_indexed(image, index, snapshot, stage):
-    """The answer, the snapshot after the call, and the rules evaluated, of which a refused completion reports 0. An index is fit exactly
-    if it is what the builder writes for this book."""
+    """The answer, the snapshot after the call, and the rules evaluated, of which a refused completion reports 0."""
     try:
         book = judged_book(image)
-        refuse_if(34, index != index_of(image))
+        refuse_if(34, not is_fit_index(image, index))
         refuse_if(28, any(snapshot[book.marks:]))
         refuse_if(29, stage >= book.stages)
         refuse_if(30, not snapshot[stage])
@@ -721,9 +841,9 @@ def complete_list(image, index, snapshot, stages):
     stopping at the first that is refused, which is named by its place in the list."""
     try:
         book = judged_book(image)
-        refuse_if(34, index != index_of(image))
+        refuse_if(34, not is_fit_index(image, index))
         refuse_if(28, any(snapshot[book.marks:]))
-        if len(stages) > 4096:
+        if len(stages) > MAX_LIST:
             raise Refused(38, len(stages))
     except Refused as refused:
         return refused.answer, 0, snapshot, 0
@@ -773,6 +893,12 @@ def read_back(image):
     return GRANTED, chart
 
 
+def told_by_book(chart):
+    """What of a chart its book tells: no roles, and of the exclusions those that no inclusion overrules."""
+    overruled = [excluded - included for excluded, included in zip(chart.excludes, chart.includes)]
+    return chart._replace(excludes=overruled, roles=[set() for e in range(MAX_EVENTS)])
+
+
 # ---- Smaller books
 
 NO_MARK = 65535  # in the table: a mark that is dropped, or that the full book has not
@@ -781,9 +907,11 @@ NO_MARK = 65535  # in the table: a mark that is dropped, or that the full book h
 def dropped_marks(chart, start):
     """The marks of the full book that never matter."""
     n, events = chart.count, range(chart.count)
-    executed = {n + e for e in events if not any(e in chart.conditions[f] for f in events)}
-    included = {2 * n + e for e in events if e in start.included and not any(e in chart.includes[f] or e in chart.excludes[f] for f in events)}
-    answered = {3 * n + e for e in events if e not in start.pending and not any(e in chart.responses[f] for f in events)}
+    conditions, responses = set().union(*chart.conditions), set().union(*chart.responses)  # of any event
+    included_or_excluded = set().union(*chart.includes, *chart.excludes)
+    executed = {n + e for e in events if e not in conditions}
+    included = {2 * n + e for e in events if e in start.included and e not in included_or_excluded}
+    answered = {3 * n + e for e in events if e not in start.pending and e not in responses}
     return executed | included | answered
 
 
@@ -827,7 +955,7 @@ def smaller_book(chart, start):
 
 
 def derive_smaller(chart, start, room):
-    """The answer, the room after the call, and the table of 256 new mark numbers."""
+    """The answer, the room after the call, and the table of MAX_MARKS new mark numbers."""
     try:
         refuse_unfit(chart, start)
         book, table = smaller_book(chart, start)
@@ -835,13 +963,13 @@ def derive_smaller(chart, start, room):
         if len(room) < len(image):
             raise Refused(15, len(image))
     except Refused as refused:
-        return refused.answer, room, [NO_MARK] * 256
-    return GRANTED, image + room[len(image):], table + [NO_MARK] * (256 - len(table))
+        return refused.answer, room, [NO_MARK] * MAX_MARKS
+    return GRANTED, image + room[len(image):], table + [NO_MARK] * (MAX_MARKS - len(table))
 
 
 def through_table(table, snapshot):
     """A snapshot of the full book as the smaller one has it: the kept marks under their new numbers."""
-    smaller = [False] * 256
+    smaller = snapshot_of(())
     for mark, number in enumerate(table):
         if number != NO_MARK:
             smaller[number] = snapshot[mark]
@@ -866,7 +994,7 @@ def mended(image):
     """Of a chart whose header passes: its nodes and relations after the five steps, and the changes. A change is the step, the record's number,
     and the record as it stood before that step: a node's two numbers and 0, a relation's three."""
     count, relations_at = chart_header(image)
-    nodes = [NodeRecord(number16(image, at), number16(image, at + 2)) for at in range(8, relations_at, 4)]
+    nodes = [NodeRecord(*record) for record in records(image, 8, relations_at, 'HH')]
     changes = []
 
     def change(step, n, **numbers):
@@ -900,9 +1028,9 @@ def mend(image, chart_room, list_room):
     try:
         nodes, relations, changes = mended(image)
         events = set(range(len(nodes))) - {node.parent for node in nodes}
-        if len(events) > 64:
+        if len(events) > MAX_EVENTS:
             raise Refused(7, len(events))
-        chart, entries = chart_image(nodes, relations), b''.join(bytes16(number) for change in changes for number in change)
+        chart, entries = chart_image(nodes, relations), run16([number for change in changes for number in change])
         if len(chart_room) < len(chart) or len(list_room) < len(entries):
             raise Refused(37, len(chart), len(entries))
     except Refused as refused:
@@ -928,8 +1056,8 @@ def book_lines(book):
 
 def listing(image):
     """What the program prints for the chart on its standard input."""
-    answer, chart, start = read_chart(image[:25097])
-    room = bytes(49152)
+    answer, chart, start = read_chart(image[:LISTING_READS])
+    room = bytes(LISTING_ROOM)
     if answer == GRANTED:
         answer, room = derive(chart, room)
     if answer != GRANTED:
@@ -964,14 +1092,14 @@ cond 1: 5 4 not 2 or and
 
 
 def worth(snapshot):
-    return sum(1 << mark for mark in range(256) if snapshot[mark])
+    return mark_bits(mark for mark in range(MAX_MARKS) if snapshot[mark])
 
 
 def chart_image(nodes, relations):
     numbers = [len(nodes), len(relations), 8, 8 + 4 * len(nodes)]
     for record in list(nodes) + list(relations):
         numbers += record
-    return b''.join(number.to_bytes(2, 'little') for number in numbers)
+    return run16(numbers)
 
 
 def settled_examples():
@@ -1008,11 +1136,11 @@ def settled_examples():
     assert [check_book(book_image(pair), stage, [7, 7]) for stage in (0, 1)] == [(GRANTED, [0, 7]), (GRANTED, [1, 7])]
     both = book_image(pair._replace(rules=[on_completion(0, SET, 1), on_completion(0, CLEAR, 1)]))
     assert check_book(both, 0, [0, 0])[0] == (26, 0, 1)  # P10
-    still = [True] + [False] * 255
+    still = snapshot_of({0})
     assert complete(book_image(Book(1, 1, [], [], [])), [], still, 0) == (GRANTED, still)  # P11
     assert complete(book_image(pair), [0, 0], still, 0)[0] == (27, 0, 0)  # P12
 
-    for count, code in ((64, GRANTED), (65, (7, 65, 0))):
+    for count, code in ((64, GRANTED), (65, GRANTED), (256, GRANTED), (257, (7, 257, 0)), (512, (7, 512, 0)), (513, (2, 0, 0))):
         assert read_chart(chart_image([free] * count, []))[0] == code
     for held, code in ((16, GRANTED), (17, (24, 0, 0))):
         deep = Book(1, 1, [], [(0, 2 * held - 1)], [0] * held + [AND] * (held - 1))
@@ -1052,7 +1180,7 @@ def stage_examples():
         rules = [rule._replace(trigger=NO_TRIGGER, number=0) if p == taken else rule for p, rule in enumerate(two.rules)]
         for stage in (0, 1, 2):
             assert check_book(book_image(two._replace(rules=rules)), stage, [])[0] == (25, 2, 0)
-    open_both = [True, True, True] + [False] * 253
+    open_both = snapshot_of({0, 1, 2})
     after = complete(book_image(two), [0], open_both, 0)
     assert after[0] == GRANTED and worth(after[1]) == 15
     assert complete(book_image(two), [0, 1], open_both, 0)[0] == (27, 0, 0)
@@ -1065,20 +1193,27 @@ def index_examples():
     """The paper's chart: seven rules of ten count for each stage. Then a stage for which no rule counts, and no stage at all."""
     answer, chart, start = read_chart(PAPER_CHART)
     image, snapshot = book_image(derived_book(chart)), matching(chart, start)[1]
-    numbers = (2, 10, 24, 7, 38, 7)
-    index = b''.join(bytes32(number) for number in numbers) + b''.join(bytes16(p) for p in (0, 1, 2, 6, 7, 8, 9, 3, 4, 5, 6, 7, 8, 9))
-    assert build_index(image, bytes(60)) == (GRANTED, index + bytes(8)) and build_index(image, bytes(51)) == ((35, 52, 0), bytes(51))
+    index = run32((2, 10, 24, 7, 52, 7) + (0, 1, 2, 6, 7, 8, 9, 3, 4, 5, 6, 7, 8, 9))
+    assert build_index(image, bytes(88)) == (GRANTED, index + bytes(8)) and build_index(image, bytes(79)) == ((35, 80, 0), bytes(79))
     for stage, order in ((0, [0, 1, 2, 6, 7, 8, 9]), (1, [3, 4, 5, 6, 7, 8, 9])):
         assert complete_indexed(image, index, snapshot, stage)[:2] == complete(image, order, snapshot, stage)
     for wrong in (index[:-1], index + b'\0', index[:-1] + b'\x01', b'\x03' + index[1:], b''):
         assert complete_indexed(image, wrong, snapshot, 0) == ((34, 0, 0), snapshot, 0)
-    everything = [True] * 256
+    everything = [True] * MAX_MARKS
     assert complete_indexed(image, index[1:], everything, 9)[0] == (34, 0, 0)
     assert complete_indexed(image, index, everything, 9)[0] == (28, 0, 0) and complete_indexed(image, index, snapshot, 9)[0] == (29, 0, 0)
-    assert complete_indexed(image, index, [False] * 256, 1)[0] == (30, 0, 0)
+    assert complete_indexed(image, index, snapshot_of(()), 1)[0] == (30, 0, 0)
     gap = Book(3, 3, [on_completion(0, SET, 1), on_completion(2, SET, 1)], [], [])
-    assert index_image(gap) == b''.join(bytes32(number) for number in (3, 2, 32, 1, 34, 0, 34, 1)) + bytes16(0) + bytes16(1)
-    assert index_image(Book(0, 1, [without_trigger(NO_CONDITION, 0, SET, 0)], [], [])) == bytes32(0) + bytes32(1)
+    assert index_image(gap) == run32((3, 2, 32, 1, 36, 0, 36, 1, 0, 1))
+    assert index_image(Book(0, 1, [without_trigger(NO_CONDITION, 0, SET, 0)], [], [])) == run32((0, 1))
+    # an index that was stored with 16 bits a rule: unfit if it lists a rule, and fit if it lists none
+    old = run32((2, 10, 24, 7, 38, 7)) + run16((0, 1, 2, 6, 7, 8, 9, 3, 4, 5, 6, 7, 8, 9))
+    assert index_image(derived_book(chart), 2) == old and complete_indexed(image, old, everything, 9)[0] == (34, 0, 0)
+    quiet = Book(3, 3, [], [], [])
+    assert index_image(quiet, 2) == index_image(quiet) == run32((3, 0, 32, 0, 32, 0, 32, 0))
+    assert complete_indexed(book_image(quiet), index_image(quiet, 2), snapshot_of(range(3)), 2)[0] == GRANTED
+    none = Book(0, 1, [without_trigger(NO_CONDITION, 0, SET, 0)], [], [])  # a rule, but no stage that lists it
+    assert complete_list(book_image(none), index_image(none, 2), snapshot_of(()), [])[0] == GRANTED
 
 
 def list_examples():
@@ -1090,14 +1225,14 @@ def list_examples():
                                           ([1, 0], (30, 0, 0), 0, 113), ([0, 2, 1], (29, 1, 0), 1, 119)):
         given = complete_list(image, index, snapshot, stages)
         assert given[:2] == (answer, granted) and worth(given[2]) == ends and given[3] == 7 * granted
-    assert complete_list(image, index[1:], [True] * 256, [9] * 5000)[:2] == ((34, 0, 0), 0)
-    assert complete_list(image, index, [True] * 256, [9] * 5000)[:2] == ((28, 0, 0), 0)
+    assert complete_list(image, index[1:], [True] * MAX_MARKS, [9] * 5000)[:2] == ((34, 0, 0), 0)
+    assert complete_list(image, index, [True] * MAX_MARKS, [9] * 5000)[:2] == ((28, 0, 0), 0)
     assert complete_list(image, index, snapshot, [9] * 4097) == ((38, 4097, 0), 0, snapshot, 0)
     assert complete_list(image, index, snapshot, [9] * 4096) == ((29, 0, 0), 0, snapshot, 0)
     # mark 1 is cleared by stage 0 and set by stage 2; mark 3 is set where mark 1 became yes, and cleared where it became no
     turns = Book(3, 4, [on_completion(0, CLEAR, 1), on_completion(2, SET, 1), Rule(BECOME_YES, AS_WRITTEN, SET, 0, 1, 0, 3),
                         Rule(BECOME_NO, NEGATED, CLEAR, 0, 1, 0, 3)], [(0, 1)], [1])
-    image, snapshot = book_image(turns), [True, True, True] + [False] * 253
+    image, snapshot = book_image(turns), snapshot_of({0, 1, 2})
     for stages, ends in (([0], 5), ([2], 7), ([0, 2], 15), ([0, 2, 2], 15), ([0, 2, 0], 5), ([0, 2, 0, 2, 0], 5)):
         assert worth(complete_list(image, index_of(image), snapshot, stages)[2]) == ends
 
@@ -1111,11 +1246,10 @@ def evaluated_examples():
         chart.responses[0] |= set(range(n))
         image = book_image(derived_book(chart))
         for e in range(n):
-            snapshot = [mark == e for mark in range(256)]
-            assert complete_indexed(image, index_of(image), snapshot, e)[2] == (4 * n + 1 if e == 0 else 2 * n + 2)
-            assert complete_indexed(image, index_of(image), [False] * 256, e) == ((30, 0, 0), [False] * 256, 0)
+            assert complete_indexed(image, index_of(image), snapshot_of({e}), e)[2] == (4 * n + 1 if e == 0 else 2 * n + 2)
+            assert complete_indexed(image, index_of(image), snapshot_of(()), e) == ((30, 0, 0), snapshot_of(()), 0)
     rules = [on_completion(0, SET, 2), Rule(BECOME_YES, NO_CONDITION, SET, 0, 1, 0, 3), on_completion(1, SET, 2), without_trigger(NO_CONDITION, 0, SET, 1)]
-    image, opened = book_image(Book(2, 4, rules, [], [])), [True, True] + [False] * 254
+    image, opened = book_image(Book(2, 4, rules, [], [])), snapshot_of({0, 1})
     assert [complete_indexed(image, index_of(image), opened, stage)[2] for stage in (0, 1, 2)] == [3, 3, 0]
     for stages, evaluated in (([], 0), ([0], 3), ([0, 1, 0], 9), ([0, 2, 1], 3), ([2], 0)):
         assert complete_list(image, index_of(image), opened, stages)[3] == evaluated
@@ -1212,16 +1346,16 @@ def mend_examples():
     # 2 and 3 are each other's parent: 2 loses its own and stays a group; 4 was its own parent and is an event from then on
     changes = ((1, 0, 6, 7, 0), (2, 3, 2, roles + 15, 0), (2, 4, 4, 133, 0), (2, 5, 1, 255, 0), (3, 2, 3, 6, 0), (3, 4, 4, 5, 0),
                (4, 1, NONE, roles + 7, 0), (4, 2, NONE, 6, 0), (5, 1, 6, 0, 0), (5, 3, 0, 65535, 1), (5, 4, 5, 5, 5))
-    entries = b''.join(bytes16(number) for change in changes for number in change)
+    entries = run16([number for change in changes for number in change])
     assert mend(image, bytes(50), bytes(120)) == (GRANTED, 11, better + bytes(50 - len(better)), entries + bytes(10))
     assert read_chart(image)[0] == (4, 0, 0) and read_chart(better)[0] == GRANTED and mend(better, bytes(44), b'') == (GRANTED, 0, better, b'')
     for rooms in ((44, 109), (43, 110), (0, 0), (43, 200), (200, 0)):
         assert mend(image, *map(bytes, rooms)) == ((37, 44, 110), 0, *map(bytes, rooms))
     assert mend(PAPER_CHART, bytes(34), b'') == (GRANTED, 0, PAPER_CHART, b'') and mend(PAPER_CHART, bytes(33), b'') == ((37, 34, 0), 0, bytes(33), b'')
-    for count, answer in ((64, GRANTED), (65, (7, 65, 0))):  # nodes that are their own parents are events once they have none
+    for count, answer in ((256, GRANTED), (257, (7, 257, 0))):  # nodes that are their own parents are events once they have none
         for damaged in ([(n, 4) for n in range(count)], [(count, 4)] * count):
-            assert mend(chart_image(damaged, [(200, 0, 0)]), bytes(1000), bytes(1000))[0] == answer
-    assert mend(chart_image([(n, 4) for n in range(65)], []), b'', b'')[0] == (7, 65, 0)
+            assert mend(chart_image(damaged, [(600, 0, 0)]), bytes(3000), bytes(3000))[0] == answer
+    assert mend(chart_image([(n, 4) for n in range(257)], []), b'', b'')[0] == (7, 257, 0)
     for wrong, code in ((PAPER_CHART[:7], 1), (bytes(8), 2), (PAPER_CHART + b'\0', 3)):
         assert mend(wrong, b'', b'') == ((code, 0, 0), 0, b'', b'')
 
@@ -1248,10 +1382,10 @@ def smaller_examples():
     assert book_lines(book) == PAPER_SMALLER and table == [0, 1, 2, NO_MARK, 3, NO_MARK, NO_MARK, 4]
     image = book_image(book)
     assert len(image) == 138 and check_book(image, 1, [0] * 6) == (GRANTED, [2, 3, 4, 5, 6, 7])
-    assert derive_smaller(chart, start, bytes(140)) == (GRANTED, image + bytes(2), table + [NO_MARK] * 248)
-    assert derive_smaller(chart, start, bytes(137)) == ((15, 138, 0), bytes(137), [NO_MARK] * 256)
+    assert derive_smaller(chart, start, bytes(140)) == (GRANTED, image + bytes(2), table + [NO_MARK] * 1016)
+    assert derive_smaller(chart, start, bytes(137)) == ((15, 138, 0), bytes(137), [NO_MARK] * 1024)
     for unfit in ((chart, start._replace(executed={2})), (chart._replace(count=1), start), (chart._replace(count=0), start)):
-        assert derive_smaller(*unfit, bytes(200)) == ((14, 0, 0), bytes(200), [NO_MARK] * 256)
+        assert derive_smaller(*unfit, bytes(200)) == ((14, 0, 0), bytes(200), [NO_MARK] * 1024)
     assert not finished_by_marks(2, table, through_table(table, matching(chart, start)[1]))
 
     everyone = set(range(3))
@@ -1273,6 +1407,82 @@ def smaller_examples():
             assert {old for old, number in enumerate(smaller_book(chart, start)[1]) if number != NO_MARK} == kept
 
 
+def full_chart(n):
+    """n events, each related to each by every kind."""
+    return FlatChart(n, *[[set(range(n)) if e < n else set() for e in range(MAX_EVENTS)] for table in range(5)], [set() for e in range(MAX_EVENTS)])
+
+
+def larger_examples():
+    """The largest chart and its book: the limits of a book are what it needs. A chart that has no open event reports 256, whatever its size, and
+    so does a refused count. Event 255 is in a set's last word."""
+    for n in (1, 2, 64):
+        book = derived_book(full_chart(n))
+        assert (book.marks, len(book.rules), len(book.words)) == (4 * n, 2 * n * n + 3 * n, 10 * n * n + n)
+    largest, everyone = full_chart(256), set(range(256))
+    start = Marking(everyone, set(), everyone)
+    book = derived_book(largest)
+    assert (book.stages, book.marks, len(book.rules), len(book.conditions), len(book.words)) == (256, 1024, 131840, 256, 655616)
+    image = book_image(book)
+    assert len(image) == 2631712 and derive(largest, bytes(2631711))[0] == (15, 2631712, 0)
+    assert check_book(image, 255, [0] * 1024)[0] == (31, 1025, 0) and check_book(image, 256, [])[0] == (29, 0, 0)
+    order = check_book(image, 255, [0] * 1025)[1]
+    assert order == list(range(130815, 131840))  # the last stage's own rules, and those on no completion
+    snapshot = matching(largest, start)[1]
+    after = execute(largest, start, 255, 0)[1]
+    assert after.pending == everyone and complete(image, order, snapshot, 255) == (GRANTED, matching(largest, after)[1])
+    assert complete(image, [p % 65536 for p in order], snapshot, 255)[0] == (27, 0, 0)
+    assert build_index(image, bytes(1051655))[0] == (35, 1051656, 0) and complete_indexed(image, index_of(image), snapshot, 255)[2] == 1025
+    assert read_back(image) == (GRANTED, told_by_book(largest))
+    everywhere = Book(256, 1024, [without_trigger(NO_CONDITION, 0, SET, p % 1024) for p in range(131840)], [], [])
+    assert build_index(book_image(everywhere), b'')[0] == (35, 8 + 8 * 256 + 4 * 256 * 131840, 0)
+    for n in (1, 64, 255, 256):
+        chart = empty_chart(n)
+        assert count_open(chart, empty_marking()) == (GRANTED, 0, 256) and count_open(chart, Marking({n}, set(), set())) == ((14, 0, 0), 0, 256)
+        assert count_open(chart, Marking(set(), set(), {n - 1})) == (GRANTED, 1, n - 1)
+        assert execute(chart, empty_marking(), n, 0)[0] == (10, 0, 0)
+    wide = empty_chart(256)
+    wide.conditions[255].update({64, 191, 255})
+    assert open_test(wide, Marking({64}, set(), everyone), 255) == ((12, 191, 0), Blocking({191, 255}, set()))
+    one = book_image(Book(1, 1024, [on_completion(0, SET, 1023)], [], []))
+    assert worth(complete(one, [0], snapshot_of({0}), 0)[1]) == 1 + (1 << 1023)
+    below = book_image(Book(1, 1023, [], [], []))
+    assert complete(below, [], snapshot_of({0, 1023}), 0)[0] == (28, 0, 0) and complete(below, [], snapshot_of({0, 1022}), 0)[0] == GRANTED
+
+
+def numbers_of(chart, marking):
+    """A flat chart of up to 64 events and a marking as they were told when a set was one number of 64 bits."""
+    sets = list(marking) + [table[e] for table in tables(chart) + (chart.roles,) for e in range(64)]
+    assert not any(table[e] for table in tables(chart) + (chart.roles,) for e in range(64, MAX_EVENTS))
+    return [chart.count] + [mark_bits(entry) for entry in sets]
+
+
+EARLIER_SUM = 2254531763
+
+
+def earlier_examples():
+    """Charts of up to 64 events, good ones and bad ones, and their books: answers, flat charts, markings, books, orders and snapshots have the sum that
+    this model gave for them when these were the most."""
+    rng, told = random.Random(14), []
+    for _ in range(300):
+        count = rng.choice((1, 2, 5, 20, 64, 80))
+        parents = [NONE if n == 0 or rng.random() < 0.4 else rng.randrange(n) for n in range(count)]
+        nodes = [(parent, 0 if n in parents else rng.choice((4, 4, 6, 5, 0, 3)) + 256 * rng.choice((0, 0, 1, 8, 255))) for n, parent in enumerate(parents)]
+        relations = [(rng.randrange(count), rng.randrange(count), rng.randrange(5)) for _ in range(rng.randrange(2 * count))]
+        if rng.random() < 0.2:
+            nodes[rng.randrange(count)] = (rng.randrange(count + 1), rng.randrange(12))
+        if rng.random() < 0.1:
+            relations.append((rng.randrange(count), count, 0))
+        answer, chart, start = read_chart(chart_image(nodes, relations))
+        assert answer[0] not in (2, 7)
+        told.append((answer, numbers_of(chart, start)))
+        if answer == GRANTED and rng.random() < 0.3:
+            image, snapshot, stage = book_image(derived_book(chart)), matching(chart, start)[1], rng.randrange(chart.count)
+            order = running_order(derived_book(chart), stage)
+            completed, after = complete(image, order, snapshot, stage)
+            told.append((image, order, worth(snapshot), completed, worth(after), execute(chart, start, stage, 0)[0], book_image(smaller_book(chart, start)[0])))
+    assert zlib.adler32(repr(told).encode()) == EARLIER_SUM
+
+
 def orders_agree():
     """Small random books without a loop, also over all rules, get one running order from both functions that make it."""
     rng = random.Random(1)
@@ -1288,10 +1498,23 @@ def orders_agree():
         book = Book(2, 12, rules, [(mark, 1) for mark in range(12)], list(range(12)))
         for stage in (0, 1):
             order = running_order_of_long_book(book, stage)
-            assert order == running_order_as_said(book, stage)
+            assert order == running_order_as_said(book, stage) and is_fit_order(book, stage, order)
             # going through all rules, as before the request, ends alike: those left out for a stage do not fire when it is completed
-            snapshot, by_rank = [rng.random() < 0.5 for mark in range(256)], sorted(range(len(rules)), key=lambda p: rank[rules[p].target])
+            snapshot, by_rank = [rng.random() < 0.5 for mark in range(MAX_MARKS)], sorted(range(len(rules)), key=lambda p: rank[rules[p].target])
             assert gone_through(book, order, snapshot, stage)[0] == gone_through(book, by_rank, snapshot, stage)[0]
+
+
+def clashes_agree():
+    """Small random books get one lowest clash from both functions that look for it."""
+    rng, found = random.Random(2), 0
+    for _ in range(2000):
+        rules = [Rule(kind, sense, rng.random() < 0.5, 0, rng.randrange(3) if kind else 0, rng.randrange(2) if sense else 0, rng.randrange(2))
+                 for kind, sense in [(rng.choice((0, 1, 1, 1, 2)), rng.choice((0, 1, 2, 1, 2))) for _ in range(rng.randrange(9))]]
+        book = Book(3, 3, rules, [(0, 1)] * 2, [2])
+        lowest = [min(pairs, default=None) for pairs in (clashes_as_said(book), clashes_of_long_book(book))]
+        assert lowest[0] == lowest[1]
+        found += lowest[0] is not None
+    assert 300 < found < 1900
 
 
 if __name__ == '__main__':
@@ -1311,5 +1534,8 @@ if __name__ == '__main__':
         both_examples()
         mend_examples()
         smaller_examples()
+        larger_examples()
+        earlier_examples()
         orders_agree()
+        clashes_agree()
         print('the settled examples hold')

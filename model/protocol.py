@@ -1,30 +1,39 @@
 # The requests of the program `vectors`: how each is written as bytes, and the line that the model expects for it.
 
+import functools
+import struct
 import zlib
 
 import ozhimka as model
-from ozhimka import bytes16, bytes32
+from ozhimka import MAX_EVENTS, MAX_MARKS, bytes32, run16, run32
 
 FILL = 165  # the byte that room is filled with before a call
-FLAT_BYTES = 4 + 5 * 64 * 8 + 64
-MARKING_BYTES = 3 * 8
-MAX_BODY = 262144
-MAX_ROOM_BYTES = 200000
-MAX_ROOM_NUMBERS = 10000
-MAX_STEPS = 10000  # of a record
+SET_WORDS = MAX_EVENTS // 64  # a set is so many 64-bit numbers
+SET_BYTES = 8 * SET_WORDS
+TABLES_BYTES = 5 * MAX_EVENTS * SET_BYTES
+FLAT_BYTES = 4 + TABLES_BYTES + MAX_EVENTS
+MARKING_BYTES = 3 * SET_BYTES
+SNAPSHOT_BYTES = MAX_MARKS // 8
+MAX_BODY = 8388608
+MAX_ROOM_BYTES = 4000000
+MAX_NUMBERS = 200000  # of an order, of room for one, of a list, and steps of a record
 BAD = 'bad request'
 LISTING = 18  # the operation that lists a chart's book
+WITH_CHART = (2, 3, 4, 5, 6, 12, 13, 14, 16)  # the operations whose requests carry a flat chart
 
 
 # ---- writing requests
 
+EMPTY_SET = bytes(SET_BYTES)
+
+
 def set_bytes(members):
-    return sum(1 << e for e in members).to_bytes(8, 'little')
+    return model.mark_bits(members).to_bytes(SET_BYTES, 'little') if members else EMPTY_SET
 
 
 def flat_bytes(chart):
     sets = b''.join(set_bytes(entry) for table in model.tables(chart) for entry in table)
-    return bytes32(chart.count) + sets + bytes(worth(entry) for entry in chart.roles)
+    return bytes32(chart.count) + sets + bytes(model.mark_bits(entry) for entry in chart.roles)
 
 
 def marking_bytes(marking):
@@ -32,7 +41,7 @@ def marking_bytes(marking):
 
 
 def snapshot_bytes(snapshot):
-    return model.worth(snapshot).to_bytes(32, 'little')
+    return model.worth(snapshot).to_bytes(SNAPSHOT_BYTES, 'little')
 
 
 def read_request(image):
@@ -64,8 +73,7 @@ def check_request(room, stage, image):
 
 
 def complete_request(stage, snapshot, order, image):
-    return (b'\x08' + bytes32(stage) + snapshot_bytes(snapshot) + bytes32(len(order))
-            + b''.join(bytes16(p) for p in order) + image)
+    return b'\x08' + bytes32(stage) + snapshot_bytes(snapshot) + bytes32(len(order)) + run32(order) + image
 
 
 def index_request(room, image):
@@ -77,12 +85,11 @@ def indexed_request(stage, snapshot, index, image):
 
 
 def list_request(snapshot, stages, index, image):
-    return (b'\x0b' + snapshot_bytes(snapshot) + bytes32(len(stages)) + b''.join(bytes32(stage) for stage in stages)
-            + bytes32(len(index)) + index + image)
+    return b'\x0b' + snapshot_bytes(snapshot) + bytes32(len(stages)) + run32(stages) + bytes32(len(index)) + index + image
 
 
 def record_bytes(record):
-    return bytes32(len(record)) + b''.join(bytes32(event) + bytes32(role) for event, role in record)
+    return bytes32(len(record)) + run32([number for step in record for number in step])
 
 
 def replay_request(chart, marking, record):
@@ -120,29 +127,37 @@ def framed(body):
 # ---- the expected line
 
 def members(number):
-    """The set that a 64-bit number stands for."""
-    found, e = set(), 0
-    while number:
-        if number & 1:
-            found.add(e)
-        number >>= 1
-        e += 1
-    return found
+    """The set that a number stands for."""
+    return {e for e, digit in enumerate(bin(number)[:1:-1]) if digit == '1'} if number else set()
 
 
-def worth(entry):
-    return sum(1 << e for e in entry)
+def set_words(entry):
+    """A set as it is printed: its 64-bit numbers, the lowest events first."""
+    number = model.mark_bits(entry)
+    return [number >> 64 * i & 0xFFFFFFFFFFFFFFFF for i in range(SET_WORDS)]
+
+
+def words_of_sets(sets):
+    return [word for entry in sets for word in set_words(entry)]
+
+
+def sets_at(body, at, count):
+    return [members(int.from_bytes(body[i:i + SET_BYTES], 'little')) for i in range(at, at + count * SET_BYTES, SET_BYTES)]
+
+
+@functools.lru_cache(maxsize=4)
+def flat_from(image):
+    sets = sets_at(image, 4, 5 * MAX_EVENTS)
+    roles = [members(byte) for byte in image[4 + TABLES_BYTES:]]
+    return model.FlatChart(model.number32(image, 0), *[sets[i:i + MAX_EVENTS] for i in range(0, 5 * MAX_EVENTS, MAX_EVENTS)], roles)
 
 
 def flat_at(body, at):
-    roles_at = at + FLAT_BYTES - 64
-    sets = [members(int.from_bytes(body[i:i + 8], 'little')) for i in range(at + 4, roles_at, 8)]
-    roles = [members(byte) for byte in body[roles_at:roles_at + 64]]
-    return model.FlatChart(model.number32(body, at), *[sets[i:i + 64] for i in range(0, 320, 64)], roles)
+    return flat_from(body[at:at + FLAT_BYTES])
 
 
 def marking_at(body, at):
-    return model.Marking(*[members(int.from_bytes(body[i:i + 8], 'little')) for i in range(at, at + 24, 8)])
+    return model.Marking(*sets_at(body, at, 3))
 
 
 def line(name, answer, values):
@@ -150,8 +165,7 @@ def line(name, answer, values):
 
 
 def snapshot_words(snapshot):
-    number = model.worth(snapshot)
-    return [(number >> (64 * i)) % (1 << 64) for i in range(4)]
+    return list(struct.unpack('<%dQ' % (SNAPSHOT_BYTES // 8), snapshot_bytes(snapshot)))
 
 
 def line_for(body):
@@ -167,13 +181,13 @@ def line_for(body):
     if operation == 7:
         return check_line(body) if len(body) >= 9 else BAD
     if operation == 8:
-        return complete_line(body) if len(body) >= 41 else BAD
+        return complete_line(body) if len(body) >= 9 + SNAPSHOT_BYTES else BAD
     if operation == 9:
         return index_line(body) if len(body) >= 5 else BAD
     if operation == 10:
-        return indexed_line(body) if len(body) >= 41 else BAD
+        return indexed_line(body) if len(body) >= 9 + SNAPSHOT_BYTES else BAD
     if operation == 11:
-        return list_line(body) if len(body) >= 37 else BAD
+        return list_line(body) if len(body) >= 5 + SNAPSHOT_BYTES else BAD
     if operation in (12, 13):
         record = record_at(body, 1 + FLAT_BYTES + MARKING_BYTES + (4 if operation == 13 else 0))
         return BAD if record is None else record_line(operation, body, record)
@@ -190,9 +204,9 @@ def line_for(body):
 
 def read_line(body):
     answer, chart, start = model.read_chart(body[1:])
-    values = [chart.count] + [worth(entry) for entry in start]
+    values = [chart.count] + words_of_sets(start)
     for e in range(chart.count):
-        values += [worth(table[e]) for table in model.tables(chart) + (chart.roles,)]
+        values += words_of_sets(table[e] for table in model.tables(chart)) + [model.mark_bits(chart.roles[e])]
     return line('read', answer, values)
 
 
@@ -202,7 +216,7 @@ def chart_line(operation, body):
     if operation == 2:
         event, role = [model.number32(body, 1 + FLAT_BYTES + MARKING_BYTES + at) for at in (0, 4)]
         answer, after, blocks = model.execute(chart, marking, event, role)
-        return line('execute', answer, [worth(entry) for entry in after + blocks])
+        return line('execute', answer, words_of_sets(after + blocks))
     if operation == 3:
         answer, count, lowest = model.count_open(chart, marking)
         return line('count', answer, [count, lowest])
@@ -211,7 +225,7 @@ def chart_line(operation, body):
         return line('finished', answer, ['yes' if yes else 'no'])
     if operation == 14:
         answer, blocks = model.open_test(chart, marking, model.number32(body, 1 + FLAT_BYTES + MARKING_BYTES))
-        return line('open', answer, [worth(entry) for entry in blocks])
+        return line('open', answer, words_of_sets(blocks))
     answer, snapshot = model.matching(chart, marking)
     return line('matching', answer, snapshot_words(snapshot))
 
@@ -226,23 +240,26 @@ def derive_line(body):
 
 def check_line(body):
     count, stage = model.number32(body, 1), model.number32(body, 5)
-    if count > MAX_ROOM_NUMBERS:
+    if count > MAX_NUMBERS:
         return BAD
-    answer, room = model.check_book(body[9:], stage, [FILL * 257] * count)
-    return line('check', answer, [zlib.adler32(b''.join(bytes16(p) for p in room))])
+    answer, room = model.check_book(body[9:], stage, [model.number32(bytes([FILL]) * 4, 0)] * count)
+    return line('check', answer, [zlib.adler32(run32(room))])
 
 
 def snapshot_at(body, at):
-    number = int.from_bytes(body[at:at + 32], 'little')
-    return [number >> mark & 1 == 1 for mark in range(256)]
+    return model.snapshot_of(members(int.from_bytes(body[at:at + SNAPSHOT_BYTES], 'little')))
+
+
+def numbers_at(body, at, count):
+    return list(struct.unpack_from('<%dI' % count, body, at))
 
 
 def complete_line(body):
-    stage, snapshot, count = model.number32(body, 1), snapshot_at(body, 5), model.number32(body, 37)
-    if count > MAX_ROOM_NUMBERS or len(body) < 41 + 2 * count:
+    stage, snapshot, count = model.number32(body, 1), snapshot_at(body, 5), model.number32(body, 5 + SNAPSHOT_BYTES)
+    at = 9 + SNAPSHOT_BYTES  # where the order begins
+    if count > MAX_NUMBERS or len(body) < at + 4 * count:
         return BAD
-    order = [model.number16(body, at) for at in range(41, 41 + 2 * count, 2)]
-    answer, after = model.complete(body[41 + 2 * count:], order, snapshot, stage)
+    answer, after = model.complete(body[at + 4 * count:], numbers_at(body, at, count), snapshot, stage)
     return line('complete', answer, snapshot_words(after))
 
 
@@ -255,43 +272,43 @@ def index_line(body):
 
 
 def indexed_line(body):
-    stage, snapshot, length = model.number32(body, 1), snapshot_at(body, 5), model.number32(body, 37)
-    if len(body) < 41 + length:
+    stage, snapshot, length = model.number32(body, 1), snapshot_at(body, 5), model.number32(body, 5 + SNAPSHOT_BYTES)
+    at = 9 + SNAPSHOT_BYTES  # where the index begins
+    if len(body) < at + length:
         return BAD
-    answer, after, evaluated = model.complete_indexed(body[41 + length:], body[41:41 + length], snapshot, stage)
+    answer, after, evaluated = model.complete_indexed(body[at + length:], body[at:at + length], snapshot, stage)
     return line('indexed', answer, snapshot_words(after) + [evaluated])
 
 
 def list_line(body):
-    snapshot, count = snapshot_at(body, 1), model.number32(body, 33)
-    at = 41 + 4 * count  # where the index begins
-    if count > MAX_ROOM_NUMBERS or len(body) < at or len(body) - at < model.number32(body, at - 4):
+    snapshot, count = snapshot_at(body, 1), model.number32(body, 1 + SNAPSHOT_BYTES)
+    at = 9 + SNAPSHOT_BYTES + 4 * count  # where the index begins
+    if count > MAX_NUMBERS or len(body) < at or len(body) - at < model.number32(body, at - 4):
         return BAD
-    stages, end = [model.number32(body, i) for i in range(37, at - 4, 4)], at + model.number32(body, at - 4)
+    stages, end = numbers_at(body, 5 + SNAPSHOT_BYTES, count), at + model.number32(body, at - 4)
     answer, granted, after, evaluated = model.complete_list(body[end:], body[at:end], snapshot, stages)
     return line('list', answer, [granted] + snapshot_words(after) + [evaluated])
 
 
 def record_at(body, at):
     """The record that begins there; None if it is too long or cut short."""
-    if len(body) < at + 4 or model.number32(body, at) > MAX_STEPS or len(body) < at + 4 + 8 * model.number32(body, at):
+    if len(body) < at + 4 or model.number32(body, at) > MAX_NUMBERS or len(body) < at + 4 + 8 * model.number32(body, at):
         return None
-    return [(model.number32(body, i), model.number32(body, i + 4)) for i in range(at + 4, at + 4 + 8 * model.number32(body, at), 8)]
+    return model.records(body, at + 4, at + 4 + 8 * model.number32(body, at), 'II')
 
 
 def record_line(operation, body, record):
     chart, start = flat_at(body, 1), marking_at(body, 1 + FLAT_BYTES)
     if operation == 12:
         answer, steps, code, marking, yes, blocks = model.replay(chart, start, record)
-        values = [steps, code] + [worth(entry) for entry in marking] + ['yes' if yes else 'no'] + [worth(entry) for entry in blocks]
-        return line('replay', answer, values)
+        return line('replay', answer, [steps, code] + words_of_sets(marking) + ['yes' if yes else 'no'] + words_of_sets(blocks))
     answer, marking, blocks = model.strike(chart, start, model.number32(body, 1 + FLAT_BYTES + MARKING_BYTES), record)
-    return line('strike', answer, [worth(entry) for entry in marking + blocks])
+    return line('strike', answer, words_of_sets(marking + blocks))
 
 
 def back_line(body):
     answer, chart = model.read_back(body[1:])
-    return line('back', answer, [chart.count] + [worth(table[e]) for e in range(chart.count) for table in model.tables(chart)])
+    return line('back', answer, [chart.count] + words_of_sets(table[e] for e in range(chart.count) for table in model.tables(chart)))
 
 
 def smaller_line(body):
@@ -299,7 +316,7 @@ def smaller_line(body):
     if length > MAX_ROOM_BYTES:
         return BAD
     answer, room, table = model.derive_smaller(flat_at(body, 5), marking_at(body, 5 + FLAT_BYTES), bytes([FILL]) * length)
-    return line('smaller', answer, [zlib.adler32(room), zlib.adler32(b''.join(bytes16(number) for number in table))])
+    return line('smaller', answer, [zlib.adler32(room), zlib.adler32(run16(table))])
 
 
 def mend_line(body):

@@ -16,9 +16,9 @@ from collections import Counter
 import causes
 import chances
 from ozhimka import PAPER_CHART
-from protocol import BAD, LISTING, MAX_BODY, answer_of, bytes32, framed, line_for, read_request
+from protocol import BAD, LISTING, MAX_BODY, WITH_CHART, answer_of, bytes32, framed, line_for, read_request
 
-BATCH = 5000  # requests that one run of the program gets
+BATCH, BATCH_BYTES = 5000, 1 << 26  # requests that one run of the program gets, and bytes, but for its last request
 
 BOOK_CODES = (20, 21, 22, 23, 24, 25, 26)
 STEP_CODES = (10, 32, 11, 12, 13)
@@ -31,14 +31,12 @@ CODES = {1: range(9), 2: (0, 14) + STEP_CODES, 3: (0, 14), 4: (0, 14), 5: (0, 14
 
 
 def expected(job):
-    """A list of (body, line) from a list of (answer meant or None, body)."""
-    pairs = []
-    for meant, body in job:
+    """Pairs (body, line) from (answer meant or None, body), behind which a cause may stand."""
+    for meant, body, *cause in job:
         line = line_for(body)
         if meant is not None and answer_of(line) != meant:
-            raise AssertionError('meant %s, got %s: %s' % (meant, line, body.hex()))
-        pairs.append((body, line))
-    return pairs
+            raise AssertionError('meant %s, got %s: %s' % (meant, line[:200], body[:1000].hex()))
+        yield body, line
 
 
 def unmeant(bodies):
@@ -59,17 +57,38 @@ def stream(seed):
             yield from expected(unmeant(make(rng)))
 
 
+def few_with_chart(job):
+    """The requests, and of those that carry a flat chart, and so 41,220 bytes, the first by each call, answer's code and cause."""
+    had = set()
+    for meant, body, *cause in job:
+        if body[0] in WITH_CHART:
+            key = (body[0], meant if meant in (None, BAD) else meant[0], *cause)
+            if key in had:
+                continue
+            had.add(key)
+        yield meant, body
+
+
+def short(job, longest=8000):
+    return (request for request in job if len(request[1]) <= longest)
+
+
 def selection():
-    """The fixed selection: every cause, the largest sizes, long runs, and some of each random family."""
+    """The fixed selection: every cause, few of the largest size, runs of chart and book of which the book's side is kept, and some of each random family."""
     rng = random.Random('the stored requests')
-    for make in causes.CAUSES + causes.LARGEST:
-        yield from expected(make(rng))
-    yield from expected(unmeant(chances.long_runs(rng, 40)))
-    for make, times in [(make, 30) for make in chances.SMALL] + [(make, 20) for make in chances.WIDE]:
-        if make is chances.side_by_side:
-            make, times = (lambda rng: chances.side_by_side(rng, longest=12)), 8
-        for _ in range(times):
-            yield from expected(unmeant(make(rng)))
+    for make in causes.CAUSES:
+        yield from expected(few_with_chart(make(rng)))
+    for make, kept in ((causes.largest_charts, 2), (causes.largest_mends, 1), (causes.largest_derivings, 9), (causes.largest_derived_book, 1),
+                       (lambda rng: causes.larger_derived_book(rng, 96), 1), (causes.many_rules, 4), (causes.largest_smaller, 9)):
+        yield from expected(itertools.islice(few_with_chart(make(rng)), kept))
+    for make in chances.SMALL:
+        for _ in range(30):
+            yield from expected(short(unmeant(make(rng))))
+    for _ in range(8):
+        yield from expected(short(unmeant(chances.side_by_side(rng, longest=12))))
+        yield from expected(short(unmeant(chances.smallers(rng))))
+    for make in (chances.steps, chances.derivings, chances.damaged_flats, chances.records, chances.smallers):
+        yield from expected(few_with_chart(unmeant(make(rng))))
 
 
 def all_codes(pairs):
@@ -126,14 +145,24 @@ def agrees(program, batch, end, end_lines, before=0):
     return True
 
 
+def next_batch(requests):
+    batch, length = [], 0
+    for body, line in itertools.islice(requests, BATCH):
+        batch.append((body, line))
+        length += len(body)
+        if length > BATCH_BYTES:
+            break
+    return batch
+
+
 def compare(count, seed, program):
-    first = expected(unmeant([read_request(PAPER_CHART)]))
+    first = list(expected(unmeant([read_request(PAPER_CHART)])))
     if not all(agrees(program, first, *ending) for ending in ENDINGS):
         return 1
-    requests = stream(seed)
+    requests = itertools.islice(stream(seed), count)
     agreed, codes = 0, Counter()
     while agreed < count:
-        batch = list(itertools.islice(requests, min(BATCH, count - agreed)))
+        batch = next_batch(requests)
         if not agrees(program, batch, *ENDINGS[0], agreed):
             return 1
         agreed += len(batch)

@@ -1,8 +1,6 @@
-// The Adler-32 sum of a room's first bytes, or of its first 16-bit numbers as two bytes each, or of a table of marks.
+// The Adler-32 sum of a room's first bytes, or of its first 32-bit numbers as four bytes each, or of a table of marks, two bytes each.
 ghost use Prim.Native.Nat.{_≤_, _<_};
 ghost use lib.ListN.{length};
-use crate::rooms::MAX_BYTES;
-use crate::rooms::MAX_NUMBERS;
 use paper::MAX_MARKS;
 
 const BASE: u32 = 65521;
@@ -13,7 +11,7 @@ struct Sums {
     high: u32,
 }
 
-fn wide(b: u8) -> u32
+fn widened(b: u8) -> u32
     ensures { λ r. ⌜ r < 256 ⌝ }
 {
     b as u32
@@ -23,18 +21,25 @@ fn with_byte(s: Sums, b: u8) -> Sums
     requires { ⌜ (s .low < 65521) × (s .high < 65521) ⌝ }
     ensures { λ r. ⌜ (r .low < 65521) × (r .high < 65521) ⌝ }
 {
-    let low = (s.low + wide(b)) % BASE;
+    let low = (s.low + widened(b)) % BASE;
     Sums {
         low,
         high: (s.high + low) % BASE,
     }
 }
 
-fn with_number(s: Sums, n: u16) -> Sums
+fn with_half(s: Sums, n: u16) -> Sums
     requires { ⌜ (s .low < 65521) × (s .high < 65521) ⌝ }
     ensures { λ r. ⌜ (r .low < 65521) × (r .high < 65521) ⌝ }
 {
     with_byte(with_byte(s, (n % 256) as u8), (n / 256) as u8)
+}
+
+fn with_number(s: Sums, n: u32) -> Sums
+    requires { ⌜ (s .low < 65521) × (s .high < 65521) ⌝ }
+    ensures { λ r. ⌜ (r .low < 65521) × (r .high < 65521) ⌝ }
+{
+    with_half(with_half(s, (n % 65536) as u16), (n / 65536) as u16)
 }
 
 fn value(s: Sums) -> u64
@@ -43,8 +48,8 @@ fn value(s: Sums) -> u64
     (s.high * 65536 + s.low) as u64
 }
 
-pub fn of_bytes(bytes: &[u8; MAX_BYTES], n: usize) -> u64
-    requires { ⌜ n ≤ 200000 ⌝ }
+pub fn of_bytes(bytes: &[u8], n: usize) -> u64
+    requires { ⌜ n ≤ length (now bytes) ⌝ }
 {
     let mut s = Sums { low: 1, high: 0 };
     let mut i = 0;
@@ -55,7 +60,7 @@ pub fn of_bytes(bytes: &[u8; MAX_BYTES], n: usize) -> u64
     value(s)
 }
 
-fn of_first(numbers: &[u16], n: usize) -> u64
+pub fn of_numbers(numbers: &[u32], n: usize) -> u64
     requires { ⌜ n ≤ length (now numbers) ⌝ }
 {
     let mut s = Sums { low: 1, high: 0 };
@@ -67,12 +72,12 @@ fn of_first(numbers: &[u16], n: usize) -> u64
     value(s)
 }
 
-pub fn of_numbers(numbers: &[u16; MAX_NUMBERS], n: usize) -> u64
-    requires { ⌜ n ≤ 10000 ⌝ }
-{
-    of_first(numbers, n)
-}
-
 pub fn of_table(table: &[u16; MAX_MARKS]) -> u64 {
-    of_first(table, MAX_MARKS)
+    let mut s = Sums { low: 1, high: 0 };
+    let mut m = 0;
+    while m < MAX_MARKS {
+        s = with_half(s, table[m]);
+        m += 1;
+    }
+    value(s)
 }

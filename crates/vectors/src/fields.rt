@@ -1,24 +1,27 @@
-// Decoding the fields of a request: flat charts, markings, snapshots, orders, lists.
+// Decoding the fields of a request: flat charts, markings, snapshots, numbers.
 ghost use Prim.Native.Nat.{_+_, _*_, _≤_};
 ghost use lib.ListN.{length};
-use crate::rooms::MAX_NUMBERS;
+ghost use Rattle.paper.specs.Limits.{maxEvents};
+ghost use Rattle.vectors.specs.Sizes.{setBytes, tableBytes, flatBytes, markingBytes, snapshotBytes};
 use book::Snapshot;
 use flat_chart::FlatChart;
 use graph::Marking;
 use paper::MAX_EVENTS;
 use paper::MAX_MARKS;
+use wide::SET_WORDS;
+use wide::Set;
+use wide::TABLE;
 
-// Bytes of a flat chart, of a marking and of a snapshot.
-pub const FLAT: usize = 2628;
+// Bytes of a set, of a table, of a flat chart, of a marking and of a snapshot.
+const SET: usize = 8 * SET_WORDS;
 
-pub const MARKING: usize = 24;
+const SETS: usize = 8 * TABLE;
 
-pub const SNAPSHOT: usize = 32;
+pub const FLAT: usize = 4 + 5 * SETS + MAX_EVENTS;
 
-const TABLE: usize = 512;
+pub const MARKING: usize = 3 * SET;
 
-// Where the role bytes stand in a flat chart: behind the count and the five tables.
-const ROLES: usize = 4 + 5 * TABLE;
+pub const SNAPSHOT: usize = MAX_MARKS / 8;
 
 fn paired(low: u32, high: u32) -> u64 {
     low as u64 | (high as u64) << 32
@@ -30,20 +33,31 @@ fn u64_at(body: &[u8], at: usize) -> u64
     paired(wire::u32_at(body, at), wire::u32_at(body, at + 4))
 }
 
-fn table_at(body: &[u8], at: usize) -> [u64; MAX_EVENTS]
-    requires { ⌜ at + 512 ≤ length (now body) ⌝ }
+fn set_at(body: &[u8], at: usize) -> Set
+    requires { ⌜ at + setBytes ≤ length (now body) ⌝ }
 {
-    let mut table = [0u64; MAX_EVENTS];
-    let mut e = 0;
-    while e < MAX_EVENTS {
-        table[e] = u64_at(body, at + 8 * e);
-        e += 1;
+    Set {
+        w0: u64_at(body, at),
+        w1: u64_at(body, at + 8),
+        w2: u64_at(body, at + 16),
+        w3: u64_at(body, at + 24),
+    }
+}
+
+fn table_at(body: &[u8], at: usize) -> [u64; TABLE]
+    requires { ⌜ at + tableBytes ≤ length (now body) ⌝ }
+{
+    let mut table = [0u64; TABLE];
+    let mut i = 0;
+    while i < TABLE {
+        table[i] = u64_at(body, at + 8 * i);
+        i += 1;
     }
     table
 }
 
 fn roles_at(body: &[u8], at: usize) -> [u8; MAX_EVENTS]
-    requires { ⌜ at + 64 ≤ length (now body) ⌝ }
+    requires { ⌜ at + maxEvents ≤ length (now body) ⌝ }
 {
     let mut roles = [0u8; MAX_EVENTS];
     let mut e = 0;
@@ -54,69 +68,55 @@ fn roles_at(body: &[u8], at: usize) -> [u8; MAX_EVENTS]
     roles
 }
 
+// The count, the five tables and the role bytes.
 pub fn chart_at(body: &[u8], at: usize) -> FlatChart
-    requires { ⌜ at + 2628 ≤ length (now body) ⌝ }
+    requires { ⌜ at + flatBytes ≤ length (now body) ⌝ }
 {
     FlatChart {
         count: wire::u32_at(body, at),
         conditions: table_at(body, at + 4),
-        responses: table_at(body, at + 4 + TABLE),
-        milestones: table_at(body, at + 4 + 2 * TABLE),
-        includes: table_at(body, at + 4 + 3 * TABLE),
-        excludes: table_at(body, at + 4 + 4 * TABLE),
-        roles: roles_at(body, at + ROLES),
+        responses: table_at(body, at + 4 + SETS),
+        milestones: table_at(body, at + 4 + 2 * SETS),
+        includes: table_at(body, at + 4 + 3 * SETS),
+        excludes: table_at(body, at + 4 + 4 * SETS),
+        roles: roles_at(body, at + 4 + 5 * SETS),
     }
 }
 
 pub fn marking_at(body: &[u8], at: usize) -> Marking
-    requires { ⌜ at + 24 ≤ length (now body) ⌝ }
+    requires { ⌜ at + markingBytes ≤ length (now body) ⌝ }
 {
     Marking {
-        executed: u64_at(body, at),
-        pending: u64_at(body, at + 8),
-        included: u64_at(body, at + 16),
+        executed: set_at(body, at),
+        pending: set_at(body, at + SET),
+        included: set_at(body, at + 2 * SET),
     }
 }
 
-pub fn wide(b: u8) -> u64 {
+pub fn widened(b: u8) -> u64 {
     b as u64
 }
 
 // Mark m is bit m % 8 of byte m / 8.
 pub fn snapshot_at(body: &[u8], at: usize) -> Snapshot
-    requires { ⌜ at + 32 ≤ length (now body) ⌝ }
+    requires { ⌜ at + snapshotBytes ≤ length (now body) ⌝ }
 {
     let mut marks = [false; MAX_MARKS];
     let mut m = 0;
     while m < MAX_MARKS {
-        marks[m] = sets::member(wide(body[at + m / 8]), m % 8);
+        marks[m] = sets::member(widened(body[at + m / 8]), m % 8);
         m += 1;
     }
     Snapshot { marks }
 }
 
-// The n numbers of an order, at the start of the array.
-pub fn order_at(body: &[u8], at: usize, n: usize) -> [u16; MAX_NUMBERS]
-    requires { ⌜ (n ≤ 10000) × (at + 2 * n ≤ length (now body)) ⌝ }
+// The n numbers of an order, a list or a record, put at the start of the room.
+pub fn numbers_at(body: &[u8], at: usize, n: usize, room: &mut [u32])
+    requires { ⌜ (n ≤ length (now room)) × (at + 4 * n ≤ length (now body)) ⌝ }
 {
-    let mut order = [0u16; MAX_NUMBERS];
     let mut i = 0;
     while i < n {
-        order[i] = wire::u16_at(body, at + 2 * i);
+        room[i] = wire::u32_at(body, at + 4 * i);
         i += 1;
     }
-    order
-}
-
-// The n stages of a list, at the start of the array.
-pub fn stages_at(body: &[u8], at: usize, n: usize) -> [u32; MAX_NUMBERS]
-    requires { ⌜ (n ≤ 10000) × (at + 4 * n ≤ length (now body)) ⌝ }
-{
-    let mut stages = [0u32; MAX_NUMBERS];
-    let mut i = 0;
-    while i < n {
-        stages[i] = wire::u32_at(body, at + 4 * i);
-        i += 1;
-    }
-    stages
 }

@@ -2,87 +2,71 @@
 mod adler;
 mod calls;
 mod fields;
-mod mends;
+mod indexes;
+mod input;
 mod replays;
 mod rooms;
+mod serve;
 mod show;
+mod spaces;
 
-ghost use Prim.Native.Nat.{_≤_};
-ghost use lib.ListN.{length as List·length};
-use libc::STDIN_FILENO;
+use input::BAD;
+use input::ENDED;
+use input::START;
 use show::LINE;
+use spaces::SMALL_LIST;
+use spaces::SMALL_NUMBERS;
+use spaces::SMALL_ROOM;
 
-// The longest body of a request.
-const MAX_BODY: usize = 262144;
-
-// The line for one request; answers how much of `line` it takes.
-fn serve(body: &[u8], line: &mut [u8; LINE]) -> usize {
-    if body.len() < 1 {
-        return show::bad_request(line);
+// Takes up to 2 to the `level` requests and prints their lines; answers whether to go on. That it calls itself keeps the compiler from laying the arrays of all
+// operations into one frame, which would not fit on the stack.
+fn take_requests(
+    level: u32,
+    start: &mut [u8; START],
+    room: &mut [u8; SMALL_ROOM],
+    list: &mut [u8; SMALL_LIST],
+    numbers: &mut [u32; SMALL_NUMBERS],
+    line: &mut [u8; LINE],
+) -> bool {
+    if level > 0 {
+        return take_requests(level - 1, start, room, list, numbers, line)
+            && take_requests(level - 1, start, room, list, numbers, line);
     }
-    match body[0] {
-        1 => calls::read(body, line),
-        2 => calls::execute(body, line),
-        3 => calls::count_open(body, line),
-        4 => calls::finished(body, line),
-        5 => calls::matching(body, line),
-        6 => calls::derive(body, line),
-        7 => calls::check(body, line),
-        8 => calls::complete(body, line),
-        9 => calls::index(body, line),
-        10 => calls::indexed(body, line),
-        11 => calls::complete_list(body, line),
-        12 => replays::replay(body, line),
-        13 => replays::strike(body, line),
-        14 => calls::open_test(body, line),
-        15 => calls::back(body, line),
-        16 => calls::derive_smaller(body, line),
-        17 => mends::mend(body, line),
-        18 => calls::list(body, line),
-        _ => show::bad_request(line),
-    }
-}
-
-// Reads a body of this length; answers whether it was whole.
-fn read_body(body: &mut [u8], length: usize) -> bool
-    requires { ⌜ length ≤ List·length (now body) ⌝ }
-{
-    io::read_full(STDIN_FILENO, &mut body[..length]) == length
-}
-
-// Prints the line of a request, which is the first bytes of the buffer; answers whether that went well.
-fn print_line(body: &[u8], length: usize, line: &mut [u8; LINE]) -> bool
-    requires { ⌜ length ≤ List·length (now body) ⌝ }
-{
-    let at = serve(&body[..length], line);
-    show::end_line(line, at)
-}
-
-// Takes one request and prints its line; answers whether to go on.
-fn take_request(body: &mut [u8; MAX_BODY], line: &mut [u8; LINE]) -> bool {
-    let mut head = [0u8; 4];
-    if io::read_full(STDIN_FILENO, &mut head) < 4 {
+    let head = input::next(start);
+    if head.next == ENDED {
         return false;
     }
-    let length = wire::u32_at(&head, 0) as usize;
-    if length < 1 {
+    if head.next == BAD {
         return show::last_line(line);
     }
-    if MAX_BODY < length {
-        return show::last_line(line);
+    let operation = head.operation;
+    let length = head.length;
+    match spaces::asked(operation, length, start) {
+        1 => spaces::charts(operation, length, start, line),
+        7 => spaces::orders(operation, length, start, line),
+        9 => spaces::books(operation, length, start, line),
+        10 => spaces::indexed(operation, length, start, numbers, line),
+        11 => spaces::listed(length, start, line),
+        12 => spaces::records(operation, length, start, line),
+        17 => spaces::mends(length, start, line),
+        18 => spaces::listing(length, start, line),
+        _ => serve::at_once(operation, length, start, room, list, numbers, line),
     }
-    if !read_body(body, length) {
-        return show::last_line(line);
-    }
-    print_line(body, length, line)
 }
 
-// Nothing says that the input ends, so the turns are counted down, from a number that no run uses up.
+// Nothing says that the input ends, so the requests are counted, to a number that no run comes to.
 fn main() {
-    let mut body = [0u8; MAX_BODY];
+    let mut start = [0u8; START];
+    let mut room = [0u8; SMALL_ROOM];
+    let mut list = [0u8; SMALL_LIST];
+    let mut numbers = [0u32; SMALL_NUMBERS];
     let mut line = [0u8; LINE];
-    let mut turns = u64::MAX;
-    while turns > 0 && take_request(&mut body, &mut line) {
-        turns -= 1;
-    }
+    take_requests(
+        64,
+        &mut start,
+        &mut room,
+        &mut list,
+        &mut numbers,
+        &mut line,
+    );
 }

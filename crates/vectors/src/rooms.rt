@@ -1,101 +1,77 @@
-// Rooms that the calls write into: the first part of a larger array, so long as a request says.
+// Rooms that the calls write into or read from: the first part of a longer one, so long as a request says. What is written into is filled first.
 ghost use Prim.Native.Nat.{_≤_};
 ghost use lib.ListN.{length};
 use book::Snapshot;
 use flat_chart::FlatChart;
 use graph::Marking;
 use indexed_list::ListCompletion;
+use mend::Mended;
 use paper::Answer;
+use replay::Replayed;
+use replay::Struck;
 use runner::Completion;
 use smaller_deriver::Smaller;
 
-// The longest room for a book or an index, in bytes, and for an order or a list, in numbers.
-pub const MAX_BYTES: usize = 200000;
+// What room is filled with before a call: the byte 165, and four of them.
+const FILL: u8 = 165;
 
-pub const MAX_NUMBERS: usize = 10000;
+const FILL_NUMBER: u32 = 2779096485;
 
-// What room is filled with before a call: the byte 165, and two of them.
-pub const FILL: u8 = 165;
-
-pub const FILL_NUMBER: u16 = 42405;
-
-fn derive_part(chart: FlatChart, room: &mut [u8], n: usize) -> Answer
+fn fill(room: &mut [u8], n: usize)
     requires { ⌜ n ≤ length (now room) ⌝ }
 {
+    let mut i = 0;
+    while i < n {
+        room[i] = FILL;
+        i += 1;
+    }
+}
+
+fn fill_numbers(room: &mut [u32], n: usize)
+    requires { ⌜ n ≤ length (now room) ⌝ }
+{
+    let mut i = 0;
+    while i < n {
+        room[i] = FILL_NUMBER;
+        i += 1;
+    }
+}
+
+pub fn derive(chart: FlatChart, room: &mut [u8], n: usize) -> Answer
+    requires { ⌜ n ≤ length (now room) ⌝ }
+{
+    fill(room, n);
     deriver::derive(chart, &mut room[..n])
 }
 
-// Derives into the first n bytes.
-pub fn derive(chart: FlatChart, room: &mut [u8; MAX_BYTES], n: usize) -> Answer
-    requires { ⌜ n ≤ 200000 ⌝ }
-{
-    derive_part(chart, room, n)
-}
-
-fn smaller_part(chart: FlatChart, start: Marking, room: &mut [u8], n: usize) -> Smaller
+pub fn derive_smaller(chart: FlatChart, start: Marking, room: &mut [u8], n: usize) -> Smaller
     requires { ⌜ n ≤ length (now room) ⌝ }
 {
+    fill(room, n);
     smaller_deriver::derive_smaller(chart, start, &mut room[..n])
 }
 
-// Derives the smaller book into the first n bytes.
-pub fn derive_smaller(
-    chart: FlatChart,
-    start: Marking,
-    room: &mut [u8; MAX_BYTES],
-    n: usize,
-) -> Smaller
-    requires { ⌜ n ≤ 200000 ⌝ }
-{
-    smaller_part(chart, start, room, n)
-}
-
-fn check_part(book: &[u8], stage: u32, room: &mut [u16], n: usize) -> Answer
+pub fn check(book: &[u8], stage: u32, room: &mut [u32], n: usize) -> Answer
     requires { ⌜ n ≤ length (now room) ⌝ }
 {
+    fill_numbers(room, n);
     judge::check(book, stage, &mut room[..n])
 }
 
-// Checks for a stage, into the first n numbers.
-pub fn check(book: &[u8], stage: u32, room: &mut [u16; MAX_NUMBERS], n: usize) -> Answer
-    requires { ⌜ n ≤ 10000 ⌝ }
-{
-    check_part(book, stage, room, n)
-}
-
-fn index_part(book: &[u8], room: &mut [u8], n: usize) -> Answer
-    requires { ⌜ n ≤ length (now room) ⌝ }
-{
-    index_builder::build(book, &mut room[..n])
-}
-
-// Builds the index into the first n bytes.
-pub fn index(book: &[u8], room: &mut [u8; MAX_BYTES], n: usize) -> Answer
-    requires { ⌜ n ≤ 200000 ⌝ }
-{
-    index_part(book, room, n)
-}
-
-fn complete_part(book: &[u8], order: &[u16], n: usize, snapshot: Snapshot, stage: u32) -> Completion
+pub fn complete(book: &[u8], order: &[u32], n: usize, snapshot: Snapshot, stage: u32) -> Completion
     requires { ⌜ n ≤ length (now order) ⌝ }
 {
     runner::complete(book, &order[..n], snapshot, stage)
 }
 
-// Completes a stage along the first n numbers.
-pub fn complete(
-    book: &[u8],
-    order: &[u16; MAX_NUMBERS],
-    n: usize,
-    snapshot: Snapshot,
-    stage: u32,
-) -> Completion
-    requires { ⌜ n ≤ 10000 ⌝ }
+pub fn index(book: &[u8], room: &mut [u8], n: usize) -> Answer
+    requires { ⌜ n ≤ length (now room) ⌝ }
 {
-    complete_part(book, order, n, snapshot, stage)
+    fill(room, n);
+    index_builder::build(book, &mut room[..n])
 }
 
-fn list_part(
+pub fn complete_list(
     book: &[u8],
     index: &[u8],
     snapshot: Snapshot,
@@ -107,15 +83,28 @@ fn list_part(
     indexed_list::complete_list(book, index, snapshot, &stages[..n])
 }
 
-// Completes the first n stages one after another.
-pub fn complete_list(
-    book: &[u8],
-    index: &[u8],
-    snapshot: Snapshot,
-    stages: &[u32; MAX_NUMBERS],
-    n: usize,
-) -> ListCompletion
-    requires { ⌜ n ≤ 10000 ⌝ }
+pub fn replay(chart: FlatChart, marking: Marking, recorded: &[u32], n: usize) -> Replayed
+    requires { ⌜ n ≤ length (now recorded) ⌝ }
 {
-    list_part(book, index, snapshot, stages, n)
+    replay::replay(chart, marking, &recorded[..n])
+}
+
+pub fn strike(
+    chart: FlatChart,
+    marking: Marking,
+    recorded: &[u32],
+    n: usize,
+    position: u32,
+) -> Struck
+    requires { ⌜ n ≤ length (now recorded) ⌝ }
+{
+    replay::strike(chart, marking, &recorded[..n], position)
+}
+
+pub fn mend(image: &[u8], chart: &mut [u8], n: usize, list: &mut [u8], m: usize) -> Mended
+    requires { ⌜ (n ≤ length (now chart)) × (m ≤ length (now list)) ⌝ }
+{
+    fill(chart, n);
+    fill(list, m);
+    mend::mend(image, &mut chart[..n], &mut list[..m])
 }

@@ -1,6 +1,7 @@
 // Printing: a line is put together in a buffer, number by number, and written at its end.
-ghost use Prim.Native.Nat.{_+_, _≤_};
+ghost use Prim.Native.Nat.{_+_, _≤_, _<_};
 ghost use lib.ListN.{length};
+ghost use Rattle.paper.specs.Limits.{maxEvents, maxMarks};
 use crate::fields;
 use book::Snapshot;
 use flat_chart::FlatChart;
@@ -9,8 +10,10 @@ use libc::STDOUT_FILENO;
 use paper::Answer;
 use paper::MAX_EVENTS;
 use paper::MAX_MARKS;
+use wide::Set;
+use wide::TABLE;
 
-// Room for the longest line, a chart of 64 events; a longer one would be written in parts.
+// Room for most lines; a longer one, as that of a chart, is written in parts.
 pub const LINE: usize = 8192;
 
 fn put(line: &mut [u8; LINE], at: usize, b: u8) -> usize
@@ -57,16 +60,44 @@ pub fn yes_or_no(line: &mut [u8; LINE], at: usize, yes: bool) -> usize {
     text(line, at, b" no")
 }
 
+// Lowest members first.
+fn set(line: &mut [u8; LINE], at: usize, s: Set) -> usize {
+    let at = number(line, at, s.w0);
+    let at = number(line, at, s.w1);
+    let at = number(line, at, s.w2);
+    number(line, at, s.w3)
+}
+
 pub fn marking(line: &mut [u8; LINE], at: usize, m: Marking) -> usize {
-    let at = number(line, at, m.executed);
-    let at = number(line, at, m.pending);
-    number(line, at, m.included)
+    let at = set(line, at, m.executed);
+    let at = set(line, at, m.pending);
+    set(line, at, m.included)
 }
 
 // All that blocks an event.
-pub fn blocking(line: &mut [u8; LINE], at: usize, conditions: u64, milestones: u64) -> usize {
-    let at = number(line, at, conditions);
-    number(line, at, milestones)
+pub fn blocking(line: &mut [u8; LINE], at: usize, conditions: Set, milestones: Set) -> usize {
+    let at = set(line, at, conditions);
+    set(line, at, milestones)
+}
+
+// The five sets of an event.
+fn event<'a>(
+    line: &mut [u8; LINE],
+    at: usize,
+    e: usize,
+    conditions: &'a [u64; TABLE],
+    responses: &'a [u64; TABLE],
+    milestones: &'a [u64; TABLE],
+    includes: &'a [u64; TABLE],
+    excludes: &'a [u64; TABLE],
+) -> usize
+    requires { ⌜ e < maxEvents ⌝ }
+{
+    let at = set(line, at, wide::row(conditions, e));
+    let at = set(line, at, wide::row(responses, e));
+    let at = set(line, at, wide::row(milestones, e));
+    let at = set(line, at, wide::row(includes, e));
+    set(line, at, wide::row(excludes, e))
 }
 
 // The five sets of each event, and its role byte where roles are asked for.
@@ -75,13 +106,18 @@ pub fn chart(line: &mut [u8; LINE], start: usize, c: FlatChart, roles: bool) -> 
     let mut at = start;
     let mut e = 0;
     while e < MAX_EVENTS && e < n {
-        at = number(line, at, c.conditions[e]);
-        at = number(line, at, c.responses[e]);
-        at = number(line, at, c.milestones[e]);
-        at = number(line, at, c.includes[e]);
-        at = number(line, at, c.excludes[e]);
+        at = event(
+            line,
+            at,
+            e,
+            &c.conditions,
+            &c.responses,
+            &c.milestones,
+            &c.includes,
+            &c.excludes,
+        );
         if roles {
-            at = number(line, at, fields::wide(c.roles[e]));
+            at = number(line, at, fields::widened(c.roles[e]));
         }
         e += 1;
     }
@@ -90,22 +126,25 @@ pub fn chart(line: &mut [u8; LINE], start: usize, c: FlatChart, roles: bool) -> 
 
 // 64 marks as a number.
 fn word(marks: &[bool; MAX_MARKS], from: usize) -> u64
-    requires { ⌜ from + 64 ≤ 256 ⌝ }
+    requires { ⌜ from + 64 ≤ maxMarks ⌝ }
 {
-    let mut set: u64 = 0;
+    let mut word: u64 = 0;
     let mut i = 0;
     while i < 64 {
-        set = sets::put_if(set, i, marks[from + i]);
+        word = sets::put_if(word, i, marks[from + i]);
         i += 1;
     }
-    set
+    word
 }
 
-pub fn snapshot(line: &mut [u8; LINE], at: usize, s: Snapshot) -> usize {
-    let at = number(line, at, word(&s.marks, 0));
-    let at = number(line, at, word(&s.marks, 64));
-    let at = number(line, at, word(&s.marks, 128));
-    number(line, at, word(&s.marks, 192))
+pub fn snapshot(line: &mut [u8; LINE], start: usize, s: Snapshot) -> usize {
+    let mut at = start;
+    let mut i = 0;
+    while i < MAX_MARKS / 64 {
+        at = number(line, at, word(&s.marks, 64 * i));
+        i += 1;
+    }
+    at
 }
 
 pub fn bad_request(line: &mut [u8; LINE]) -> usize {

@@ -7,10 +7,10 @@ use Rattle.vectors.proofs.fields.table_at.Statement.{statement}
 use Rattle.vectors.proofs.fields.table_at.Tie as tie
 
 abbrev Inv-loop : tie.InvT-loop
-Inv-loop body at table₀ e₀ table e = (e ≤ 64) × (length table ≡ 64)
+Inv-loop body at table₀ i₀ table i = (i ≤ 1024) × (length table ≡ 1024)
 
 abbrev μ-loop : tie.MeasureT-loop
-μ-loop body at table₀ e₀ table e = 64 - e
+μ-loop body at table₀ i₀ table i = 1024 - i
 
 pub table-at-spec : {M : Type 1} → statement M
 table-at-spec =

@@ -1,0 +1,18 @@
+-- `vectors::serve::print` meets its contract. Assumes nothing.
+use borrow.Author.Needs.{needs}
+use lib.ListN.{length-take}
+use native.Mathlib.Omega.{arith}
+use Rattle.vectors.proofs.serve.print.Statement.{statement}
+use Rattle.vectors.proofs.serve.print.Tie as tie
+
+pub print-spec : {M : Type 1} → statement M
+print-spec =
+    tie.close
+    (tie.spec
+    (λ c. simp length-take (omega arith))
+    (λ c κs. search needs)
+    (λ c κs. search needs)
+    (λ c. search needs)
+    (λ c. search needs)
+    (λ c. search needs)
+    (λ c. search needs))
