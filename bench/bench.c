@@ -9,13 +9,14 @@
 #include <string.h>
 #include <time.h>
 
-enum { ROUNDS = 9, LIST = 256 };
-static const double ROUND_SECONDS = 0.004;
+// A side is timed in rounds until it has taken its seconds; one that takes longer than LONGEST is not tried at twice the size.
+enum { ROUNDS = 9, LIST = 32, LARGEST = OZHIMKA_MAX_EVENTS };
+static const double ROUND_SECONDS = 0.004, SIDE_SECONDS = 0.4, LONGEST = 20;
 
 // ---- what both sides are called on
 
 static uint8_t image[CHART_BYTES], book[BOOK_BYTES], index_image[INDEX_BYTES], room[INDEX_BYTES];
-static uint16_t order[ORDER_NUMBERS], numbers[ORDER_NUMBERS];
+static uint32_t order[ORDER_NUMBERS], numbers[ORDER_NUMBERS];
 static size_t image_length, book_length, index_length, ordered; // how many rules the order has: those that count for the stage
 static struct flat_chart chart;
 static struct marking marking;
@@ -47,17 +48,12 @@ _Static_assert(sizeof own_chart == sizeof chart && sizeof own_marking == sizeof 
                    && sizeof(struct ozhimka_replayed) == sizeof(struct replayed) && sizeof(struct ozhimka_struck) == sizeof(struct step),
                "both sides pass as many bytes");
 
+// The structs of both sides have the same fields in the same places.
 static void share(void)
 {
-    own_chart.count = chart.count;
-    memcpy(own_chart.conditions, chart.conditions, sizeof chart.conditions);
-    memcpy(own_chart.responses, chart.responses, sizeof chart.responses);
-    memcpy(own_chart.milestones, chart.milestones, sizeof chart.milestones);
-    memcpy(own_chart.includes, chart.includes, sizeof chart.includes);
-    memcpy(own_chart.excludes, chart.excludes, sizeof chart.excludes);
-    memcpy(own_chart.roles, chart.roles, sizeof chart.roles);
-    own_marking = (struct ozhimka_marking){.executed = marking.executed, .pending = marking.pending, .included = marking.included};
-    memcpy(own_snapshot.marks, snapshot.marks, sizeof snapshot.marks);
+    memcpy(&own_chart, &chart, sizeof chart);
+    memcpy(&own_marking, &marking, sizeof marking);
+    memcpy(&own_snapshot, &snapshot, sizeof snapshot);
 }
 
 // ---- one call, on either side; the result goes where a test can see it
@@ -191,9 +187,14 @@ static bool same_answer(void)
     return plain->code == own->code && plain->place == own->place && plain->other == own->other;
 }
 
+static bool same_set(const struct set *plain, const struct ozhimka_set *own)
+{
+    return memcmp(plain->word, own->words, sizeof own->words) == 0;
+}
+
 static bool same_marking(const struct marking *plain, const struct ozhimka_marking *own)
 {
-    return plain->executed == own->executed && plain->pending == own->pending && plain->included == own->included;
+    return same_set(&plain->executed, &own->executed) && same_set(&plain->pending, &own->pending) && same_set(&plain->included, &own->included);
 }
 
 static bool same_chart(const struct flat_chart *plain, const struct ozhimka_chart *own)
@@ -218,12 +219,14 @@ static bool same_step(void)
 {
     const struct step *plain = &plain_out.step;
     const struct ozhimka_step *own = &own_out.step;
-    return same_marking(&plain->marking, &own->marking) && plain->conditions == own->conditions && plain->milestones == own->milestones;
+    return same_marking(&plain->marking, &own->marking) && same_set(&plain->conditions, &own->conditions)
+           && same_set(&plain->milestones, &own->milestones);
 }
 
 static bool same_open_test(void)
 {
-    return plain_out.open_test.conditions == own_out.open_test.conditions && plain_out.open_test.milestones == own_out.open_test.milestones;
+    return same_set(&plain_out.open_test.conditions, &own_out.open_test.conditions)
+           && same_set(&plain_out.open_test.milestones, &own_out.open_test.milestones);
 }
 
 static bool same_open_count(void)
@@ -255,14 +258,16 @@ static bool same_replay(void)
     const struct replayed *plain = &plain_out.replayed;
     const struct ozhimka_replayed *own = &own_out.replayed;
     return plain->code == own->code && plain->steps == own->steps && plain->finished == own->finished
-           && same_marking(&plain->marking, &own->marking) && plain->conditions == own->conditions && plain->milestones == own->milestones;
+           && same_marking(&plain->marking, &own->marking) && same_set(&plain->conditions, &own->conditions)
+           && same_set(&plain->milestones, &own->milestones);
 }
 
 static bool same_strike(void)
 {
     const struct step *plain = &plain_out.step;
     const struct ozhimka_struck *own = &own_out.struck;
-    return same_marking(&plain->marking, &own->marking) && plain->conditions == own->conditions && plain->milestones == own->milestones;
+    return same_marking(&plain->marking, &own->marking) && same_set(&plain->conditions, &own->conditions)
+           && same_set(&plain->milestones, &own->milestones);
 }
 
 static bool same_smaller(void) { return memcmp(plain_out.smaller.table, own_out.smaller.table, sizeof own_out.smaller.table) == 0; }
@@ -293,7 +298,7 @@ static const struct call calls[] = {
 enum { CALLS = sizeof calls / sizeof calls[0], CHECK = 9, LAST = CALLS - 1 };
 
 static const struct call list_call = {"complete_list", plain_11, lean_11, own_11, same_list},
-                         list_in_turn = {"complete_indexed, 256 calls", plain_12, lean_12, own_12, same_list};
+                         list_in_turn = {"complete_indexed, 32 calls", plain_12, lean_12, own_12, same_list};
 
 static const struct call mend_call = {"mend", plain_17, NULL, own_17, same_mended};
 
@@ -322,59 +327,79 @@ static double run(void (*side)(void), long times)
     return (seconds() - start) / (double)times;
 }
 
-// How often one round makes the call.
-static long enough(void (*side)(void))
-{
-    long times = 1;
-    while (run(side, times) * (double)times < ROUND_SECONDS)
-        times *= 2;
-    return times;
-}
-
 struct times {
     double plain, lean, own;
 };
 
-static double best_of(double before, void (*side)(void), long times)
+// One side of a call: its best time, how often a round makes the call, and what was spent on it.
+struct side {
+    void (*call)(void);
+    double best, spent;
+    long times;
+};
+
+static void go(struct side *side)
 {
-    double now = run(side, times);
-    return now < before ? now : before;
+    double now = run(side->call, side->times);
+    side->spent += now * (double)side->times;
+    side->best = side->best == 0 || now < side->best ? now : side->best;
+}
+
+// Makes a round long enough.
+static void lengthen(struct side *side)
+{
+    while (side->best * (double)side->times < ROUND_SECONDS) {
+        side->times *= 2;
+        side->best = 0;
+        go(side);
+    }
+}
+
+static void fill(size_t bytes)
+{
+    memset(room, 0xA5, bytes);
+    memset(numbers, 0xA5, sizeof numbers);
+}
+
+// Calls a side of plain C and the library once each; they have to grant, and to give and write the same. The lent room is filled before each
+// call, as far as a call on this input writes and some bytes behind it, so that what one side does not write is seen, and what lies behind what
+// it writes too.
+static void compare(const struct call *call, struct side *plain, struct side *lean, struct side *own)
+{
+    static uint8_t plain_room[sizeof room];
+    static uint32_t plain_numbers[ORDER_NUMBERS];
+    size_t bytes = index_length > BOOK_BYTES ? index_length + 4096 : BOOK_BYTES + 4096;
+    bytes = bytes < sizeof room ? bytes : sizeof room;
+    struct side *sides[3] = {plain, own, lean};
+    for (int i = 0; i < 3 && sides[i]->call; i++) {
+        fill(bytes);
+        go(sides[i]);
+        if (i == 0) {
+            memcpy(plain_room, room, bytes);
+            memcpy(plain_numbers, numbers, sizeof numbers);
+        } else if (plain_out.answer.code != 0 || !same_answer() || !call->same() || memcmp(plain_room, room, bytes) != 0
+                   || memcmp(plain_numbers, numbers, sizeof numbers) != 0) {
+            fprintf(stderr, "%s: two sides differ, or refuse (codes %u and %u)\n", call->name, (unsigned)plain_out.answer.code,
+                    (unsigned)own_out.answer.code);
+            exit(1);
+        }
+    }
 }
 
 // The best of several rounds, the sides by turns.
 static struct times measure(const struct call *call)
 {
-    long plain = enough(call->plain), lean = call->lean ? enough(call->lean) : 0, own = enough(call->own);
-    struct times best = {1e9, call->lean ? 1e9 : 0, 1e9};
-    for (int round = 0; round < ROUNDS; round++) {
-        best.plain = best_of(best.plain, call->plain, plain);
-        if (call->lean)
-            best.lean = best_of(best.lean, call->lean, lean);
-        best.own = best_of(best.own, call->own, own);
-    }
-    return best;
-}
-
-// A side of plain C and the library have to grant, and to give and write the same. The lent room is filled before each call, so that what
-// one side does not write is seen, and what lies behind what it writes too.
-static void compare(const struct call *call, void (*plain)(void))
-{
-    static uint8_t plain_room[sizeof room];
-    static uint16_t plain_numbers[ORDER_NUMBERS];
-    memset(room, 0xA5, sizeof room);
-    memset(numbers, 0xA5, sizeof numbers);
-    plain();
-    memcpy(plain_room, room, sizeof room);
-    memcpy(plain_numbers, numbers, sizeof numbers);
-    memset(room, 0xA5, sizeof room);
-    memset(numbers, 0xA5, sizeof numbers);
-    call->own();
-    if (plain_out.answer.code != 0 || !same_answer() || !call->same() || memcmp(plain_room, room, sizeof room) != 0
-        || memcmp(plain_numbers, numbers, sizeof numbers) != 0) {
-        fprintf(stderr, "%s: the two sides differ, or refuse (codes %u and %u)\n", call->name, (unsigned)plain_out.answer.code,
-                (unsigned)own_out.answer.code);
-        exit(1);
-    }
+    struct side plain = {call->plain, 0, 0, 1}, lean = {call->lean, 0, 0, 1}, own = {call->own, 0, 0, 1};
+    struct side *sides[3] = {&plain, &lean, &own};
+    compare(call, &plain, &lean, &own);
+    for (int i = 0; i < 3; i++)
+        if (sides[i]->call)
+            lengthen(sides[i]);
+    for (int round = 0; round < ROUNDS; round++)
+        for (int i = 0; i < 3; i++)
+            if (sides[i]->call && sides[i]->spent < SIDE_SECONDS)
+                go(sides[i]);
+    return (struct times){plain.best, lean.best, own.best};
 }
 
 // ---- the table
@@ -407,14 +432,20 @@ static void print_header(const char *size)
     printf("|---|---|---|---:|---:|---:|---:|---:|---|\n");
 }
 
+static bool too_long(struct times times)
+{
+    return times.plain > LONGEST || times.lean > LONGEST || times.own > LONGEST;
+}
+
 // `before` has the times at half the size, 0 where there are none.
 static struct times print_row(const struct call *call, const char *input, unsigned size, struct times before)
 {
-    compare(call, call->plain);
-    if (call->lean)
-        compare(call, call->lean);
-    struct times now = measure(call);
     printf("| %s | %s | %u |", call->name, input, size);
+    if (too_long(before)) {
+        printf(" – | – | – | – | – | not run: a side takes over %.0f s at half the size |\n", LONGEST);
+        return before;
+    }
+    struct times now = measure(call);
     print_time(now.plain);
     print_time(now.lean);
     print_time(now.own);
@@ -430,11 +461,11 @@ static struct times print_row(const struct call *call, const char *input, unsign
 // The order of the loaded book's stage, and the book's index; the calls say how much each takes where they get no room.
 static void load_order(void)
 {
-    struct answer needed = plain_check(book, book_length, event, order, 0), bytes = plain_build_index(book, book_length, index_image, 0);
+    struct answer needed = lean_check(book, book_length, event, order, 0), bytes = lean_build_index(book, book_length, index_image, 0);
     ordered = needed.place;
     index_length = bytes.place;
-    if (needed.code != 31 || plain_check(book, book_length, event, order, ORDER_NUMBERS).code != 0 || bytes.code != 35
-        || plain_build_index(book, book_length, index_image, sizeof index_image).code != 0)
+    if (needed.code != 31 || lean_check(book, book_length, event, order, ORDER_NUMBERS).code != 0 || bytes.code != 35
+        || lean_build_index(book, book_length, index_image, sizeof index_image).code != 0)
         abort();
     share();
 }
@@ -444,13 +475,15 @@ static void load_chart(size_t (*write)(uint8_t *, uint32_t), uint32_t n)
 {
     image_length = write(image, n);
     struct reading reading = plain_read_chart(image, image_length);
-    uint64_t all = n == 64 ? ~(uint64_t)0 : ((uint64_t)1 << n) - 1;
+    struct ozhimka_set all = ozhimka_set_below(n);
     chart = reading.chart;
-    marking = (struct marking){all, 0, all};
+    memset(&marking, 0, sizeof marking);
+    memcpy(&marking.executed, &all, sizeof all);
+    memcpy(&marking.included, &all, sizeof all);
     snapshot = plain_matching(&chart, marking).snapshot;
-    plain_derive(&chart, book, sizeof book);
-    size_t rules = book[8] | (size_t)book[9] << 8;
-    book_length = 32 + 10 * rules + 8 * n + 2 * (book[16] | (size_t)book[17] << 8);
+    if (reading.answer.code != 0 || plain_derive(&chart, book, sizeof book).code != 0)
+        abort();
+    book_length = ozhimka_book_length(book);
     load_order();
 }
 
@@ -483,14 +516,16 @@ static void load_record(size_t count)
         abort();
 }
 
-// Leaves the times of the largest chart in `last`.
+// Leaves the times of the largest chart in `last`. The smallest is not half of the next one, so there is no growth from it.
 static void print_charts(const char *input, size_t (*write)(uint8_t *, uint32_t), struct times last[CALLS])
 {
-    memset(last, 0, CALLS * sizeof last[0]);
-    for (uint32_t n = 8; n <= 64; n *= 2) {
-        load_chart(write, n);
+    const uint32_t sizes[] = {8, LARGEST / 4, LARGEST / 2, LARGEST};
+    for (int size = 0; size < 4; size++) {
+        load_chart(write, sizes[size]);
+        if (size < 2)
+            memset(last, 0, CALLS * sizeof last[0]);
         for (int i = 0; i < CALLS; i++)
-            last[i] = print_row(&calls[i], input, (unsigned)n, last[i]);
+            last[i] = print_row(&calls[i], input, (unsigned)sizes[size], last[i]);
     }
 }
 
@@ -515,15 +550,15 @@ static void load_list(void)
             stage = (stage + 1) % chart.count;
         while (!now.marks[stage] && ++tried < chart.count);
         stages[i] = stage;
-        now = plain_complete_indexed(book, book_length, index_image, index_length, now, stage).snapshot;
+        now = lean_complete_indexed(book, book_length, index_image, index_length, now, stage).snapshot;
     }
 }
 
-// 256 completions of a derived book of 64 events in one call, and in as many.
+// The completions of a derived book of the most events in one call, and in as many.
 static void print_lists(const char *input, size_t (*write)(uint8_t *, uint32_t))
 {
     const struct times none = {0, 0, 0};
-    load_chart(write, 64);
+    load_chart(write, LARGEST);
     load_list();
     print_row(&list_call, input, LIST, none);
     print_row(&list_in_turn, input, LIST, none);
@@ -539,10 +574,10 @@ static void print_books(const char *input, size_t (*write)(uint8_t *, uint32_t))
     }
 }
 
-static void print_records(const char *input, size_t (*write)(uint8_t *, uint32_t))
+static void print_records(const char *input, size_t (*write)(uint8_t *, uint32_t), uint32_t events)
 {
     struct times before[RECORD_CALLS] = {{0, 0, 0}};
-    load_chart(write, 64);
+    load_chart(write, events);
     for (size_t count = LONGEST_RECORD / 8; count <= LONGEST_RECORD; count *= 2) {
         load_record(count);
         for (int i = 0; i < RECORD_CALLS; i++)
@@ -564,7 +599,7 @@ int main(void)
     print_header("events");
     print_charts("all relations", full_chart, full);
     print_charts("sparse", sparse_chart, sparse);
-    printf("\n| call | input, 64 events | to the check: plain C | leaner C | ozhimka |\n|---|---|---:|---:|---:|\n");
+    printf("\n| call | input, 256 events | to the check: plain C | leaner C | ozhimka |\n|---|---|---:|---:|---:|\n");
     print_to_check("all relations", full);
     print_to_check("sparse", sparse);
     printf("\n");
@@ -577,14 +612,16 @@ int main(void)
     print_books("one mark", one_mark_book);
     print_books("one mark, one condition", one_condition_book);
     print_books("one stage", one_stage_book);
+    print_books("one stage, one chain", one_chain_book);
     print_books("every stage", staged_book);
     printf("\n");
     print_header("steps");
-    print_records("sparse, 64 events", sparse_chart);
+    print_records("sparse, 64 events", sparse_chart, LARGEST / 4);
+    print_records("sparse, 256 events", sparse_chart, LARGEST);
     printf("\n");
     print_header("changes");
-    print_mended("128 nodes on one loop", one_loop);
-    print_mended("64 loops of two nodes", loops_of_two);
-    print_mended("4,096 bad relations", bad_relations);
+    print_mended("512 nodes on one loop", one_loop);
+    print_mended("256 loops of two nodes", loops_of_two);
+    print_mended("16,384 bad relations", bad_relations);
     return 0;
 }

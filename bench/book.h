@@ -1,16 +1,16 @@
-// What both files of plain C read a book with: the paper's numbers, sets of marks, records and texts.
+// What both files of plain C read a book with: numbers, sets of events and of marks, records and texts.
 #ifndef BOOK_H
 #define BOOK_H
 
 #include "plain.h"
 
-enum { MAX_STAGES = 64, MAX_MARKS = 256, MAX_RULES = 8384, MAX_CONDITIONS = 256, MAX_WORDS = 41024, MAX_HELD = 16, MAX_LIST = 4096, NO_RULE = 65535 };
 enum { AND = 65533, OR = 65534, NOT = 65535 };
 enum { NO_TRIGGER, COMPLETED, BECOME_YES, BECOME_NO };
 enum { NO_CONDITION, AS_WRITTEN, NEGATED };
 enum { CLEAR, SET };
 
 static const struct answer granted = {0, 0, 0};
+static const uint32_t NO_RULE = UINT32_MAX;
 
 static inline struct answer refused(uint32_t code, uint32_t place, uint32_t other)
 {
@@ -39,24 +39,131 @@ static inline uint8_t *put32(uint8_t *at, uint32_t number)
     return put16(put16(at, number), number >> 16);
 }
 
-static inline uint64_t only(uint32_t e)
+static inline uint64_t bit(uint32_t e)
 {
-    return (uint64_t)1 << e;
+    return (uint64_t)1 << e % 64;
 }
 
-static inline uint32_t lowest(uint64_t set)
+static inline uint32_t lowest(uint64_t word)
 {
-    return (uint32_t)__builtin_ctzll(set);
+    return (uint32_t)__builtin_ctzll(word);
 }
 
-static inline uint32_t size(uint64_t set)
+static inline uint32_t size(uint64_t word)
 {
-    return (uint32_t)__builtin_popcountll(set);
+    return (uint32_t)__builtin_popcountll(word);
 }
+
+// ---- sets of events, or of stages
+
+static inline bool holds_event(const struct set *set, uint32_t e)
+{
+    return set->word[e / 64] >> e % 64 & 1;
+}
+
+static inline void put(struct set *set, uint32_t e)
+{
+    set->word[e / 64] |= bit(e);
+}
+
+static inline struct set unite(struct set one, struct set other)
+{
+    for (int i = 0; i < SET_WORDS; i++)
+        one.word[i] |= other.word[i];
+    return one;
+}
+
+static inline struct set common(struct set one, struct set other)
+{
+    for (int i = 0; i < SET_WORDS; i++)
+        one.word[i] &= other.word[i];
+    return one;
+}
+
+static inline struct set without(struct set one, struct set other)
+{
+    for (int i = 0; i < SET_WORDS; i++)
+        one.word[i] &= ~other.word[i];
+    return one;
+}
+
+static inline bool is_empty(struct set set)
+{
+    uint64_t any = 0;
+    for (int i = 0; i < SET_WORDS; i++)
+        any |= set.word[i];
+    return any == 0;
+}
+
+static inline uint32_t size_of(struct set set)
+{
+    uint32_t count = 0;
+    for (int i = 0; i < SET_WORDS; i++)
+        count += size(set.word[i]);
+    return count;
+}
+
+// MAX_EVENTS of an empty set.
+static inline uint32_t lowest_of(struct set set)
+{
+    for (uint32_t i = 0; i < SET_WORDS; i++)
+        if (set.word[i] != 0)
+            return 64 * i + lowest(set.word[i]);
+    return MAX_EVENTS;
+}
+
+// Takes the lowest event out of a set that is not empty.
+static inline uint32_t take_lowest(struct set *set)
+{
+    uint32_t e = lowest_of(*set);
+    set->word[e / 64] &= set->word[e / 64] - 1;
+    return e;
+}
+
+static inline struct set all_below(uint32_t count)
+{
+    struct set set;
+    for (uint32_t i = 0; i < SET_WORDS; i++)
+        set.word[i] = count >= 64 * (i + 1) ? ~(uint64_t)0 : count <= 64 * i ? 0 : bit(count) - 1;
+    return set;
+}
+
+// ---- sets of marks, or of conditions, of which there are as many
 
 struct marks {
-    uint64_t word[4];
+    uint64_t word[MARK_WORDS];
 };
+
+static inline bool has(const struct marks *set, uint32_t mark)
+{
+    return set->word[mark / 64] >> (mark % 64) & 1;
+}
+
+static inline void add(struct marks *set, uint32_t mark)
+{
+    set->word[mark / 64] |= bit(mark);
+}
+
+static inline void drop(struct marks *set, uint32_t mark)
+{
+    set->word[mark / 64] &= ~bit(mark);
+}
+
+static inline void join(struct marks *set, const struct marks *more)
+{
+    for (int i = 0; i < MARK_WORDS; i++)
+        set->word[i] |= more->word[i];
+}
+
+static inline bool meet(const struct marks *one, const struct marks *two)
+{
+    uint64_t both = 0;
+    for (int i = 0; i < MARK_WORDS; i++)
+        both |= one->word[i] & two->word[i];
+    return both != 0;
+}
+
+// ---- records and texts
 
 struct rule {
     uint8_t trigger, sense, effect, zero;
@@ -73,35 +180,6 @@ static inline struct rule rule_of(const struct book *book, uint32_t p)
 {
     const uint8_t *at = book->rules_at + 10 * p;
     return (struct rule){at[0], at[1], at[2], at[3], get16(at + 4), get16(at + 6), get16(at + 8)};
-}
-
-static inline bool has(const struct marks *set, uint32_t mark)
-{
-    return set->word[mark / 64] >> (mark % 64) & 1;
-}
-
-static inline void add(struct marks *set, uint32_t mark)
-{
-    set->word[mark / 64] |= only(mark % 64);
-}
-
-static inline void drop(struct marks *set, uint32_t mark)
-{
-    set->word[mark / 64] &= ~only(mark % 64);
-}
-
-static inline void join(struct marks *set, const struct marks *more)
-{
-    for (int i = 0; i < 4; i++)
-        set->word[i] |= more->word[i];
-}
-
-static inline bool meet(const struct marks *one, const struct marks *two)
-{
-    uint64_t common = 0;
-    for (int i = 0; i < 4; i++)
-        common |= one->word[i] & two->word[i];
-    return common != 0;
 }
 
 static inline bool good_rule(const struct book *book, struct rule rule)
@@ -181,7 +259,7 @@ static inline uint32_t index_size(const struct book *book)
     uint32_t own = 0;
     for (uint32_t p = 0; p < book->rules; p++)
         own += book->rules_at[10 * p] == COMPLETED;
-    return 8 + 8 * book->stages + 2 * (own + book->stages * (book->rules - own));
+    return 8 + 8 * book->stages + 4 * (own + book->stages * (book->rules - own));
 }
 
 // The stack of values is a number, its top the lowest bit.

@@ -3,7 +3,7 @@
 
 enum { CONDITION, RESPONSE, MILESTONE, INCLUDE, EXCLUDE };
 enum { NO_PARENT = 65535, INCLUDED = 4, FLAGS_BYTE = 256, MAX_ROLES = 8 };
-enum { STAGES = 64, MARKS = 256, CONDITIONS = 256, WORDS = 41024, OR = 65534, NOT = 65535 };
+enum { MAX_NODES = 512, MAX_RELATIONS = 16384, STAGES = 256, MARKS = 1024, CONDITIONS = 1024, WORDS = 655616, OR = 65534, NOT = 65535 };
 
 static uint8_t *put16(uint8_t *at, uint32_t number)
 {
@@ -47,13 +47,13 @@ static uint32_t full_parent(uint32_t node, uint32_t n)
 // With the kinds below `kinds`, and includes and excludes.
 static size_t wide_chart(uint8_t *image, uint32_t n, uint32_t kinds)
 {
-    uint32_t top = 2 * n - 1, even = 2 * n - 2, odd = 2 * n - 3;
+    uint32_t top = 2 * n - 1, even = 2 * n - 2, odd = 2 * n - 3, relations = n * n < MAX_RELATIONS ? n * n : MAX_RELATIONS;
     const uint32_t wide[7][3] = {{top, top, CONDITION}, {top, top, RESPONSE}, {top, top, kinds - 1}, {even, even, INCLUDE},
                                  {odd, odd, INCLUDE},   {even, odd, EXCLUDE}, {odd, even, EXCLUDE}};
-    uint8_t *at = put_chart_header(image, 2 * n, n * n);
+    uint8_t *at = put_chart_header(image, 2 * n, relations);
     for (uint32_t node = 0; node < 2 * n; node++)
         at = put_node(at, node, full_parent(node, n), node < n ? INCLUDED : 0);
-    for (uint32_t i = 0; i < n * n; i++)
+    for (uint32_t i = 0; i < relations; i++)
         at = i < 7 ? put_relation(at, wide[i][0], wide[i][1], wide[i][2]) : put_relation(at, i / n, i % n, i % kinds);
     return (size_t)(at - image);
 }
@@ -103,22 +103,22 @@ size_t sparse_chart(uint8_t *image, uint32_t n)
 
 static size_t damaged(uint8_t *image, uint32_t relations, uint32_t (*parent)(uint32_t))
 {
-    enum { NODES = 128, ALL = 255 };
-    uint8_t *at = put_chart_header(image, NODES, relations);
-    for (uint32_t node = 0; node < NODES; node++)
+    enum { ALL = 255 };
+    uint8_t *at = put_chart_header(image, MAX_NODES, relations);
+    for (uint32_t node = 0; node < MAX_NODES; node++)
         at = put_node(at, node, parent(node), ALL);
     for (uint32_t r = 0; r < relations; r++)
-        at = put_relation(at, r % NODES, NODES, r % (EXCLUDE + 1));
+        at = put_relation(at, r % MAX_NODES, MAX_NODES, r % (EXCLUDE + 1));
     return (size_t)(at - image);
 }
 
-static uint32_t next_of_all(uint32_t node) { return (node + 1) % 128; }
+static uint32_t next_of_all(uint32_t node) { return (node + 1) % MAX_NODES; }
 static uint32_t other_of_two(uint32_t node) { return node ^ 1; }
 static uint32_t own_group(uint32_t node) { return node % 2 == 0 ? NO_PARENT : node - 1; }
 
 size_t one_loop(uint8_t *image) { return damaged(image, 0, next_of_all); }
 size_t loops_of_two(uint8_t *image) { return damaged(image, 0, other_of_two); }
-size_t bad_relations(uint8_t *image) { return damaged(image, 4096, own_group); }
+size_t bad_relations(uint8_t *image) { return damaged(image, MAX_RELATIONS, own_group); }
 
 // ---- books
 
@@ -155,30 +155,37 @@ static uint32_t words_before(uint32_t c)
     return WORDS / CONDITIONS * c + (c < WORDS % CONDITIONS ? c : WORDS % CONDITIONS);
 }
 
-// A text of `count` words: a mark from `first` on, then mark and or by turns, round and round up to mark 255, and a last not where one
+// A text of `count` words: a mark from `first` on, then mark and or by turns, round and round up to mark `last`, and a last not where one
 // word is left.
-static uint8_t *put_text(uint8_t *at, uint32_t first, uint32_t count)
+static uint8_t *put_text(uint8_t *at, uint32_t first, uint32_t last, uint32_t count)
 {
     uint32_t mark = first, put = 1;
     at = put16(at, mark);
     for (; put + 2 <= count; put += 2) {
-        mark = mark < MARKS - 1 ? mark + 1 : first;
+        mark = mark < last ? mark + 1 : first;
         at = put16(put16(at, mark), OR);
     }
     return put < count ? put16(at, NOT) : at;
 }
 
-// Conditions whose text starts with the mark above their number, and condition 255 with the last mark.
-static uint8_t *put_conditions(uint8_t *at)
+// Conditions whose text starts with the mark above their number, the last condition with the last mark, and names `named` marks at most.
+static uint8_t *put_texts(uint8_t *at, uint32_t named)
 {
     for (uint32_t c = 0; c < CONDITIONS; c++)
         at = put32(put32(at, words_before(c)), words_before(c + 1) - words_before(c));
-    for (uint32_t c = 0; c < CONDITIONS; c++)
-        at = put_text(at, c < MARKS - 1 ? c + 1 : c, words_before(c + 1) - words_before(c));
+    for (uint32_t c = 0; c < CONDITIONS; c++) {
+        uint32_t first = c < MARKS - 1 ? c + 1 : c, last = first + named < MARKS ? first + named - 1 : MARKS - 1;
+        at = put_text(at, first, last, words_before(c + 1) - words_before(c));
+    }
     return at;
 }
 
-// The target of rule p in layers: never mark 255, which condition 254 names.
+static uint8_t *put_conditions(uint8_t *at)
+{
+    return put_texts(at, MARKS);
+}
+
+// The target of rule p in layers: never the last mark, which the condition before the last names.
 static uint32_t layer(uint32_t p, uint32_t rules)
 {
     return p * (MARKS - 1) / rules;
@@ -208,12 +215,21 @@ size_t one_condition_book(uint8_t *book, uint32_t rules)
     return (size_t)(put_conditions(at) - book);
 }
 
-size_t one_stage_book(uint8_t *book, uint32_t rules)
+static uint8_t *put_layers_of_stage(uint8_t *at, uint32_t rules)
 {
-    uint8_t *at = put_book_header(book, rules);
     for (uint32_t p = 0; p < rules; p++)
         at = put_completion(at, 1, p % 2, layer(p, rules), layer(p, rules));
-    return (size_t)(put_conditions(at) - book);
+    return at;
+}
+
+size_t one_stage_book(uint8_t *book, uint32_t rules)
+{
+    return (size_t)(put_conditions(put_layers_of_stage(put_book_header(book, rules), rules)) - book);
+}
+
+size_t one_chain_book(uint8_t *book, uint32_t rules)
+{
+    return (size_t)(put_texts(put_layers_of_stage(put_book_header(book, rules), rules), 1) - book);
 }
 
 size_t staged_book(uint8_t *book, uint32_t rules)

@@ -4,8 +4,8 @@
 
 #include "plain.h"
 
-struct answer lean_check(const uint8_t *image, size_t length, uint32_t stage, uint16_t *room, size_t count);
-struct settled lean_complete(const uint8_t *image, size_t length, const uint16_t *order, size_t count, struct snapshot snapshot,
+struct answer lean_check(const uint8_t *image, size_t length, uint32_t stage, uint32_t *room, size_t count);
+struct settled lean_complete(const uint8_t *image, size_t length, const uint32_t *order, size_t count, struct snapshot snapshot,
                              uint32_t stage);
 struct answer lean_build_index(const uint8_t *image, size_t length, uint8_t *room, size_t bytes);
 struct indexed lean_complete_indexed(const uint8_t *image, size_t length, const uint8_t *index, size_t bytes, struct snapshot snapshot,

@@ -1,10 +1,11 @@
 // The paper's calls in plain C: bit sets, one pass over each table, no memory but the stack.
-#include "book.h"
+#include "clash.h"
+#include "order.h"
 
 #include <string.h>
 
 enum { NO_PARENT = 65535, NO_MARK = 65535 };
-enum { MAX_BOOK = 167968, MAX_NODES = 128, MAX_RELATIONS = 4096, MAX_EVENTS = 64, MAX_ROLES = 8, FLAGS_BYTE = 256 };
+enum { MAX_BOOK = 2637856, FLAGS_BYTE = 256 };
 
 // ---- reading a chart
 
@@ -16,11 +17,11 @@ struct nodes {
 static uint32_t lowest_on_loop(const struct nodes *nodes)
 {
     uint32_t best = nodes->count;
-    uint8_t stamp[MAX_NODES] = {0};
+    uint16_t stamp[MAX_NODES] = {0};
     for (uint32_t from = 0; from < nodes->count; from++) {
         uint32_t n = from;
         while (n != NO_PARENT && stamp[n] == 0) {
-            stamp[n] = (uint8_t)(from + 1);
+            stamp[n] = (uint16_t)(from + 1);
             n = nodes->parent[n];
         }
         if (n == NO_PARENT || stamp[n] != from + 1)
@@ -65,7 +66,7 @@ static struct answer read_nodes(const uint8_t *image, size_t length, struct node
 }
 
 // Refusals 5 to 7. Afterwards event[e] is the node of event e.
-static struct answer number_events(const struct nodes *nodes, uint8_t *event, uint32_t *events)
+static struct answer number_events(const struct nodes *nodes, uint16_t *event, uint32_t *events)
 {
     uint32_t looping = lowest_on_loop(nodes);
     if (looping < nodes->count)
@@ -79,37 +80,39 @@ static struct answer number_events(const struct nodes *nodes, uint8_t *event, ui
         if (group[n] && nodes->flags[n] % FLAGS_BYTE != 0)
             return refused(6, n, 0);
         if (!group[n])
-            event[count++] = (uint8_t)n;
+            event[count++] = (uint16_t)n;
     }
     *events = count;
     return count > MAX_EVENTS ? refused(7, count, 0) : granted;
 }
 
 // Refusal 8. Relations are gathered at their nodes; an event then takes what stands at it and at the groups above it, roles too.
-static struct answer flatten(const struct nodes *nodes, const uint8_t *event, const uint8_t *at, uint32_t relations,
+static struct answer flatten(const struct nodes *nodes, const uint16_t *event, const uint8_t *at, uint32_t relations,
                              struct flat_chart *chart)
 {
-    uint64_t below[MAX_NODES] = {0};
+    struct set below[MAX_NODES], gathered[5][MAX_NODES];
+    memset(below, 0, nodes->count * sizeof below[0]);
+    for (int kind = 0; kind < 5; kind++)
+        memset(gathered[kind], 0, nodes->count * sizeof gathered[kind][0]);
     for (uint32_t e = 0; e < chart->count; e++)
         for (uint32_t n = event[e]; n != NO_PARENT; n = nodes->parent[n])
-            below[n] |= only(e);
-    uint64_t gathered[5][MAX_NODES] = {{0}};
+            put(&below[n], e);
     for (uint32_t r = 0; r < relations; r++, at += 6) {
         uint32_t from = get16(at), to = get16(at + 2), kind = get16(at + 4);
         if (from >= nodes->count || to >= nodes->count || kind > 4)
             return refused(8, r, 0);
         if (kind == 0 || kind == 2)
-            gathered[kind][to] |= below[from];
+            gathered[kind][to] = unite(gathered[kind][to], below[from]);
         else
-            gathered[kind][from] |= below[to];
+            gathered[kind][from] = unite(gathered[kind][from], below[to]);
     }
     for (uint32_t e = 0; e < chart->count; e++) {
         for (uint32_t n = event[e]; n != NO_PARENT; n = nodes->parent[n]) {
-            chart->conditions[e] |= gathered[0][n];
-            chart->responses[e] |= gathered[1][n];
-            chart->milestones[e] |= gathered[2][n];
-            chart->includes[e] |= gathered[3][n];
-            chart->excludes[e] |= gathered[4][n];
+            chart->conditions[e] = unite(chart->conditions[e], gathered[0][n]);
+            chart->responses[e] = unite(chart->responses[e], gathered[1][n]);
+            chart->milestones[e] = unite(chart->milestones[e], gathered[2][n]);
+            chart->includes[e] = unite(chart->includes[e], gathered[3][n]);
+            chart->excludes[e] = unite(chart->excludes[e], gathered[4][n]);
             chart->roles[e] |= (uint8_t)(nodes->flags[n] / FLAGS_BYTE);
         }
     }
@@ -120,7 +123,7 @@ struct reading plain_read_chart(const uint8_t *image, size_t length)
 {
     struct reading reading = {.answer = granted};
     struct nodes nodes;
-    uint8_t event[MAX_NODES];
+    uint16_t event[MAX_NODES];
     reading.answer = read_nodes(image, length, &nodes);
     if (reading.answer.code != 0)
         return reading;
@@ -136,9 +139,12 @@ struct reading plain_read_chart(const uint8_t *image, size_t length)
     }
     for (uint32_t e = 0; e < events; e++) {
         uint32_t flags = nodes.flags[event[e]];
-        reading.start.executed |= (uint64_t)(flags & 1) << e;
-        reading.start.pending |= (uint64_t)(flags >> 1 & 1) << e;
-        reading.start.included |= (uint64_t)(flags >> 2 & 1) << e;
+        if (flags & 1)
+            put(&reading.start.executed, e);
+        if (flags & 2)
+            put(&reading.start.pending, e);
+        if (flags & 4)
+            put(&reading.start.included, e);
     }
     return reading;
 }
@@ -184,12 +190,12 @@ static void mend_records(struct mending *mending, const uint8_t *image)
 static void cut_loops(struct mending *mending)
 {
     struct nodes *nodes = &mending->nodes;
-    uint8_t stamp[MAX_NODES] = {0};
+    uint16_t stamp[MAX_NODES] = {0};
     bool cut[MAX_NODES] = {false};
     for (uint32_t from = 0; from < nodes->count; from++) {
         uint32_t n = from;
         while (n != NO_PARENT && stamp[n] == 0) {
-            stamp[n] = (uint8_t)(from + 1);
+            stamp[n] = (uint16_t)(from + 1);
             n = nodes->parent[n];
         }
         if (n == NO_PARENT || stamp[n] != from + 1)
@@ -276,39 +282,44 @@ struct mended plain_mend(const uint8_t *image, size_t length, uint8_t *chart, si
 
 // ---- steps
 
+// What the sets of an event have in any of the five tables.
+static inline struct set any_of(const struct flat_chart *chart, uint32_t e)
+{
+    struct set any = unite(unite(chart->conditions[e], chart->responses[e]), chart->milestones[e]);
+    return unite(any, unite(chart->includes[e], chart->excludes[e]));
+}
+
 static bool fit_chart(const struct flat_chart *chart)
 {
     uint32_t count = chart->count;
     if (count < 1 || count > MAX_EVENTS)
         return false;
-    uint64_t within = 0, past = 0;
+    struct set within = {{0}}, past = {{0}};
     for (uint32_t e = 0; e < count; e++)
-        within |= chart->conditions[e] | chart->responses[e] | chart->milestones[e] | chart->includes[e] | chart->excludes[e];
+        within = unite(within, any_of(chart, e));
     for (uint32_t e = count; e < MAX_EVENTS; e++)
-        past |= chart->conditions[e] | chart->responses[e] | chart->milestones[e] | chart->includes[e] | chart->excludes[e];
+        past = unite(past, any_of(chart, e));
     uint8_t named = 0; // in a loop of its own, so that the one over sets needs no bytes
     for (uint32_t e = count; e < MAX_EVENTS; e++)
         named |= chart->roles[e];
-    uint64_t outside = count == 64 ? 0 : ~(uint64_t)0 << count;
-    return (within & outside) == 0 && past == 0 && named == 0;
+    return is_empty(without(within, all_below(count))) && is_empty(past) && named == 0;
 }
 
-static bool fit(const struct flat_chart *chart, struct marking marking)
+static bool fit(const struct flat_chart *chart, const struct marking *marking)
 {
     if (!fit_chart(chart))
         return false;
-    uint64_t outside = chart->count == 64 ? 0 : ~(uint64_t)0 << chart->count;
-    return ((marking.executed | marking.pending | marking.included) & outside) == 0;
+    struct set any = unite(unite(marking->executed, marking->pending), marking->included);
+    return is_empty(without(any, all_below(chart->count)));
 }
 
-static uint64_t open_set(const struct flat_chart *chart, struct marking marking)
+static struct set open_set(const struct flat_chart *chart, const struct marking *marking)
 {
-    uint64_t unexecuted = marking.included & ~marking.executed, due = marking.included & marking.pending, open = 0;
-    for (uint32_t e = 0; e < chart->count; e++) {
-        uint64_t holding = (chart->conditions[e] & unexecuted) | (chart->milestones[e] & due);
-        open |= (uint64_t)(holding == 0) << e;
-    }
-    return open & marking.included;
+    struct set unexecuted = without(marking->included, marking->executed), due = common(marking->included, marking->pending), open = {{0}};
+    for (uint32_t e = 0; e < chart->count; e++)
+        if (is_empty(unite(common(chart->conditions[e], unexecuted), common(chart->milestones[e], due))))
+            put(&open, e);
+    return common(open, marking->included);
 }
 
 static bool permitted(uint8_t roles, uint32_t role)
@@ -316,72 +327,78 @@ static bool permitted(uint8_t roles, uint32_t role)
     return role < MAX_ROLES && (roles == 0 || (roles >> role & 1) != 0);
 }
 
+static const struct set none = {{0}};
+
 // The open test of an event of a chart and a marking that are fit.
-static inline struct open_test test(const struct flat_chart *chart, struct marking marking, uint32_t event)
+static inline struct open_test test(const struct flat_chart *chart, const struct marking *marking, uint32_t event)
 {
-    if ((marking.included & only(event)) == 0)
-        return (struct open_test){refused(11, 0, 0), 0, 0};
-    uint64_t wanting = chart->conditions[event] & marking.included & ~marking.executed;
-    uint64_t awaited = chart->milestones[event] & marking.included & marking.pending;
-    if (wanting != 0)
-        return (struct open_test){refused(12, lowest(wanting), 0), wanting, awaited};
-    if (awaited != 0)
-        return (struct open_test){refused(13, lowest(awaited), 0), wanting, awaited};
-    return (struct open_test){granted, 0, 0};
+    if (!holds_event(&marking->included, event))
+        return (struct open_test){refused(11, 0, 0), none, none};
+    struct set wanting = without(common(chart->conditions[event], marking->included), marking->executed);
+    struct set awaited = common(common(chart->milestones[event], marking->included), marking->pending);
+    if (!is_empty(wanting))
+        return (struct open_test){refused(12, lowest_of(wanting), 0), wanting, awaited};
+    if (!is_empty(awaited))
+        return (struct open_test){refused(13, lowest_of(awaited), 0), wanting, awaited};
+    return (struct open_test){granted, none, none};
 }
 
-// A step of a chart and a marking that are fit.
-static inline struct step take(const struct flat_chart *chart, struct marking marking, uint32_t event, uint32_t role)
+// Takes a step of a chart and a marking that are fit; the marking is altered where it stands.
+static inline struct open_test take(const struct flat_chart *chart, struct marking *marking, uint32_t event, uint32_t role)
 {
     if (event >= chart->count)
-        return (struct step){refused(10, 0, 0), marking, 0, 0};
+        return (struct open_test){refused(10, 0, 0), none, none};
     if (!permitted(chart->roles[event], role))
-        return (struct step){refused(32, 0, 0), marking, 0, 0};
+        return (struct open_test){refused(32, 0, 0), none, none};
     struct open_test open = test(chart, marking, event);
-    struct step step = {open.answer, marking, open.conditions, open.milestones};
-    if (step.answer.code != 0)
-        return step;
-    step.marking.executed = marking.executed | only(event);
-    step.marking.pending = (marking.pending & ~only(event)) | chart->responses[event];
-    step.marking.included = (marking.included & ~chart->excludes[event]) | chart->includes[event];
-    return step;
+    if (open.answer.code != 0)
+        return open;
+    put(&marking->executed, event);
+    marking->pending.word[event / 64] &= ~bit(event);
+    marking->pending = unite(marking->pending, chart->responses[event]);
+    marking->included = unite(without(marking->included, chart->excludes[event]), chart->includes[event]);
+    return open;
 }
 
 struct step plain_execute(const struct flat_chart *chart, struct marking marking, uint32_t event, uint32_t role)
 {
-    return fit(chart, marking) ? take(chart, marking, event, role) : (struct step){refused(14, 0, 0), marking, 0, 0};
+    if (!fit(chart, &marking))
+        return (struct step){refused(14, 0, 0), marking, none, none};
+    struct open_test taken = take(chart, &marking, event, role);
+    return (struct step){taken.answer, marking, taken.conditions, taken.milestones};
 }
 
 struct open_test plain_open_test(const struct flat_chart *chart, struct marking marking, uint32_t event)
 {
-    if (!fit(chart, marking))
-        return (struct open_test){refused(14, 0, 0), 0, 0};
-    return event < chart->count ? test(chart, marking, event) : (struct open_test){refused(10, 0, 0), 0, 0};
+    if (!fit(chart, &marking))
+        return (struct open_test){refused(14, 0, 0), none, none};
+    return event < chart->count ? test(chart, &marking, event) : (struct open_test){refused(10, 0, 0), none, none};
 }
 
 struct open_count plain_count_open(const struct flat_chart *chart, struct marking marking)
 {
-    if (!fit(chart, marking))
-        return (struct open_count){refused(14, 0, 0), 0, 64};
-    uint64_t open = open_set(chart, marking);
-    return (struct open_count){granted, size(open), open == 0 ? 64 : lowest(open)};
+    if (!fit(chart, &marking))
+        return (struct open_count){refused(14, 0, 0), 0, MAX_EVENTS};
+    struct set open = open_set(chart, &marking);
+    return (struct open_count){granted, size_of(open), lowest_of(open)};
 }
 
 struct finish plain_finished(const struct flat_chart *chart, struct marking marking)
 {
-    if (!fit(chart, marking))
+    if (!fit(chart, &marking))
         return (struct finish){refused(14, 0, 0), false};
-    return (struct finish){granted, (marking.included & marking.pending) == 0};
+    return (struct finish){granted, is_empty(common(marking.included, marking.pending))};
 }
 
 // ---- replaying a record
 
 // Takes the steps from one position to another; gives the position of the first that is not allowed, or the other one.
-static size_t walk(const struct flat_chart *chart, struct step *reached, const struct recorded *steps, size_t from, size_t end)
+static size_t walk(const struct flat_chart *chart, struct marking *marking, struct open_test *last, const struct recorded *steps, size_t from,
+                   size_t end)
 {
     for (size_t at = from; at < end; at++) {
-        *reached = take(chart, reached->marking, steps[at].event, steps[at].role);
-        if (reached->answer.code != 0)
+        *last = take(chart, marking, steps[at].event, steps[at].role);
+        if (last->answer.code != 0)
             return at;
     }
     return end;
@@ -389,46 +406,46 @@ static size_t walk(const struct flat_chart *chart, struct step *reached, const s
 
 struct replayed plain_replay(const struct flat_chart *chart, struct marking start, const struct recorded *steps, size_t count)
 {
-    if (!fit(chart, start))
-        return (struct replayed){refused(14, 0, 0), 0, 0, start, false, 0, 0};
-    struct step reached = {granted, start, 0, 0};
-    size_t allowed = walk(chart, &reached, steps, 0, count);
-    bool finished = (reached.marking.included & reached.marking.pending) == 0;
-    return (struct replayed){granted, reached.answer.code, allowed, reached.marking, finished, reached.conditions, reached.milestones};
+    if (!fit(chart, &start))
+        return (struct replayed){refused(14, 0, 0), 0, 0, start, false, none, none};
+    struct open_test last = {granted, none, none};
+    struct marking marking = start;
+    size_t allowed = walk(chart, &marking, &last, steps, 0, count);
+    bool finished = is_empty(common(marking.included, marking.pending));
+    return (struct replayed){granted, last.answer.code, allowed, marking, finished, last.conditions, last.milestones};
 }
 
 struct step plain_strike(const struct flat_chart *chart, struct marking start, const struct recorded *steps, size_t count, uint32_t position)
 {
-    if (!fit(chart, start))
-        return (struct step){refused(14, 0, 0), start, 0, 0};
+    if (!fit(chart, &start))
+        return (struct step){refused(14, 0, 0), start, none, none};
     if (position >= count)
-        return (struct step){refused(36, 0, 0), start, 0, 0};
-    struct step reached = {granted, start, 0, 0};
-    size_t at = walk(chart, &reached, steps, 0, position);
-    if (reached.answer.code == 0)
-        at = walk(chart, &reached, steps, position + (size_t)1, count);
-    if (reached.answer.code != 0) {
-        reached.answer.place = at < UINT32_MAX ? (uint32_t)at : UINT32_MAX;
-        reached.marking = start;
-    }
-    return reached;
+        return (struct step){refused(36, 0, 0), start, none, none};
+    struct open_test last = {granted, none, none};
+    struct marking marking = start;
+    size_t at = walk(chart, &marking, &last, steps, 0, position);
+    if (last.answer.code == 0)
+        at = walk(chart, &marking, &last, steps, position + (size_t)1, count);
+    if (last.answer.code == 0)
+        return (struct step){granted, marking, none, none};
+    return (struct step){refused(last.answer.code, at < UINT32_MAX ? (uint32_t)at : UINT32_MAX, 0), start, last.conditions, last.milestones};
 }
 
 struct settled plain_matching(const struct flat_chart *chart, struct marking marking)
 {
     struct settled settled = {.answer = granted};
-    if (!fit(chart, marking)) {
+    if (!fit(chart, &marking)) {
         settled.answer = refused(14, 0, 0);
         return settled;
     }
     uint32_t n = chart->count;
-    uint64_t open = open_set(chart, marking);
+    struct set open = open_set(chart, &marking);
     bool *marks = settled.snapshot.marks;
     for (uint32_t e = 0; e < n; e++) {
-        marks[e] = open >> e & 1;
-        marks[n + e] = marking.executed >> e & 1;
-        marks[2 * n + e] = marking.included >> e & 1;
-        marks[3 * n + e] = ~marking.pending >> e & 1;
+        marks[e] = holds_event(&open, e);
+        marks[n + e] = holds_event(&marking.executed, e);
+        marks[2 * n + e] = holds_event(&marking.included, e);
+        marks[3 * n + e] = !holds_event(&marking.pending, e);
     }
     return settled;
 }
@@ -449,22 +466,22 @@ static uint8_t *put_rule(uint8_t *at, uint8_t trigger, uint8_t sense, uint8_t ef
 static uint8_t *put_completion(uint8_t *at, const struct flat_chart *chart, uint32_t e)
 {
     uint32_t n = chart->count;
-    for (uint64_t left = chart->includes[e] | chart->excludes[e]; left != 0; left &= left - 1) {
-        uint32_t f = lowest(left);
-        at = put_rule(at, COMPLETED, NO_CONDITION, chart->includes[e] >> f & 1, e, 0, 2 * n + f);
+    for (struct set left = unite(chart->includes[e], chart->excludes[e]); !is_empty(left);) {
+        uint32_t f = take_lowest(&left);
+        at = put_rule(at, COMPLETED, NO_CONDITION, holds_event(&chart->includes[e], f), e, 0, 2 * n + f);
     }
-    for (uint64_t left = chart->responses[e]; left != 0; left &= left - 1)
-        at = put_rule(at, COMPLETED, NO_CONDITION, CLEAR, e, 0, 3 * n + lowest(left));
-    if ((chart->responses[e] & only(e)) == 0)
+    for (struct set left = chart->responses[e]; !is_empty(left);)
+        at = put_rule(at, COMPLETED, NO_CONDITION, CLEAR, e, 0, 3 * n + take_lowest(&left));
+    if (!holds_event(&chart->responses[e], e))
         at = put_rule(at, COMPLETED, NO_CONDITION, SET, e, 0, 3 * n + e);
     return put_rule(at, COMPLETED, NO_CONDITION, SET, e, 0, n + e);
 }
 
 // For each f: included f, not, mark f, or, and; the marks start at `first`.
-static uint8_t *put_clauses(uint8_t *at, uint64_t set, uint32_t included, uint32_t first)
+static uint8_t *put_clauses(uint8_t *at, struct set set, uint32_t included, uint32_t first)
 {
-    for (; set != 0; set &= set - 1) {
-        uint32_t f = lowest(set);
+    while (!is_empty(set)) {
+        uint32_t f = take_lowest(&set);
         at = put16(put16(put16(put16(put16(at, included + f), NOT), first + f), OR), AND);
     }
     return at;
@@ -476,8 +493,8 @@ struct answer plain_derive(const struct flat_chart *chart, uint8_t *room, size_t
         return refused(14, 0, 0);
     uint32_t n = chart->count, rules = 3 * n, words = n;
     for (uint32_t e = 0; e < n; e++) {
-        rules += size(chart->includes[e] | chart->excludes[e]) + size(chart->responses[e] | only(e));
-        words += 5 * (size(chart->conditions[e]) + size(chart->milestones[e]));
+        rules += size_of(unite(chart->includes[e], chart->excludes[e])) + size_of(chart->responses[e]) + !holds_event(&chart->responses[e], e);
+        words += 5 * (size_of(chart->conditions[e]) + size_of(chart->milestones[e]));
     }
     uint32_t conditions_at = 32 + 10 * rules, words_at = conditions_at + 8 * n, needed = words_at + 2 * words;
     if (length < needed)
@@ -493,7 +510,7 @@ struct answer plain_derive(const struct flat_chart *chart, uint8_t *room, size_t
         at = put_rule(at, NO_TRIGGER, NEGATED, CLEAR, 0, e, e);
     }
     for (uint32_t e = 0, start = 0; e < n; e++) {
-        uint32_t count = 1 + 5 * (size(chart->conditions[e]) + size(chart->milestones[e]));
+        uint32_t count = 1 + 5 * (size_of(chart->conditions[e]) + size_of(chart->milestones[e]));
         at = put32(put32(at, start), count);
         start += count;
     }
@@ -509,42 +526,41 @@ struct answer plain_derive(const struct flat_chart *chart, uint8_t *room, size_t
 
 // The events whose executed, included and answered marks stay.
 struct staying {
-    uint64_t executed, included, answered;
+    struct set executed, included, answered;
 };
 
-static struct staying staying_of(const struct flat_chart *chart, struct marking start)
+static struct staying staying_of(const struct flat_chart *chart, const struct marking *start)
 {
-    uint64_t all = chart->count == 64 ? ~(uint64_t)0 : only(chart->count) - 1;
-    struct staying staying = {0, all & ~start.included, start.pending};
+    struct staying staying = {none, without(all_below(chart->count), start->included), start->pending};
     for (uint32_t e = 0; e < chart->count; e++) {
-        staying.executed |= chart->conditions[e];
-        staying.included |= chart->includes[e] | chart->excludes[e];
-        staying.answered |= chart->responses[e];
+        staying.executed = unite(staying.executed, chart->conditions[e]);
+        staying.included = unite(staying.included, unite(chart->includes[e], chart->excludes[e]));
+        staying.answered = unite(staying.answered, chart->responses[e]);
     }
     return staying;
 }
 
 // Gives the marks that stay their new numbers, in a table of no numbers, and says how many there are.
-static uint32_t number_marks(uint16_t *table, uint32_t n, struct staying staying)
+static uint32_t number_marks(uint16_t *table, uint32_t n, const struct staying *staying)
 {
-    const uint64_t sorts[3] = {staying.executed, staying.included, staying.answered};
+    const struct set sorts[3] = {staying->executed, staying->included, staying->answered};
     uint32_t next = 0;
     while (next < n) {
         table[next] = (uint16_t)next;
         next++;
     }
     for (uint32_t sort = 0; sort < 3; sort++)
-        for (uint64_t left = sorts[sort]; left != 0; left &= left - 1)
-            table[n * (sort + 1) + lowest(left)] = (uint16_t)next++;
+        for (struct set left = sorts[sort]; !is_empty(left);)
+            table[n * (sort + 1) + take_lowest(&left)] = (uint16_t)next++;
     return next;
 }
 
 // How many words are left of the text of event e. A condition's executed mark always stays, so only a milestone's clause can become yes.
 static uint32_t words_left(const struct flat_chart *chart, const struct staying *staying, uint32_t e)
 {
-    uint64_t conditions = chart->conditions[e], milestones = chart->milestones[e] & staying->answered;
-    uint32_t own = staying->included >> e & 1, clauses = size(conditions) + size(milestones);
-    uint32_t whole = size(conditions & staying->included) + size(milestones & staying->included);
+    struct set conditions = chart->conditions[e], milestones = common(chart->milestones[e], staying->answered);
+    uint32_t own = holds_event(&staying->included, e), clauses = size_of(conditions) + size_of(milestones);
+    uint32_t whole = size_of(common(conditions, staying->included)) + size_of(common(milestones, staying->included));
     return own + clauses == 0 ? 0 : 2 * (own + clauses) - 1 + 3 * whole;
 }
 
@@ -553,22 +569,22 @@ static uint8_t *put_completion_left(uint8_t *at, const struct flat_chart *chart,
 {
     uint32_t n = chart->count;
     const uint16_t *executed = table + n, *included = table + 2 * n, *answered = table + 3 * n;
-    for (uint64_t left = chart->includes[e] | chart->excludes[e]; left != 0; left &= left - 1) {
-        uint32_t f = lowest(left);
-        at = put_rule(at, COMPLETED, NO_CONDITION, chart->includes[e] >> f & 1, e, 0, included[f]);
+    for (struct set left = unite(chart->includes[e], chart->excludes[e]); !is_empty(left);) {
+        uint32_t f = take_lowest(&left);
+        at = put_rule(at, COMPLETED, NO_CONDITION, holds_event(&chart->includes[e], f), e, 0, included[f]);
     }
-    for (uint64_t left = chart->responses[e]; left != 0; left &= left - 1)
-        at = put_rule(at, COMPLETED, NO_CONDITION, CLEAR, e, 0, answered[lowest(left)]);
-    if ((chart->responses[e] & only(e)) == 0 && answered[e] != NO_MARK)
+    for (struct set left = chart->responses[e]; !is_empty(left);)
+        at = put_rule(at, COMPLETED, NO_CONDITION, CLEAR, e, 0, answered[take_lowest(&left)]);
+    if (!holds_event(&chart->responses[e], e) && answered[e] != NO_MARK)
         at = put_rule(at, COMPLETED, NO_CONDITION, SET, e, 0, answered[e]);
     return executed[e] == NO_MARK ? at : put_rule(at, COMPLETED, NO_CONDITION, SET, e, 0, executed[e]);
 }
 
 // What is left of the clauses on these events; the first of the text has no "and" behind it.
-static uint8_t *put_clauses_left(uint8_t *at, const uint8_t *text, uint64_t set, const uint16_t *included, const uint16_t *second)
+static uint8_t *put_clauses_left(uint8_t *at, const uint8_t *text, struct set set, const uint16_t *included, const uint16_t *second)
 {
-    for (; set != 0; set &= set - 1) {
-        uint32_t f = lowest(set);
+    while (!is_empty(set)) {
+        uint32_t f = take_lowest(&set);
         bool first = at == text;
         at = included[f] == NO_MARK ? put16(at, second[f]) : put16(put16(put16(put16(at, included[f]), NOT), second[f]), OR);
         if (!first)
@@ -584,7 +600,7 @@ static uint8_t *put_text_left(uint8_t *at, const struct flat_chart *chart, const
     if (included[e] != NO_MARK)
         at = put16(at, included[e]);
     at = put_clauses_left(at, text, chart->conditions[e], included, executed);
-    return put_clauses_left(at, text, chart->milestones[e] & staying->answered, included, answered);
+    return put_clauses_left(at, text, common(chart->milestones[e], staying->answered), included, answered);
 }
 
 // Rules, conditions and words.
@@ -592,8 +608,9 @@ static void count_left(const struct flat_chart *chart, const struct staying *sta
 {
     for (uint32_t e = 0; e < chart->count; e++) {
         uint32_t words = words_left(chart, staying, e);
-        counts[0] += size(chart->includes[e] | chart->excludes[e]) + size(chart->responses[e] | (staying->answered & only(e)))
-                     + (staying->executed >> e & 1) + 1 + (words != 0);
+        bool answers = holds_event(&staying->answered, e) && !holds_event(&chart->responses[e], e);
+        counts[0] += size_of(unite(chart->includes[e], chart->excludes[e])) + size_of(chart->responses[e]) + answers
+                     + holds_event(&staying->executed, e) + 1 + (words != 0);
         counts[1] += words != 0;
         counts[2] += words;
     }
@@ -627,11 +644,11 @@ struct smaller plain_derive_smaller(const struct flat_chart *chart, struct marki
 {
     struct smaller smaller = {.answer = granted};
     memset(smaller.table, 0xFF, sizeof smaller.table);
-    if (!fit(chart, start)) {
+    if (!fit(chart, &start)) {
         smaller.answer = refused(14, 0, 0);
         return smaller;
     }
-    struct staying staying = staying_of(chart, start);
+    struct staying staying = staying_of(chart, &start);
     uint32_t counts[3] = {0, 0, 0};
     count_left(chart, &staying, counts);
     uint32_t conditions_at = 32 + 10 * counts[0], words_at = conditions_at + 8 * counts[1], needed = words_at + 2 * counts[2];
@@ -639,7 +656,7 @@ struct smaller plain_derive_smaller(const struct flat_chart *chart, struct marki
         smaller.answer = refused(15, needed, 0);
         return smaller;
     }
-    uint32_t n = chart->count, marks = number_marks(smaller.table, n, staying);
+    uint32_t n = chart->count, marks = number_marks(smaller.table, n, &staying);
     const uint32_t header[8] = {n, marks, counts[0], counts[1], counts[2], 32, conditions_at, words_at};
     write_smaller(chart, &staying, smaller.table, header, room);
     return smaller;
@@ -686,7 +703,7 @@ static bool leads_to_loop(struct search *search, uint32_t mark)
     add(&search->open, mark);
     if (meet(row, &search->open))
         return true;
-    for (uint32_t i = 0; i < 4; i++)
+    for (uint32_t i = 0; i < MARK_WORDS; i++)
         for (uint64_t next; (next = row->word[i] & search->fresh.word[i]) != 0;)
             if (leads_to_loop(search, 64 * i + lowest(next)))
                 return true;
@@ -699,7 +716,7 @@ static bool finds_loop(struct search *search, struct marks from)
 {
     search->fresh = search->referring;
     memset(&search->open, 0, sizeof search->open);
-    for (uint32_t i = 0; i < 4; i++)
+    for (uint32_t i = 0; i < MARK_WORDS; i++)
         for (uint64_t next; (next = from.word[i] & search->fresh.word[i]) != 0;)
             if (leads_to_loop(search, 64 * i + lowest(next)))
                 return true;
@@ -723,7 +740,7 @@ static uint32_t lowest_looping(const struct search *search, uint32_t marks)
 
 // Rules that wait for a completion and refer to something, by stage: each leads to the next.
 struct chains {
-    uint16_t head[MAX_STAGES], next[MAX_RULES];
+    uint32_t head[MAX_STAGES], next[MAX_RULES];
 };
 
 // Puts what counts for every stage into the search, and the others into their stage's chain.
@@ -736,7 +753,7 @@ static void begin_search(const struct book *book, struct search *search, struct 
         struct rule rule = rule_of(book, p);
         if (rule.trigger == COMPLETED && rule.sense != NO_CONDITION) {
             chains->next[p] = chains->head[rule.number];
-            chains->head[rule.number] = (uint16_t)p;
+            chains->head[rule.number] = p;
         } else if (rule.trigger >= BECOME_YES || rule.sense != NO_CONDITION) {
             refer(search, book, rule);
         }
@@ -756,7 +773,7 @@ static uint32_t stage_looping(const struct book *book, struct search *search, co
         refer(search, book, rule);
     }
     uint32_t mark = finds_loop(search, targets) ? lowest_looping(search, book->marks) : MAX_MARKS;
-    for (uint32_t i = 0; i < 4; i++)
+    for (uint32_t i = 0; i < MARK_WORDS; i++)
         for (uint64_t left = targets.word[i]; left != 0; left &= left - 1)
             search->row[64 * i + lowest(left)] = kept[64 * i + lowest(left)];
     search->referring = before;
@@ -784,25 +801,12 @@ uint32_t lowest_of_stages(const struct book *book)
     return best;
 }
 
-// The lowest clashing pair. Chains lead from a rule to the next ones with its target and its effect, or the other effect.
+// The lowest clashing pair of the book.
 static struct answer first_clash(const struct book *book)
 {
-    uint16_t head[MAX_MARKS][2], same[MAX_RULES], opposite[MAX_RULES];
-    memset(head, 0xFF, sizeof head);
-    for (uint32_t p = book->rules; p-- > 0;) {
-        const uint8_t *rule = book->rules_at + 10 * p;
-        uint16_t *heads = head[get16(rule + 8)];
-        same[p] = heads[rule[2]];
-        opposite[p] = heads[1 - rule[2]];
-        heads[rule[2]] = (uint16_t)p;
-    }
-    for (uint32_t p = 0; p < book->rules; p++) {
-        const uint8_t *rule = book->rules_at + 10 * p;
-        for (uint32_t q = opposite[p]; q != NO_RULE; q = same[q])
-            if (!apart(rule, book->rules_at + 10 * q))
-                return refused(26, p, q);
-    }
-    return granted;
+    struct marks all;
+    memset(&all, 0xFF, sizeof all);
+    return clash_at(book, &all);
 }
 
 // Refusals 20 to 26.
@@ -824,11 +828,11 @@ static void gather_rule(struct flat_chart *chart, struct rule rule)
 {
     uint32_t n = chart->count, sort = rule.target / n, f = rule.target % n;
     if (sort == 2 && rule.effect == SET)
-        chart->includes[rule.number] |= only(f);
+        put(&chart->includes[rule.number], f);
     else if (sort == 2)
-        chart->excludes[rule.number] |= only(f);
+        put(&chart->excludes[rule.number], f);
     else if (sort == 3 && rule.effect == CLEAR)
-        chart->responses[rule.number] |= only(f);
+        put(&chart->responses[rule.number], f);
 }
 
 // The chart that the rules and texts say, if the counts are a derived book's.
@@ -848,9 +852,9 @@ static bool gather(const struct book *book, struct flat_chart *chart)
         for (uint32_t left = get32(condition + 4); left > 0; left--, word += 2) {
             uint32_t mark = get16(word);
             if (mark >= n && mark < 2 * n)
-                chart->conditions[e] |= only(mark - n);
+                put(&chart->conditions[e], mark - n);
             else if (mark >= 3 * n && mark < 4 * n)
-                chart->milestones[e] |= only(mark - 3 * n);
+                put(&chart->milestones[e], mark - 3 * n);
         }
     }
     return fit_chart(chart);
@@ -872,13 +876,6 @@ struct read_back plain_read_back(const uint8_t *image, size_t length)
 
 // ---- the running order
 
-// The rules counted for a stage, and which marks still have some of them to come.
-struct progress {
-    struct marks unsettled;
-    uint16_t left[MAX_MARKS], rules[MAX_RULES];
-    uint32_t count;
-};
-
 static void begin(const struct book *book, uint32_t stage, struct progress *progress)
 {
     memset(&progress->unsettled, 0, sizeof progress->unsettled);
@@ -888,7 +885,7 @@ static void begin(const struct book *book, uint32_t stage, struct progress *prog
         struct rule rule = rule_of(book, p);
         if (!counts(rule, stage))
             continue;
-        progress->rules[progress->count++] = (uint16_t)p;
+        progress->rules[progress->count++] = p;
         progress->left[rule.target]++;
         add(&progress->unsettled, rule.target);
     }
@@ -901,39 +898,7 @@ static bool ready(const struct book *book, const struct progress *progress, stru
     return rule.sense == NO_CONDITION || !meet(&book->refers[rule.condition], &progress->unsettled);
 }
 
-// Counts a written rule; says whether its target is settled by it.
-static bool settles(struct progress *progress, struct rule rule)
-{
-    if (--progress->left[rule.target] != 0)
-        return false;
-    drop(&progress->unsettled, rule.target);
-    return true;
-}
-
-// The running order of the stage that was begun with.
-static void write_order(const struct book *book, struct progress *progress, uint16_t *room)
-{
-    bool written[MAX_RULES];
-    memset(written, 0, progress->count);
-    uint32_t done = 0, passed = progress->count; // the lowest rule that was passed over
-    for (uint32_t i = 0; done < progress->count; i++) {
-        if (written[i])
-            continue;
-        struct rule rule = rule_of(book, progress->rules[i]);
-        if (!ready(book, progress, rule)) {
-            passed = i < passed ? i : passed;
-            continue;
-        }
-        room[done++] = progress->rules[i];
-        written[i] = true;
-        if (settles(progress, rule) && passed < i) {
-            i = passed - 1;
-            passed = progress->count;
-        }
-    }
-}
-
-struct answer plain_check(const uint8_t *image, size_t length, uint32_t stage, uint16_t *room, size_t count)
+struct answer plain_check(const uint8_t *image, size_t length, uint32_t stage, uint32_t *room, size_t count)
 {
     struct book book;
     struct answer answer = judge(image, length, &book);
@@ -945,13 +910,15 @@ struct answer plain_check(const uint8_t *image, size_t length, uint32_t stage, u
     begin(&book, stage, &progress);
     if (count < progress.count)
         return refused(31, progress.count, 0);
-    write_order(&book, &progress, room);
+    struct waiting waiting;
+    begin_waiting(&book, &waiting);
+    write_order(&book, &progress, &waiting, room);
     return granted;
 }
 
 // ---- completing a stage
 
-static bool fit_order(const struct book *book, uint32_t stage, const uint16_t *order, size_t count)
+static bool fit_order(const struct book *book, uint32_t stage, const uint32_t *order, size_t count)
 {
     struct progress progress;
     begin(book, stage, &progress);
@@ -967,7 +934,7 @@ static bool fit_order(const struct book *book, uint32_t stage, const uint16_t *o
         struct rule rule = rule_of(book, p);
         if (!counts(rule, stage) || !ready(book, &progress, rule))
             return false;
-        settles(&progress, rule);
+        settles(&progress, rule.target);
     }
     return true;
 }
@@ -989,7 +956,7 @@ static bool any_above(const struct book *book, const struct snapshot *snapshot)
     return false;
 }
 
-struct settled plain_complete(const uint8_t *image, size_t length, const uint16_t *order, size_t count, struct snapshot snapshot,
+struct settled plain_complete(const uint8_t *image, size_t length, const uint32_t *order, size_t count, struct snapshot snapshot,
                               uint32_t stage)
 {
     struct settled settled = {.snapshot = snapshot};
@@ -1020,11 +987,11 @@ struct settled plain_complete(const uint8_t *image, size_t length, const uint16_
 
 // ---- the index
 
-static uint32_t order_of(const struct book *book, uint32_t stage, uint16_t *order)
+static uint32_t order_of(const struct book *book, uint32_t stage, struct waiting *waiting, uint32_t *order)
 {
     struct progress progress;
     begin(book, stage, &progress);
-    write_order(book, &progress, order);
+    write_order(book, &progress, waiting, order);
     return progress.count;
 }
 
@@ -1038,12 +1005,14 @@ struct answer plain_build_index(const uint8_t *image, size_t length, uint8_t *ro
     if (bytes < needed)
         return refused(35, needed, 0);
     uint8_t *entry = put32(put32(room, book.stages), book.rules), *at = room + 8 + 8 * book.stages;
-    uint16_t order[MAX_RULES];
+    uint32_t order[MAX_RULES];
+    struct waiting waiting;
+    begin_waiting(&book, &waiting);
     for (uint32_t stage = 0; stage < book.stages; stage++) {
-        uint32_t count = order_of(&book, stage, order);
+        uint32_t count = order_of(&book, stage, &waiting, order);
         entry = put32(put32(entry, (uint32_t)(at - room)), count);
         for (uint32_t i = 0; i < count; i++)
-            at = put16(at, order[i]);
+            at = put32(at, order[i]);
     }
     return granted;
 }
@@ -1053,13 +1022,15 @@ static bool fit_index(const struct book *book, const uint8_t *index, size_t byte
     if (bytes != index_size(book) || get32(index) != book->stages || get32(index + 4) != book->rules)
         return false;
     uint32_t at = 8 + 8 * book->stages;
-    uint16_t order[MAX_RULES];
+    uint32_t order[MAX_RULES];
+    struct waiting waiting;
+    begin_waiting(book, &waiting);
     for (uint32_t stage = 0; stage < book->stages; stage++) {
-        uint32_t count = order_of(book, stage, order);
+        uint32_t count = order_of(book, stage, &waiting, order);
         if (get32(index + 8 + 8 * stage) != at || get32(index + 12 + 8 * stage) != count)
             return false;
-        for (uint32_t i = 0; i < count; i++, at += 2)
-            if (get16(index + at) != order[i])
+        for (uint32_t i = 0; i < count; i++, at += 4)
+            if (get32(index + at) != order[i])
                 return false;
     }
     return true;
@@ -1069,10 +1040,10 @@ static bool fit_index(const struct book *book, const uint8_t *index, size_t byte
 static uint32_t go_through(const struct book *book, const uint8_t *index, uint32_t stage, struct snapshot *snapshot)
 {
     const struct snapshot start = *snapshot;
-    const uint8_t *at = index + get32(index + 8 + 8 * stage), *end = at + 2 * get32(index + 12 + 8 * stage);
+    const uint8_t *at = index + get32(index + 8 + 8 * stage), *end = at + 4 * get32(index + 12 + 8 * stage);
     uint32_t evaluated = 0;
-    for (; at < end; at += 2, evaluated++)
-        apply(book, rule_of(book, get16(at)), start.marks, snapshot->marks);
+    for (; at < end; at += 4, evaluated++)
+        apply(book, rule_of(book, get32(at)), start.marks, snapshot->marks);
     return evaluated;
 }
 

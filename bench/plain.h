@@ -7,24 +7,33 @@
 #include <stddef.h>
 #include <stdint.h>
 
+enum { MAX_NODES = 512, MAX_RELATIONS = 16384, MAX_EVENTS = 256, MAX_ROLES = 8 };
+enum { MAX_STAGES = 256, MAX_MARKS = 1024, MAX_RULES = 131840, MAX_CONDITIONS = 1024, MAX_WORDS = 655616, MAX_HELD = 16, MAX_LIST = 4096 };
+enum { SET_WORDS = MAX_EVENTS / 64, MARK_WORDS = MAX_MARKS / 64 }; // of 64 bits
+
 struct answer {
     uint32_t code, place, other;
+};
+
+// Event e is bit e % 64 of word e / 64.
+struct set {
+    uint64_t word[SET_WORDS];
 };
 
 // conditions[e] and milestones[e] hold e back; responses[e], includes[e] and excludes[e] are what e does; role r may execute e where bit r of
 // roles[e] is set, and everyone where none is
 struct flat_chart {
     uint32_t count;
-    uint64_t conditions[64], responses[64], milestones[64], includes[64], excludes[64];
-    uint8_t roles[64];
+    struct set conditions[MAX_EVENTS], responses[MAX_EVENTS], milestones[MAX_EVENTS], includes[MAX_EVENTS], excludes[MAX_EVENTS];
+    uint8_t roles[MAX_EVENTS];
 };
 
 struct marking {
-    uint64_t executed, pending, included;
+    struct set executed, pending, included;
 };
 
 struct snapshot {
-    bool marks[256];
+    bool marks[MAX_MARKS];
 };
 
 struct reading {
@@ -46,19 +55,19 @@ struct mended {
 // By the numbers of the full book's marks: the numbers in the smaller book, or none.
 struct smaller {
     struct answer answer;
-    uint16_t table[256];
+    uint16_t table[MAX_MARKS];
 };
 
 // What blocks an event, with 12 and 13; else two empty sets.
 struct open_test {
     struct answer answer;
-    uint64_t conditions, milestones;
+    struct set conditions, milestones;
 };
 
 struct step {
     struct answer answer;
     struct marking marking;
-    uint64_t conditions, milestones;
+    struct set conditions, milestones;
 };
 
 struct open_count {
@@ -99,7 +108,7 @@ struct replayed {
     uint64_t steps;
     struct marking marking;
     bool finished;
-    uint64_t conditions, milestones;
+    struct set conditions, milestones;
 };
 
 struct reading plain_read_chart(const uint8_t *image, size_t length);
@@ -112,8 +121,8 @@ struct settled plain_matching(const struct flat_chart *chart, struct marking mar
 struct answer plain_derive(const struct flat_chart *chart, uint8_t *room, size_t length);
 struct smaller plain_derive_smaller(const struct flat_chart *chart, struct marking start, uint8_t *room, size_t length);
 struct read_back plain_read_back(const uint8_t *image, size_t length);
-struct answer plain_check(const uint8_t *image, size_t length, uint32_t stage, uint16_t *room, size_t count);
-struct settled plain_complete(const uint8_t *image, size_t length, const uint16_t *order, size_t count, struct snapshot snapshot,
+struct answer plain_check(const uint8_t *image, size_t length, uint32_t stage, uint32_t *room, size_t count);
+struct settled plain_complete(const uint8_t *image, size_t length, const uint32_t *order, size_t count, struct snapshot snapshot,
                               uint32_t stage);
 struct answer plain_build_index(const uint8_t *image, size_t length, uint8_t *room, size_t bytes);
 struct indexed plain_complete_indexed(const uint8_t *image, size_t length, const uint8_t *index, size_t bytes, struct snapshot snapshot,

@@ -8,7 +8,8 @@
 #include <stdlib.h>
 #include <string.h>
 
-enum { MAX_BODY = 262144, MAX_BYTES = 200000, MAX_NUMBERS = 10000, MAX_STEPS = 10000, FLAT = 4 + 5 * 64 * 8 + 64, MARKING = 24, FILL = 165 };
+enum { MAX_BODY = 8388608, MAX_BYTES = 4000000, MAX_NUMBERS = 200000, MAX_STEPS = 200000, FILL = 165 };
+enum { SET = 8 * SET_WORDS, FLAT = 4 + 5 * MAX_EVENTS * SET + MAX_EVENTS, MARKING = 3 * SET, SNAPSHOT = MAX_MARKS / 8 };
 enum { LISTING = 18, LISTED_CHART = 25097, LISTED_BOOK = 49152, AND = 65533, OR = 65534, NOT = 65535 };
 
 #ifdef LEAN
@@ -50,19 +51,37 @@ static void say(const char *name, struct answer answer)
     printf("%s %" PRIu32 " %" PRIu32 " %" PRIu32, name, answer.code, answer.place, answer.other);
 }
 
-static void say_marking(struct marking marking)
+static void say_set(struct set set)
 {
-    printf(" %" PRIu64 " %" PRIu64 " %" PRIu64, marking.executed, marking.pending, marking.included);
+    for (int w = 0; w < SET_WORDS; w++)
+        printf(" %" PRIu64, set.word[w]);
 }
 
-static void say_sets(uint64_t conditions, uint64_t milestones)
+static void say_marking(struct marking marking)
 {
-    printf(" %" PRIu64 " %" PRIu64, conditions, milestones);
+    say_set(marking.executed);
+    say_set(marking.pending);
+    say_set(marking.included);
+}
+
+static void say_sets(struct set conditions, struct set milestones)
+{
+    say_set(conditions);
+    say_set(milestones);
+}
+
+static void say_relations(const struct flat_chart *chart, uint32_t e)
+{
+    say_set(chart->conditions[e]);
+    say_set(chart->responses[e]);
+    say_set(chart->milestones[e]);
+    say_set(chart->includes[e]);
+    say_set(chart->excludes[e]);
 }
 
 static void say_snapshot(const struct snapshot *snapshot)
 {
-    for (int w = 0; w < 4; w++) {
+    for (int w = 0; w < MARK_WORDS; w++) {
         uint64_t word = 0;
         for (int i = 0; i < 64; i++)
             word |= (uint64_t)snapshot->marks[64 * w + i] << i;
@@ -80,20 +99,28 @@ static void *filled(size_t bytes)
     return room;
 }
 
+static struct set set_at(const uint8_t *at)
+{
+    struct set set;
+    for (int w = 0; w < SET_WORDS; w++)
+        set.word[w] = number(at + 8 * w, 8);
+    return set;
+}
+
 static struct flat_chart flat_at(const uint8_t *at)
 {
     struct flat_chart chart = {.count = (uint32_t)number(at, 4)};
-    uint64_t *tables[5] = {chart.conditions, chart.responses, chart.milestones, chart.includes, chart.excludes};
+    struct set *tables[5] = {chart.conditions, chart.responses, chart.milestones, chart.includes, chart.excludes};
     for (int t = 0; t < 5; t++)
-        for (int e = 0; e < 64; e++)
-            tables[t][e] = number(at + 4 + 8 * (64 * t + e), 8);
-    memcpy(chart.roles, at + FLAT - 64, 64);
+        for (int e = 0; e < MAX_EVENTS; e++)
+            tables[t][e] = set_at(at + 4 + SET * (MAX_EVENTS * t + e));
+    memcpy(chart.roles, at + FLAT - MAX_EVENTS, MAX_EVENTS);
     return chart;
 }
 
 static struct marking marking_at(const uint8_t *at)
 {
-    return (struct marking){number(at, 8), number(at + 8, 8), number(at + 16, 8)};
+    return (struct marking){set_at(at), set_at(at + SET), set_at(at + 2 * SET)};
 }
 
 static void read_chart(const uint8_t *image, size_t length)
@@ -102,10 +129,10 @@ static void read_chart(const uint8_t *image, size_t length)
     say("read", reading.answer);
     printf(" %" PRIu32, reading.chart.count);
     say_marking(reading.start);
-    for (uint32_t e = 0; e < reading.chart.count; e++)
-        printf(" %" PRIu64 " %" PRIu64 " %" PRIu64 " %" PRIu64 " %" PRIu64 " %u", reading.chart.conditions[e],
-               reading.chart.responses[e], reading.chart.milestones[e], reading.chart.includes[e],
-               reading.chart.excludes[e], (unsigned)reading.chart.roles[e]);
+    for (uint32_t e = 0; e < reading.chart.count; e++) {
+        say_relations(&reading.chart, e);
+        printf(" %u", (unsigned)reading.chart.roles[e]);
+    }
 }
 
 static bool on_chart(int operation, const uint8_t *at, size_t length)
@@ -159,8 +186,7 @@ static void read_back(const uint8_t *book, size_t length)
     say("back", back.answer);
     printf(" %" PRIu32, back.chart.count);
     for (uint32_t e = 0; e < back.chart.count; e++)
-        printf(" %" PRIu64 " %" PRIu64 " %" PRIu64 " %" PRIu64 " %" PRIu64, back.chart.conditions[e], back.chart.responses[e],
-               back.chart.milestones[e], back.chart.includes[e], back.chart.excludes[e]);
+        say_relations(&back.chart, e);
 }
 
 static bool check(const uint8_t *at, size_t length)
@@ -168,11 +194,11 @@ static bool check(const uint8_t *at, size_t length)
     if (length < 8 || number(at, 4) > MAX_NUMBERS)
         return false;
     size_t count = number(at, 4);
-    uint16_t *numbers = filled(2 * count);
+    uint32_t *numbers = filled(4 * count), sum = 1;
     say("check", CHECK(at + 8, length - 8, (uint32_t)number(at + 4, 4), numbers, count));
-    uint32_t sum = 1;
     for (size_t i = 0; i < count; i++)
-        sum = adler((const uint8_t[]){(uint8_t)numbers[i], (uint8_t)(numbers[i] >> 8)}, 2, sum);
+        for (int b = 0; b < 32; b += 8)
+            sum = adler((const uint8_t[]){(uint8_t)(numbers[i] >> b)}, 1, sum);
     printf(" %" PRIu32, sum);
     free(numbers);
     return true;
@@ -181,21 +207,21 @@ static bool check(const uint8_t *at, size_t length)
 static struct snapshot snapshot_at(const uint8_t *at)
 {
     struct snapshot snapshot;
-    for (int m = 0; m < 256; m++)
+    for (int m = 0; m < MAX_MARKS; m++)
         snapshot.marks[m] = at[m / 8] >> (m % 8) & 1;
     return snapshot;
 }
 
 static bool complete(const uint8_t *at, size_t length)
 {
-    if (length < 40 || number(at + 36, 4) > MAX_NUMBERS || length < 40 + 2 * number(at + 36, 4))
+    enum { BEFORE = 4 + SNAPSHOT + 4 };
+    if (length < BEFORE || number(at + BEFORE - 4, 4) > MAX_NUMBERS || length < BEFORE + 4 * number(at + BEFORE - 4, 4))
         return false;
-    size_t count = number(at + 36, 4);
+    size_t count = number(at + BEFORE - 4, 4), start = BEFORE + 4 * count;
     struct snapshot snapshot = snapshot_at(at + 4);
-    uint16_t *numbers = filled(2 * count);
+    uint32_t *numbers = filled(4 * count);
     for (size_t i = 0; i < count; i++)
-        numbers[i] = (uint16_t)number(at + 40 + 2 * i, 2);
-    size_t start = 40 + 2 * count;
+        numbers[i] = (uint32_t)number(at + BEFORE + 4 * i, 4);
     struct settled settled = COMPLETE(at + start, length - start, numbers, count, snapshot, (uint32_t)number(at, 4));
     say("complete", settled.answer);
     say_snapshot(&settled.snapshot);
@@ -218,11 +244,12 @@ static bool build_index(const uint8_t *at, size_t length)
 // The index is copied, so that a sanitizer sees a step past its end.
 static bool complete_indexed(const uint8_t *at, size_t length)
 {
-    if (length < 40 || length - 40 < number(at + 36, 4))
+    enum { BEFORE = 4 + SNAPSHOT + 4 };
+    if (length < BEFORE || length - BEFORE < number(at + BEFORE - 4, 4))
         return false;
-    size_t bytes = number(at + 36, 4), start = 40 + bytes;
+    size_t bytes = number(at + BEFORE - 4, 4), start = BEFORE + bytes;
     uint8_t *index = filled(bytes);
-    memcpy(index, at + 40, bytes);
+    memcpy(index, at + BEFORE, bytes);
     struct indexed indexed = COMPLETE_INDEXED(at + start, length - start, index, bytes, snapshot_at(at + 4), (uint32_t)number(at, 4));
     say("indexed", indexed.answer);
     say_snapshot(&indexed.snapshot);
@@ -233,9 +260,9 @@ static bool complete_indexed(const uint8_t *at, size_t length)
 
 static bool complete_list(const uint8_t *at, size_t length)
 {
-    if (length < 36 || number(at + 32, 4) > MAX_NUMBERS)
+    if (length < SNAPSHOT + 4 || number(at + SNAPSHOT, 4) > MAX_NUMBERS)
         return false;
-    size_t count = number(at + 32, 4), start = 40 + 4 * count; // where the index begins
+    size_t count = number(at + SNAPSHOT, 4), start = SNAPSHOT + 8 + 4 * count; // where the index begins
     if (length < start || length - start < number(at + start - 4, 4))
         return false;
     size_t bytes = number(at + start - 4, 4), end = start + bytes;
@@ -243,7 +270,7 @@ static bool complete_list(const uint8_t *at, size_t length)
     memcpy(index, at + start, bytes);
     uint32_t *stages = filled(4 * count);
     for (size_t i = 0; i < count; i++)
-        stages[i] = (uint32_t)number(at + 36 + 4 * i, 4);
+        stages[i] = (uint32_t)number(at + SNAPSHOT + 4 + 4 * i, 4);
     struct listed listed = COMPLETE_LIST(at + end, length - end, index, bytes, snapshot_at(at), stages, count);
     say("list", listed.answer);
     printf(" %" PRIu32, listed.granted);
@@ -289,9 +316,9 @@ static bool smaller(const uint8_t *at, size_t length)
         return false;
     size_t bytes = number(at, 4);
     struct flat_chart chart = flat_at(at + 4);
-    uint8_t *room = filled(bytes), table[512];
+    uint8_t *room = filled(bytes), table[2 * MAX_MARKS];
     struct smaller smaller = plain_derive_smaller(&chart, marking_at(at + 4 + FLAT), room, bytes);
-    for (size_t m = 0; m < 256; m++) {
+    for (size_t m = 0; m < MAX_MARKS; m++) {
         table[2 * m] = (uint8_t)smaller.table[m];
         table[2 * m + 1] = (uint8_t)(smaller.table[m] >> 8);
     }
