@@ -10,7 +10,7 @@ FLAGS = {'executed': 1, 'pending': 2, 'included': 4}
 KINDS = {'condition': 0, 'response': 1, 'milestone': 2, 'include': 3, 'exclude': 4}
 
 # The longest text that is read, in bytes; comments and long names have room in it.
-MAX_TEXT = 1048576
+MAX_TEXT = 4194304
 # How much of a name a message shows.
 SHOWN = 40
 

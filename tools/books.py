@@ -16,7 +16,7 @@ RESERVED = set('on become yes no if unless set clear and or not cond stage mark 
 COUNTS = ['stages', 'marks', 'rules', 'conditions', 'words']
 
 # The longest text that is read, in bytes: far more than the longest book takes.
-LONGEST_TEXT = 1 << 22
+LONGEST_TEXT = 1 << 24
 # How many digits a number may have, and how long a refusal of a line gets.
 DIGITS, LONGEST_LINE = 40, 400
 
@@ -107,9 +107,9 @@ def bad_counts(s, m, r, q, w):
     return [words for bad, words in (
         (s > MAX_EVENTS, '%s, and at most %d are allowed' % (plural(s, 'stage'), MAX_EVENTS)),
         (m < s <= MAX_EVENTS, '%s and %s, and every stage is a mark' % (plural(s, 'stage'), plural(m, 'mark'))),
-        (m > MAX_MARKS, '%s, and at most %d are allowed' % (plural(m, 'mark'), MAX_MARKS)),
+        (m > MAX_MARKS, '%s, and at most %s are allowed' % (plural(m, 'mark'), format(MAX_MARKS, ','))),
         (r > MAX_RULES, '%s, and at most %s are allowed' % (plural(r, 'rule'), format(MAX_RULES, ','))),
-        (q > MAX_CONDITIONS, '%s, and at most %d are allowed' % (plural(q, 'condition'), MAX_CONDITIONS)),
+        (q > MAX_CONDITIONS, '%s, and at most %s are allowed' % (plural(q, 'condition'), format(MAX_CONDITIONS, ','))),
         (w > MAX_WORDS, '%s, and at most %s are allowed' % (plural(w, 'word'), format(MAX_WORDS, ','))),
     ) if bad]
 

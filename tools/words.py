@@ -13,13 +13,13 @@ PASSED, REFUSED, USAGE, COULD_NOT = 0, 1, 2, 3
 
 # ---- limits and formats, under the names of crates/paper
 
-MAX_NODES = 128
-MAX_RELATIONS = 4096
-MAX_EVENTS = 64
-MAX_MARKS = 256
-MAX_RULES = 8384
-MAX_CONDITIONS = 256
-MAX_WORDS = 41024
+MAX_NODES = 512
+MAX_RELATIONS = 16384
+MAX_EVENTS = 256
+MAX_MARKS = 1024
+MAX_RULES = 131840
+MAX_CONDITIONS = 1024
+MAX_WORDS = 655616
 MAX_STACK = 16
 MAX_ROLES = 8
 MAX_LIST = 4096
@@ -42,10 +42,13 @@ CONDITION_SIZE = 8
 WORD_SIZE = 2
 INDEX_HEADER = 8
 INDEX_STAGE = 8
-INDEX_RULE = 2
+INDEX_RULE = 4
 AND = 65533
 OR = 65534
 NOT = 65535
+
+# How many numbers of 64 bits a set of events takes.
+SET_WORDS = MAX_EVENTS // 64
 
 LONGEST_CHART = CHART_HEADER + NODE_SIZE * MAX_NODES + RELATION_SIZE * MAX_RELATIONS
 LONGEST_BOOK = BOOK_HEADER + RULE_SIZE * MAX_RULES + CONDITION_SIZE * MAX_CONDITIONS + WORD_SIZE * MAX_WORDS
@@ -70,8 +73,8 @@ REFUSALS = {
     14: ('UNFIT', 'the flattened chart or the marking is unfit'),
     15: ('BOOK_ROOM', 'the book takes {place:,} bytes, more than there is room for'),
     20: ('BOOK_SHORT', 'the book is too short to have a header, which takes {BOOK_HEADER} bytes'),
-    21: ('BOOK_COUNT', 'the header has a count out of range: a book has up to {MAX_EVENTS} stages, as many marks or more but up to {MAX_MARKS}, '
-         'up to {MAX_RULES:,} rules, {MAX_CONDITIONS} conditions and {MAX_WORDS:,} words'),
+    21: ('BOOK_COUNT', 'the header has a count out of range: a book has up to {MAX_EVENTS} stages, as many marks or more but up to {MAX_MARKS:,}, '
+         'up to {MAX_RULES:,} rules, {MAX_CONDITIONS:,} conditions and {MAX_WORDS:,} words'),
     22: ('BOOK_LENGTH', "the header's offsets, or the length of the file, do not fit its counts"),
     23: ('BAD_RULE', '{rule} is a bad record'),
     24: ('BAD_CONDITION', '{condition} is a bad record or has a bad text'),
@@ -205,6 +208,11 @@ def number16(data, at):
 
 def number32(data, at):
     return int.from_bytes(data[at:at + 4], 'little')
+
+
+def sets_of(numbers):
+    """The sets that `vectors` prints, each as SET_WORDS numbers of 64 bits, the lowest members first; each set as one number."""
+    return [sum(word << 64 * i for i, word in enumerate(numbers[at:at + SET_WORDS])) for at in range(0, len(numbers), SET_WORDS)]
 
 
 def looks_like_chart(data):
