@@ -709,11 +709,12 @@ static bool same_relations(const struct ozhimka_chart *one, const struct ozhimka
            && memcmp(one->excludes, other->excludes, sizeof one->excludes) == 0;
 }
 
+// Field by field: the bytes between the count and the first table may be any.
 static bool is_refused_back(size_t length, uint32_t code)
 {
     static const struct ozhimka_chart empty;
     struct ozhimka_chart_behind back = ozhimka_read_back(book, length);
-    return is(back.answer, code, 0) && memcmp(&back.chart, &empty, sizeof empty) == 0;
+    return is(back.answer, code, 0) && same_relations(&back.chart, &empty) && memcmp(back.chart.roles, empty.roles, sizeof empty.roles) == 0;
 }
 
 // That each table comes back as itself, roles do not, and what is derived from it is the same book; and that no other book is taken, though it
