@@ -17,7 +17,7 @@ use Rattle.sets.specs.Laws.{has-union}
 use Rattle.wide.specs.Words.{joined, words-same}
 use Rattle.wide.specs.Number.{number, rowOf, rowsIn, putRow, row-at, rows-put}
 use Rattle.wide.specs.declared.Set.{Set}
-use Rattle.closure.specs.Reached.{length-clear, clear-at}
+use Rattle.closure.specs.Cleared.{length-clear, clear-at}
 use Rattle.book.specs.Book.{Book, ruleOf}
 use Rattle.clashes.specs.Clash.{clash}
 use Rattle.clashes.specs.Pairs.{clashing, clashFirst, clashSecond, clashing-of, clashing-low, alone-some}

@@ -38,12 +38,6 @@ pub or-right : (x y : Bool) → y ≡ true → (x || y) ≡ true
 or-right true y e = refl
 or-right false y e = e
 
--- what x has already, x takes in without a change
-pub absorbed : (x y : Bool) → (x || (y && x)) ≡ x
-absorbed true y = refl
-absorbed false true = refl
-absorbed false false = refl
-
 -- what is not true is false
 pub not-so : {b : Bool} → (b ≡ true → ⊥) → b ≡ false
 not-so {b = true} h = absurd (h refl)

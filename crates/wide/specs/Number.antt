@@ -16,7 +16,7 @@ use Rattle.general.specs.Tables.{tabulate, getD-tabulate, length-tabulate}
 use lib.ListN.{getD, set, length, length-set, replicate}
 use lib.Seq.{ext-getD, getD-set-same, getD-set-other}
 use Rattle.sets.specs.Set.{has, union, inter, minus, only, size, lowest, allBelow, within}
-use Rattle.wide.specs.Words.{joined, Words, none, more, joined-union, joined-inter, joined-minus, joined-has, joined-size, lowest-here, lowest-later, joined-only, joined-all, joined-empty, wordsAt, joined-lt, joined-injective, words-same}
+use Rattle.wide.specs.Words.{joined, Words, none, more, joined-union, joined-inter, joined-minus, joined-has, joined-size, lowest-here, lowest-later, joined-only, joined-all, joined-empty, wordsAt, joined-lt, joined-injective, words-same, row-injective}
 use Rattle.wide.specs.declared.Set.{Set}
 
 abbrev pub wordsOf : Set → List ℕ
@@ -182,6 +182,16 @@ number-row t e h = number-row-in t e ∙ sym (row-at 256 t e h)
 pub rows-none : rowsOf (replicate 1024 0) ≡ replicate 256 0
 unfolding rowsIn rowOf tabulate
 rows-none = refl
+
+-- tables of the same rows are the same words
+pub rows-injective : (n : ℕ) (t u : List ℕ) → Words t → Words u → length t ≡ n * 4 → length u ≡ n * 4 → rowsIn n t ≡ rowsIn n u → t ≡ u
+unfolding rowOf
+rows-injective n t u p q l k e =
+    ext-getD 0 t u (l ∙ sym k) (λ i h.
+    let f : i / 4 < n = omega arith in
+    let d : i / 4 * 4 + i % 4 ≡ i = omega arith in
+    let r : rowOf t (i / 4) ≡ rowOf u (i / 4) = sym (row-at n t (i / 4) f) ∙ ap (λ (x : List ℕ). getD x (i / 4) 0) e ∙ row-at n u (i / 4) f in
+    rw d at (row-injective 4 t u (i / 4 * 4) p q r (i % 4) (omega arith)))
 
 -- ---- a store to a row
 

@@ -210,6 +210,12 @@ words-at zero t at i j h = absurd (omega arith)
 words-at (suc k) t at i zero h = rw add-zero
 words-at (suc k) t at i (suc j) h = words-at k t at (suc i) j (omega arith) ∙ rw (add-suc, suc-add)
 
+-- past the last word stands none
+pub word-below : (ws : List ℕ) → Words ws → (j : ℕ) → getD ws j 0 < 2 ^ 64
+word-below [] none j = omega arith
+word-below (w ∷ ws) (more h p) zero = h
+word-below (w ∷ ws) (more h p) (suc j) = word-below ws p j
+
 words-fit : (k : ℕ) (t : List ℕ) (at i : ℕ) → ((j : ℕ) → getD t j 0 < 2 ^ 64) → Words (wordsAt k t at i)
 words-fit zero t at i h = none
 words-fit (suc k) t at i h = more (h (at + i)) (words-fit k t at (suc i) h)
@@ -226,3 +232,17 @@ row-has width t a b h l =
 pub words-same : (k : ℕ) (t u : List ℕ) (at i : ℕ) → ((j : ℕ) → i ≤ j → j < i + k → getD t (at + j) 0 ≡ getD u (at + j) 0) → wordsAt k t at i ≡ wordsAt k u at i
 words-same zero t u at i h = refl
 words-same (suc k) t u at i h = ap₂ _∷_ (h i (omega arith) (omega arith)) (words-same k t u at (suc i) (λ j p q. h j (omega arith) (omega arith)))
+
+-- ---- and rows of one number hold the same words
+
+wide-at : (k : ℕ) (t : List ℕ) (at i : ℕ) → length (wordsAt k t at i) ≡ k
+wide-at zero t at i = refl
+wide-at (suc k) t at i = ap suc (wide-at k t at (suc i))
+
+pub row-injective : (k : ℕ) (t u : List ℕ) (at : ℕ) → Words t → Words u → joined (wordsAt k t at 0) ≡ joined (wordsAt k u at 0) → (j : ℕ) → j < k → getD t (at + j) 0 ≡ getD u (at + j) 0
+row-injective k t u at p q e j h =
+    let same : wordsAt k t at 0 ≡ wordsAt k u at 0 =
+    joined-injective (wordsAt k t at 0) (wordsAt k u at 0) (words-fit k t at 0 (word-below t p)) (words-fit k u at 0 (word-below u q)) (wide-at k t at 0 ∙ sym (wide-at k u at 0)) e in
+    let v : getD (wordsAt k t at 0) j 0 ≡ getD t (at + j) 0 = words-at k t at 0 j h ∙ rw zero-add in
+    let w : getD (wordsAt k u at 0) j 0 ≡ getD u (at + j) 0 = words-at k u at 0 j h ∙ rw zero-add in
+    sym v ∙ ap (λ (ws : List ℕ). getD ws j 0) same ∙ w

@@ -135,9 +135,13 @@ pub fn put_if(s: Set, e: usize, on: bool) -> Set
     s
 }
 
+// Most words of most sets are empty, and counting digits takes a dozen steps where the processor has no instruction for it.
 fn word_count(w: u64) -> u32
     ensures { λ r. ⌜ (r ≡ size w) × (r ≤ 64) ⌝ }
 {
+    if w == 0 {
+        return 0;
+    }
     u64::count_ones(w)
 }
 

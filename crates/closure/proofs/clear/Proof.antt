@@ -5,7 +5,7 @@ use mathlib.Core.List.{_++_}
 use native.Mathlib.Omega.{arith}
 use lib.ListN.{length, drop, replicate}
 use borrow.Author.Needs.{needs}
-use Rattle.closure.specs.Reached.{clear-step, clear-end}
+use Rattle.closure.specs.Cleared.{clear-step, clear-end}
 use Rattle.closure.proofs.clear.Statement.{statement}
 use Rattle.closure.proofs.clear.Tie as tie
 
