@@ -1,5 +1,5 @@
 -- Charts stored before there were roles read as they did, but those that 9 was given for: without upper bits the reading is the one whose tests 4 and 6 take a node's
--- whole flags and whose flat chart names no role. Assumes nothing.
+-- whole flags and whose flat chart names no role. Its limits are those of now (request xiv; Larger has those of before). Assumes nothing.
 use Prim.Native.Nat.{ℕ, zero, suc, _≤_, _<_}
 use mathlib.Core.Path.{_≡_, refl, ap, _∙_}
 use mathlib.Core.Bool.{Bool, not, _&&_, _||_}

@@ -7,6 +7,7 @@ ghost use Rattle.records.specs.Image.{Whole};
 ghost use Rattle.flat_chart.specs.Chart.{condition, response, milestone, include, exclude, chartOf};
 ghost use Rattle.graph.specs.Numbers.{marksOf};
 ghost use Rattle.flattening.specs.Flattening.{flatTable, startMarking};
+ghost use Rattle.flattening.specs.Order.{Ordered};
 ghost use Rattle.flattening.specs.Meaning.{Ground};
 ghost use Rattle.chart.specs.Numbers.{readingOf};
 ghost use Rattle.chart.specs.Reading.{readingRelations, readingNodes, reading};
@@ -29,6 +30,7 @@ use paper::CHART_SHORT;
 use paper::GROUP_FLAGS;
 use paper::MANY_EVENTS;
 use paper::MAX_EVENTS;
+use paper::MAX_NODES;
 use paper::PARENTS_LOOP;
 use wide::TABLE;
 
@@ -97,28 +99,71 @@ fn judge(image: &[u8]) -> Answer
 // The five tables, one after another, each into room of zeros. The two tables of a set for each node are made once and lent.
 fn put_tables(
     image: &[u8],
-    n: usize,
-    k: usize,
+    size: Size,
     nodes: &[usize; MAX_EVENTS],
-    events: usize,
+    order: &[u16; MAX_NODES],
     conditions: &mut [u64; TABLE],
     responses: &mut [u64; TABLE],
     milestones: &mut [u64; TABLE],
     includes: &mut [u64; TABLE],
     excludes: &mut [u64; TABLE],
 )
-    requires { ⌜ (Ground (now image) n k (now nodes) events) × (rowsOf (now conditions) ≡ replicate maxEvents 0) × (rowsOf (now responses) ≡ replicate maxEvents 0) × (rowsOf (now milestones) ≡ replicate maxEvents 0) × (rowsOf (now includes) ≡ replicate maxEvents 0) × (rowsOf (now excludes) ≡ replicate maxEvents 0) ⌝ }
+    requires { ⌜ (Ground (now image) (size .n) (size .k) (now nodes) (size .events)) × (Ordered (now image) (now order) (size .groups)) × (rowsOf (now conditions) ≡ replicate maxEvents 0) × (rowsOf (now responses) ≡ replicate maxEvents 0) × (rowsOf (now milestones) ≡ replicate maxEvents 0) × (rowsOf (now includes) ≡ replicate maxEvents 0) × (rowsOf (now excludes) ≡ replicate maxEvents 0) ⌝ }
     ensures { λ _. ⌜ (rowsOf (now (conditions .exit)) ≡ flatTable (now (image .entry)) condition) × (rowsOf (now (responses .exit)) ≡ flatTable (now (image .entry)) response) × (rowsOf (now (milestones .exit)) ≡ flatTable (now (image .entry)) milestone) × (rowsOf (now (includes .exit)) ≡ flatTable (now (image .entry)) include) × (rowsOf (now (excludes .exit)) ≡ flatTable (now (image .entry)) exclude) ⌝ }
 {
     let mut below = [0u64; NODE_TABLE];
-    flattening::put_members(image, n, k, nodes, events, &mut below);
+    flattening::put_members(image, size, nodes, order, &mut below);
     let mut room = [0u64; NODE_TABLE];
-    let size = Size { n, k, events };
-    flattening::put_table(image, size, nodes, &below, &mut room, CONDITION, conditions);
-    flattening::put_table(image, size, nodes, &below, &mut room, RESPONSE, responses);
-    flattening::put_table(image, size, nodes, &below, &mut room, MILESTONE, milestones);
-    flattening::put_table(image, size, nodes, &below, &mut room, INCLUDE, includes);
-    flattening::put_table(image, size, nodes, &below, &mut room, EXCLUDE, excludes);
+    flattening::put_table(
+        image,
+        size,
+        nodes,
+        order,
+        &below,
+        &mut room,
+        CONDITION,
+        conditions,
+    );
+    flattening::put_table(
+        image,
+        size,
+        nodes,
+        order,
+        &below,
+        &mut room,
+        RESPONSE,
+        responses,
+    );
+    flattening::put_table(
+        image,
+        size,
+        nodes,
+        order,
+        &below,
+        &mut room,
+        MILESTONE,
+        milestones,
+    );
+    flattening::put_table(
+        image,
+        size,
+        nodes,
+        order,
+        &below,
+        &mut room,
+        INCLUDE,
+        includes,
+    );
+    flattening::put_table(
+        image,
+        size,
+        nodes,
+        order,
+        &below,
+        &mut room,
+        EXCLUDE,
+        excludes,
+    );
 }
 
 fn start_marking(
@@ -169,19 +214,26 @@ fn put_chart(
     let groups = nesting::groups_of(image, n, k);
     let events = nesting::count_events(&groups, n);
     let nodes = nesting::event_nodes(&groups, n);
-    put_tables(
-        image,
+    let mut order = [0u16; MAX_NODES];
+    let ordered = flattening::order::put_order(image, n, k, &mut order);
+    let size = Size {
         n,
         k,
-        &nodes,
         events,
+        groups: ordered,
+    };
+    put_tables(
+        image,
+        size,
+        &nodes,
+        &order,
         conditions,
         responses,
         milestones,
         includes,
         excludes,
     );
-    flattening::put_roles(image, n, k, &nodes, events, roles);
+    flattening::put_roles(image, size, &nodes, &order, roles);
     Start {
         count: events as u32,
         marking: start_marking(image, n, k, &nodes, events),
@@ -189,7 +241,7 @@ fn put_chart(
 }
 
 // The flat chart and the start marking of an image, or the refusal that comes first.
-// Cost: some passes over the nodes, six over the relations, and for each event seven climbs over the groups above it.
+// Cost: some passes over the nodes, six over the relations, and seven over the groups in their order: no event is climbed from.
 // Stack: about 84 KiB, of which the tables take 40 and the two tables of a set for each node 32. One reading is made, whatever the answer: each further one would add 41.
 pub fn read(image: &[u8]) -> Reading
     ensures { λ r. ⌜ readingOf r ≡ reading (now (image .entry)) ⌝ }

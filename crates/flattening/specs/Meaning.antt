@@ -16,13 +16,14 @@ use Rattle.general.specs.Below.{some, some-of, some-at, some-none, some-same, f
 use Rattle.general.specs.Tables.{tabulate, length-tabulate, getD-tabulate}
 use Rattle.sets.specs.Collecting.{collect-same}
 use Rattle.general.specs.Numbering.{tally-find, first-numbered}
-use Rattle.records.specs.Image.{nodes as nodes-of, relations, fromOf, toOf, kindOf, flagsOf, rolesAt, nodeAt, Whole}
+use Rattle.records.specs.Image.{nodes as nodes-of, relations, fromOf, toOf, kindOf, flagsOf, rolesAt, nodeAt, parentOf, Whole}
 use Rattle.nesting.specs.Nesting.{parent, atOrAbove, isGroup, isEvent, number, eventCount, eventNode, flaggedGroupAt}
 use Rattle.nesting.specs.Climbing.{Straight, fromUp}
 use Rattle.nesting.specs.Tables.{Groups, isEventIn, flaggedIn, EventNodes}
 use Rattle.flattening.specs.Flattening.{holdsBack, leads, related, entered, flatSet, flagged}
 use Rattle.flattening.specs.Flattening.{namesAt, named, flatRoles, roleTable}
-use Rattle.flattening.specs.Rows.{Members, near, nearOf, farOf, near-fits, Good, entersAt, Gathered, inRow, someAbove, namesRole, Flat, flaggedBy}
+use Rattle.flattening.specs.Rows.{Members, near, nearOf, farOf, near-fits, Good, entersAt, Gathered, inRow, someAbove, namesRole, withParent, Handed, Between, with-above, roles-above, Flat, flat-same, flaggedBy}
+use Rattle.flattening.specs.Order.{Ordered}
 
 -- ---- nodes
 
@@ -130,7 +131,7 @@ module _ {image : List ℕ} {n k : ℕ} {nodes : List ℕ} {events : ℕ} (g : G
       inward true b c = refl
       inward false b c = sym (and-false b)
 
-  pub roles-are : {roles : List ℕ} → Flat image (namesRole image) nodes events roles → roles ≡ roleTable image
+  roles-are : {roles : List ℕ} → Flat (λ e r. someAbove image (namesRole image r) (getD nodes e 0)) events roles → roles ≡ roleTable image
   unfolding roleTable
   roles-are {roles} m =
       ext-getD 0 roles (tabulate maxEvents (flatRoles image)) (m .size ∙ sym (length-tabulate maxEvents (flatRoles image)))
@@ -144,7 +145,13 @@ module _ {image : List ℕ} {n k : ℕ} {nodes : List ℕ} {events : ℕ} (g : G
           ∙ ap (λ (x : ℕ). ltb e x && (ltb r maxRoles && named image e r)) (g .count)
           ∙ sym (roles-has image e r))
 
-  module _ {members gathered : List ℕ} {κ : ℕ} (m : Members image nodes events members) (a : Gathered image members κ k gathered) where
+  -- the roles that an event takes from its node and that node's parent, once the groups have taken in what stands above them
+  pub roles-of : {order all roles : List ℕ} {groups : ℕ} → Ordered image order groups → Handed image order (namesRole image) groups all
+      → Flat (λ e f. withParent image n (namesRole image f (getD nodes e 0)) all (parentOf image (getD nodes e 0)) f) events roles → roles ≡ roleTable image
+  roles-of d h t =
+      roles-are (flat-same t (λ e f l. let i = g .placed e l .1 in let q = g .whole .nodes in roles-above (g .whole) h f i (d .all (getD nodes e 0) (omega arith))))
+
+  module _ {members gathered : List ℕ} {κ : ℕ} (m : Members image nodes events members) (a : Gathered image members n κ k gathered) where
     -- relation r is gathered at or above the node of e, and gives it f
     abbrev gives : ℕ → ℕ → ℕ → Bool
     gives e f r = eqb (kindOf image r) κ && (fromUp image (getD nodes e 0) (nearOf image r) && has (getD members (farOf image r) 0) f)
@@ -184,7 +191,7 @@ module _ {image : List ℕ} {n k : ℕ} {nodes : List ℕ} {events : ℕ} (g : G
         (let o = near-fits (g .goods r j) in let q = g .whole .nodes in omega arith)
         (rw (w .0, a .each (nearOf image r) f) (some-of k (entersAt image members κ (nearOf image r) f) r j (rw (v .0, eq-eqb (nearOf image r) (nearOf image r) refl, w .1)))))
 
-    pub table-is : {table : List ℕ} → Flat image (inRow gathered) nodes events table → table ≡ tabulate maxEvents (flatSet image κ)
+    table-is : {table : List ℕ} → Flat (λ e f. someAbove image (inRow gathered f) (getD nodes e 0)) events table → table ≡ tabulate maxEvents (flatSet image κ)
     unfolding entered related
     table-is {table} t =
         ext-getD 0 table (tabulate maxEvents (flatSet image κ)) (t .size ∙ sym (length-tabulate maxEvents (flatSet image κ)))
@@ -204,3 +211,12 @@ module _ {image : List ℕ} {n k : ℕ} {nodes : List ℕ} {events : ℕ} (g : G
             (λ i. rw i)
             ∙ ap₂ (λ (x y : ℕ). (ltb e x && ltb f x) && cond (holdsBack κ) (some y (leads image κ f e)) (some y (leads image κ e f))) (g .count) (g .whole .relations)
             ∙ sym (flat-has image κ e f))
+
+    -- the rows that an event has at its node and at that node's parent, once the groups have taken in what stands above them
+    pub table-of : {order rows table : List ℕ} {groups : ℕ} → Ordered image order groups → Handed image order (inRow gathered) groups rows → Between image (inRow gathered) rows
+        → Flat (λ e f. withParent image n (inRow rows f (getD nodes e 0)) rows (parentOf image (getD nodes e 0)) f) events table → table ≡ tabulate maxEvents (flatSet image κ)
+    table-of {order} {rows} d h b t =
+        table-is (flat-same t (λ e f l.
+        let i = g .placed e l .1 in
+        let q = g .whole .nodes in
+        with-above (g .whole) h f i refl (d .all (getD nodes e 0) (omega arith)) (b .low (getD nodes e 0) f) (b .high (getD nodes e 0) f (omega arith))))

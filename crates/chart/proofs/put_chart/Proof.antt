@@ -1,4 +1,7 @@
 -- `chart::put_chart` meets its contract. Assumes nothing.
+use Prim.Native.Nat.{ℕ}
+use lib.ListN.{length-replicate}
+use Rattle.paper.specs.Limits.{maxNodes}
 use native.Mathlib.Omega.{arith}
 use Rattle.chart.proofs.Returns.{whole-right, room-for, ground-right, chart-refused, chart-granted, marking-refused, marking-granted, accepted}
 use borrow.Author.Needs.{needs}
@@ -22,30 +25,35 @@ put-chart-spec =
       whole-right h (c .before .before .before .before .before .node-count .ensures) (c .before .before .before .before .relation-count .ensures) .few,
       room-for h (c .before .before .before .before .before .node-count .ensures) (c .before .before .before .before .relation-count .ensures) (c .before .before .before .groups-of .ensures),
     ))
-    (λ c κs. let b = c .before .before .before .before .before .before in
+    (λ c κs. let b = c .before in
     let s = b .before .before .before .before .before .before .before .before .before in
     let h = accepted _ (s .pre .0) (b .before .before .before .before .before .before .before .if1 .left) in
     let g = ground-right h (b .before .before .before .before .before .before .node-count .ensures) (b .before .before .before .before .before .relation-count .ensures) (b .before .before .before .before .groups-of .ensures) (b .before .before .count-events .ensures) (b .event-nodes .ensures) in
-    (g, s .pre .1, s .pre .2, s .pre .3, s .pre .4, s .pre .5))
+    (g .whole, g .straight, length-replicate {A = ℕ} maxNodes 0))
     (λ c κs. let b = c .before .before .before .before .before .before .before .before .before in
     let s = b .before .before .before .before .before .before .before .before .before in
     let h = accepted _ (s .pre .0) (b .before .before .before .before .before .before .before .if1 .left) in
     let g = ground-right h (b .before .before .before .before .before .before .node-count .ensures) (b .before .before .before .before .before .relation-count .ensures) (b .before .before .before .before .groups-of .ensures) (b .before .before .count-events .ensures) (b .event-nodes .ensures) in
-    (g, s .pre .6))
-    (λ c. let b = c .before .before .before .before .before .before .before .before .before .before in
+    (g, c .before .before .before .before .before .before .before .put-order .ensures, s .pre .1, s .pre .2, s .pre .3, s .pre .4, s .pre .5))
+    (λ c κs. let b = c .before .before .before .before .before .before .before .before .before .before .before .before .before in
+    let s = b .before .before .before .before .before .before .before .before .before in
+    let h = accepted _ (s .pre .0) (b .before .before .before .before .before .before .before .if1 .left) in
+    let g = ground-right h (b .before .before .before .before .before .before .node-count .ensures) (b .before .before .before .before .before .relation-count .ensures) (b .before .before .before .before .groups-of .ensures) (b .before .before .count-events .ensures) (b .event-nodes .ensures) in
+    (g, c .before .before .before .before .before .before .before .before .before .before .before .put-order .ensures, s .pre .6))
+    (λ c. let b = c .before .before .before .before .before .before .before .before .before .before .before .before .before .before in
     let s = b .before .before .before .before .before .before .before .before .before in
     let h = accepted _ (s .pre .0) (b .before .before .before .before .before .before .before .if1 .left) in
     let g = ground-right h (b .before .before .before .before .before .before .node-count .ensures) (b .before .before .before .before .before .relation-count .ensures) (b .before .before .before .before .groups-of .ensures) (b .before .before .count-events .ensures) (b .event-nodes .ensures) in
     record { fits = omega (arith, g .few) })
-    (λ c κs. let b = c .before .before .before .before .before .before .before .before .before .before .before in
+    (λ c κs. let b = c .before .before .before .before .before .before .before .before .before .before .before .before .before .before .before in
     let s = b .before .before .before .before .before .before .before .before .before in
     let h = accepted _ (s .pre .0) (b .before .before .before .before .before .before .before .if1 .left) in
     let g = ground-right h (b .before .before .before .before .before .before .node-count .ensures) (b .before .before .before .before .before .relation-count .ensures) (b .before .before .before .before .groups-of .ensures) (b .before .before .count-events .ensures) (b .event-nodes .ensures) in
     g)
-    (λ c. let b = c .before .before .before .before .before .before .before .before .before .before .before .before in
+    (λ c. let b = c .before .before .before .before .before .before .before .before .before .before .before .before .before .before .before .before in
     let s = b .before .before .before .before .before .before .before .before .before in
     let h = accepted _ (s .pre .0) (b .before .before .before .before .before .before .before .if1 .left) in
     let g = ground-right h (b .before .before .before .before .before .before .node-count .ensures) (b .before .before .before .before .before .relation-count .ensures) (b .before .before .before .before .groups-of .ensures) (b .before .before .count-events .ensures) (b .event-nodes .ensures) in (
-      chart-granted _ (s .pre .0) (b .before .before .before .before .before .before .before .if1 .left) (g .count) (c .before .before .before .before .before .put-tables .ensures) (c .before .before .put-roles .ensures),
+      chart-granted _ (s .pre .0) (b .before .before .before .before .before .before .before .if1 .left) (g .count) (c .before .before .before .before .before .before .put-tables .ensures) (c .before .before .put-roles .ensures),
       marking-granted _ (s .pre .0) (b .before .before .before .before .before .before .before .if1 .left) (c .start-marking .ensures),
     )))

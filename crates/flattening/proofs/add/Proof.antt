@@ -10,10 +10,10 @@ add-spec =
     tie.close
     (tie.spec
     (λ c κs. search needs) (λ c. search needs)
-    (λ c. add-other _ _ _ _ _ (c .before .kind-of .ensures) (c .if1 .taken))
+    (λ c. add-other _ _ _ _ _ _ (c .before .kind-of .ensures) (c .if1 .taken))
     (λ c κs. search needs) (λ c. search needs) (λ c κs. search needs) (λ c. search needs)
     (λ c κs. search needs) (λ c κs. search needs) (λ c κs. search needs) (λ c κs. search needs)
-    (λ c. add-back _ _ _ _ _ (c .before .before .before .before .before .before .before .before .kind-of .ensures) (c .before .before .before .before .before .before .before .if1 .left) (c .before .before .before .before .before .before .from-of .ensures) (c .before .before .before .before .before .to-of .ensures)
+    (λ c. add-back _ _ _ _ _ _ (c .before .before .before .before .before .before .before .before .kind-of .ensures) (c .before .before .before .before .before .before .before .if1 .left) (c .before .before .before .before .before .before .from-of .ensures) (c .before .before .before .before .before .to-of .ensures)
     (c .before .before .before .before .if2 .taken) (omega arith) (c .before .row-in .ensures) (c .take-in .ensures))
-    (λ c. add-on _ _ _ _ _ (c .before .before .before .before .before .before .before .before .kind-of .ensures) (c .before .before .before .before .before .before .before .if1 .left) (c .before .before .before .before .before .before .from-of .ensures) (c .before .before .before .before .before .to-of .ensures)
+    (λ c. add-on _ _ _ _ _ _ (c .before .before .before .before .before .before .before .before .kind-of .ensures) (c .before .before .before .before .before .before .before .if1 .left) (c .before .before .before .before .before .before .from-of .ensures) (c .before .before .before .before .before .to-of .ensures)
     (c .before .before .before .before .if2 .left) (omega arith) (c .before .row-in2 .ensures) (c .take-in2 .ensures)))

@@ -1,6 +1,5 @@
 -- `flattening::take_in` meets its contract. Assumes nothing.
 use Rattle.wide.specs.Number.{rows-join}
-use Rattle.paper.specs.Limits.{maxNodes}
 use native.Mathlib.Omega.{arith}
 use borrow.Author.Needs.{needs}
 use Rattle.flattening.proofs.take_in.Statement.{statement}
@@ -13,4 +12,4 @@ take-in-spec =
     (λ c κs. search needs)
     (λ c κs. search needs)
     (λ c κs. search needs)
-    (λ c. rows-join maxNodes _ _ _ _ _ _ (omega arith) (omega arith) (c .before .before .before .row-in .ensures) (c .before .before .join .ensures) (c .put-row .ensures)))
+    (λ c. rows-join _ _ _ _ _ _ _ (omega arith) (omega arith) (c .before .before .before .row-in .ensures) (c .before .before .join .ensures) (c .put-row .ensures)))
