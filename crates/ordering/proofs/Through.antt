@@ -17,6 +17,7 @@ use Rattle.order_theory.specs.Written.{Written, none, write, each-listed}
 use Rattle.order_theory.specs.Running.{next, greedy, runningOrder, fresh, greedy-distinct, running-whole, running-length}
 use Rattle.rule_order.specs.Nets.{rulesOf, targets-small}
 use Rattle.unwritten.specs.Counters.{Begun}
+use Rattle.ordering.specs.declared.scan.Scan.{Scan}
 use Rattle.ordering.specs.Scanning.{Scanned, Turn, scanned-first, order-below, order-past}
 
 greedy-few : (N : Net) (f : ℕ) (d : Written) → length (greedy N f d) ≤ f
@@ -35,21 +36,23 @@ long-no-loop s stage g h =
     (λ q i. fresh (rulesOf s stage) (countedRules (rulesOf s stage)) none q i .0))
 
 -- j rules of the order are come to
-pub record Through (s : List ℕ) (stage counted at passed : ℕ) (counts waits written : List ℕ) (j : ℕ) : Type 0 where
-  pub scanned : Scanned s stage j at passed counts waits written
+pub record Through (s : List ℕ) (stage counted : ℕ) (scan : Scan) (counts waits written low high : List ℕ) (j : ℕ) : Type 0 where
+  pub scanned : Scanned s stage j scan counts waits written low high
   pub many : counted ≡ countedRules (rulesOf s stage)
 
-pub through-first : (s : List ℕ) (stage counted passed : ℕ) (counts waits written : List ℕ) → counted ≡ countedRules (rulesOf s stage) → Begun (rulesOf s stage) counts waits written
-    → Through s stage counted 0 passed counts waits written 0
-through-first s stage counted passed counts waits written e b = record { scanned = scanned-first s stage passed counts waits written b; many = e }
+pub through-first : (s : List ℕ) (stage counted : ℕ) (scan : Scan) (counts waits written low high : List ℕ) → (scan .at ≡ 0) × (scan .front ≡ 0) → length low ≡ maxMarks → length high ≡ maxMarks
+    → counted ≡ countedRules (rulesOf s stage) → Begun (rulesOf s stage) counts waits written → Through s stage counted scan counts waits written low high 0
+through-first s stage counted scan counts waits written low high i l k e b = record { scanned = scanned-first s stage scan counts waits written low high i l k b; many = e }
 
-module _ (s : List ℕ) (stage : ℕ) (g : WellFormed s) (counted at passed : ℕ) (counts waits written : List ℕ) (j : ℕ) (f : Through s stage counted at passed counts waits written j) where
+module _ (s : List ℕ) (stage : ℕ) (g : WellFormed s) (counted : ℕ) (scan : Scan) (counts waits written low high : List ℕ) (j : ℕ)
+    (f : Through s stage counted scan counts waits written low high j) where
   pub through-last : counted ≤ j → (true ≡ true) ↔ NoLoop (rulesOf s stage)
   through-last h = (λ e. long-no-loop s stage g (let m = f .scanned .many in let e = f .many in omega arith), λ n. refl)
 
-  module _ (rules rule to over : ℕ) (counts′ waits′ written′ : List ℕ) (e : rules ≡ rulesIn s) (t : Turn s at passed counts waits written rule to over counts′ waits′ written′) (h : j < counted) where
+  module _ (rules : ℕ) (scan′ : Scan) (counts′ waits′ written′ low′ high′ : List ℕ) (e : rules ≡ rulesIn s)
+      (t : Turn s scan counts waits written low high scan′ counts′ waits′ written′ low′ high′) (h : j < counted) where
     -- the order ended before all were listed
-    pub through-stuck : rules ≤ rule → (false ≡ true) ↔ NoLoop (rulesOf s stage)
+    pub through-stuck : rules ≤ scan′ .rule → (false ≡ true) ↔ NoLoop (rulesOf s stage)
     through-stuck l = (
       λ x. contra x refl,
       λ n. absurd (let z = running-length (rulesOf s stage) maxMarks (targets-small s stage g) n in
@@ -57,7 +60,7 @@ module _ (s : List ℕ) (stage : ℕ) (g : WellFormed s) (counted at passed : �
           omega (arith, t .finds stage j (f .scanned) .next, order-below s stage j (omega arith))),
     )
 
-    pub through-more : rule < rules → Through s stage counted to over counts′ waits′ written′ (j + 1)
+    pub through-more : scan′ .rule < rules → Through s stage counted scan′ counts′ waits′ written′ low′ high′ (j + 1)
     through-more l =
         record {
           scanned = cases (ltb j (length (runningOrder (rulesOf s stage)))) (λ x. t .finds stage j (f .scanned) .goes (ltb-true j (length (runningOrder (rulesOf s stage))) x))

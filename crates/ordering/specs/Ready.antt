@@ -3,11 +3,13 @@ use mathlib.Core.Path.{_≡_, sym, ap, _∙_}
 use mathlib.Core.Bool.{Bool, true, false, not, _&&_, _||_}
 use mathlib.Core.List.{List}
 use Prim.Native.Nat.{ℕ, _<_}
-use borrow.Author.Tests.{not-true}
+use lib.Dec.{ltb, leb}
+use borrow.Author.Tests.{not-true, ltb-true, ltb-false, le-leb, lt-leb}
 use Rattle.paper.specs.Limits.{maxMarks}
 use Rattle.general.specs.Cases.{cases, contra, same-test}
 use Rattle.general.specs.Below.{every, every-at, every-of, some, some-none, some-of}
 use Rattle.book.specs.Book.{Book}
+use Rattle.book.specs.Firing.{refers}
 use Rattle.book.specs.Image.{bookOf}
 use Rattle.book.specs.Marks.{hasMark}
 use Rattle.book.specs.WellFormed.{WellFormed}
@@ -18,7 +20,7 @@ use Rattle.order_theory.specs.Marks.{isSettled}
 use Rattle.order_theory.specs.Skipped.{Skips, ready-skips}
 use Rattle.rule_order.specs.Rules.{netOf}
 use Rattle.rule_order.specs.Nets.{rulesOf, targets-small}
-use Rattle.rule_order.specs.References.{touches}
+use Rattle.rule_order.specs.References.{touches, Witness, witness-touches}
 
 -- the set has each mark that is not settled, and no other
 abbrev pub Waits : Net → Written → List ℕ → Type 0
@@ -38,9 +40,11 @@ pub stand-written : (b : Book) (d : Written) (waits : List ℕ) (r : ℕ) (w : B
 unfolding mayStand
 stand-written b d waits r w e t = rw (← e, t)
 
-pub stand-untouched : (b : Book) (d : Written) (waits : List ℕ) (r : ℕ) (w x : Bool) → w ≡ d r → w ≡ false → x ≡ touches b r waits → not x ≡ mayStand b d waits r
+pub stand-free : (b : Book) (d : Written) (waits : List ℕ) (r : ℕ) (w : Bool) (m : ℕ) → w ≡ d r → w ≡ false → Witness (refers b r) waits m → leb maxMarks m ≡ mayStand b d waits r
 unfolding mayStand
-stand-untouched b d waits r w x e u t = rw (← e, u, t)
+stand-free b d waits r w m e u k =
+    rw (← e, u, witness-touches b r waits m k)
+    (cases (ltb m maxMarks) (λ x. rw (x, lt-leb maxMarks m (ltb-true m maxMarks x))) (λ x. rw (x, le-leb maxMarks m (ltb-false m maxMarks x))))
 
 -- that is "ready", where the rules that do not count stand as written
 pub stand-ready : (s : List ℕ) (stage : ℕ) (d : Written) (waits : List ℕ) (r : ℕ) → WellFormed s → Skips (rulesOf s stage) d → Waits (rulesOf s stage) d waits

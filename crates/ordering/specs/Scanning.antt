@@ -1,6 +1,6 @@
 -- The scan that comes to the running order rule by rule: where it stands, and which rule is next. Assumes nothing.
 use mathlib.Core.Path.{_≡_, sym, ap, subst, _∙_}
-use mathlib.Core.Bool.{Bool, true, false, cond, _||_}
+use mathlib.Core.Bool.{false, cond}
 use mathlib.Core.List.{List, _++_}
 use Prim.Native.Nat.{ℕ, _+_, _≤_, _<_}
 use native.Mathlib.Omega.{arith}
@@ -8,38 +8,43 @@ use lib.Dec.{ltb, leb}
 use lib.ListN.{length, getD, drop, List·getD-eq-default}
 use borrow.Author.Tests.{ltb-true, ltb-false}
 use Rattle.general.specs.Cases.{cases}
+use Rattle.paper.specs.Limits.{maxMarks}
 use Rattle.book.specs.Image.{rulesIn}
 use Rattle.order_theory.specs.Order.{Net, Counted, countedRules}
 use Rattle.order_theory.specs.Written.{Written, none}
-use Rattle.order_theory.specs.Running.{unwritten, ready, fresh, greedy, runningOrder}
+use Rattle.order_theory.specs.Running.{unwritten, fresh, greedy, runningOrder}
 use Rattle.order_theory.specs.Skipped.{skipped, Skips, skips-first, skipped-unwritten, skipped-running}
 use Rattle.order_theory.specs.Index.{mem-any}
 use Rattle.unwritten.specs.Words.{ruleWords, flagged}
 use Rattle.rule_order.specs.Nets.{rulesOf, count-is}
 use Rattle.unwritten.specs.Counters.{Counters, Begun}
+use Rattle.ordering.specs.declared.scan.Scan.{Scan}
+use Rattle.ordering.specs.Passed.{Blocked}
 
--- the first n rules of the running order are written; nothing below `at` is ready; what is below `at` and below `passed` is written
-pub record Scanned (s : List ℕ) (stage n at passed : ℕ) (counts waits written : List ℕ) : Type 0 where
+-- the first n rules of the running order are written; what is unwritten below `at`, or from `until` on and below `front`, is passed over
+pub record Scanned (s : List ℕ) (stage n : ℕ) (scan : Scan) (counts waits written low high : List ℕ) : Type 0 where
   pub size : length written ≡ ruleWords
+  pub lows : length low ≡ maxMarks
+  pub highs : length high ≡ maxMarks
   pub skips : Skips (rulesOf s stage) (flagged written)
   pub counters : Counters (rulesOf s stage) (flagged written) counts waits
   pub many : n ≤ length (runningOrder (rulesOf s stage))
   pub rest : drop n (runningOrder (rulesOf s stage)) ≡ greedy (rulesOf s stage) (unwritten (rulesOf s stage) (flagged written)) (flagged written)
-  pub below : (p : ℕ) → p < at → ready (rulesOf s stage) (flagged written) p ≡ false
-  pub over : (p : ℕ) → p < at → p < passed → flagged written p ≡ true
+  pub below : (p : ℕ) → p < scan .at → flagged written p ≡ false → Blocked s waits low high p
+  pub beyond : (p : ℕ) → scan .until ≤ p → p < scan .front → flagged written p ≡ false → Blocked s waits low high p
 
 -- rule n of the running order is come to, and written, or R where the order has no rule n
-pub record Found (s : List ℕ) (stage n rule at passed : ℕ) (counts waits written : List ℕ) : Type 0 where
-  pub next : rule ≡ getD (runningOrder (rulesOf s stage)) n (rulesIn s)
-  pub goes : n < length (runningOrder (rulesOf s stage)) → Scanned s stage (n + 1) at passed counts waits written
+pub record Found (s : List ℕ) (stage n : ℕ) (scan : Scan) (counts waits written low high : List ℕ) : Type 0 where
+  pub next : scan .rule ≡ getD (runningOrder (rulesOf s stage)) n (rulesIn s)
+  pub goes : n < length (runningOrder (rulesOf s stage)) → Scanned s stage (n + 1) scan counts waits written low high
 
 -- one turn: what is found from where the scan stands, for each stage and n of which that holds
-pub record Turn (s : List ℕ) (at passed : ℕ) (counts waits written : List ℕ) (rule at′ passed′ : ℕ) (counts′ waits′ written′ : List ℕ) : Type 0 where
-  pub finds : (stage n : ℕ) → Scanned s stage n at passed counts waits written → Found s stage n rule at′ passed′ counts′ waits′ written′
+pub record Turn (s : List ℕ) (scan : Scan) (counts waits written low high : List ℕ) (scan′ : Scan) (counts′ waits′ written′ low′ high′ : List ℕ) : Type 0 where
+  pub finds : (stage n : ℕ) → Scanned s stage n scan counts waits written low high → Found s stage n scan′ counts′ waits′ written′ low′ high′
 
--- the lowest rule that was passed over, once `at` is met unready: `at` itself where it is unwritten and none was before
-abbrev pub passing : ℕ → ℕ → Bool → ℕ
-passing passed at written = cond (written || ltb passed at) passed at
+-- the scan once it stands at another rule
+abbrev pub moved : Scan → ℕ → Scan
+moved scan at = record { rule = scan .rule; at = at; until = scan .until; front = scan .front }
 
 -- a room once the running order was asked for: it stands in the first entries, unless the room is too short
 unfoldable pub orderedRoom : Net → List ℕ → List ℕ
@@ -52,19 +57,22 @@ order-counted N n d h = fresh N (countedRules N) none (getD (runningOrder N) n d
 
 module _ (s : List ℕ) (stage : ℕ) where
   -- the start
-  pub scanned-first : (passed : ℕ) (counts waits written : List ℕ) → Begun (rulesOf s stage) counts waits written → Scanned s stage 0 0 passed counts waits written
-  scanned-first passed counts waits written b =
+  pub scanned-first : (scan : Scan) (counts waits written low high : List ℕ) → (scan .at ≡ 0) × (scan .front ≡ 0) → length low ≡ maxMarks → length high ≡ maxMarks
+      → Begun (rulesOf s stage) counts waits written → Scanned s stage 0 scan counts waits written low high
+  scanned-first scan counts waits written low high (i, j) l k b =
       let z : flagged written ≡ skipped (rulesOf s stage) = b .flags in
       let u : unwritten (rulesOf s stage) (flagged written) ≡ countedRules (rulesOf s stage) = ap (λ (d : Written). unwritten (rulesOf s stage) d) z ∙ skipped-unwritten (rulesOf s stage) in
       record {
         size = b .size;
+        lows = l;
+        highs = k;
         skips = subst (λ (d : Written). Skips (rulesOf s stage) d) (sym z) (skips-first (rulesOf s stage));
         counters = b .counters;
         many = omega arith;
         rest = sym (ap (λ (k : ℕ). greedy (rulesOf s stage) k (flagged written)) u ∙ ap (λ (d : Written). greedy (rulesOf s stage) (countedRules (rulesOf s stage)) d) z ∙ skipped-running
             (rulesOf s stage));
         below = λ p h. absurd (omega arith);
-        over = λ p h k. absurd (omega arith);
+        beyond = λ p h k. absurd (omega arith);
       }
 
   -- a rule that was come to is below R exactly if the order has it

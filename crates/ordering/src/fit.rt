@@ -39,7 +39,19 @@ pub fn order_fits(
     requires { ⌜ (WellFormed (now image)) × (rules ≡ rulesIn (now image)) ⌝ }
     ensures { λ r. ⌜ r ≡ fitPass (rulesOf (now (image .entry)) stage) (now (order .entry)) ⌝ }
 {
-    let counted = count_targets(image, rules, stage, counts, waits, written, free);
+    let counted = count_targets(
+        image,
+        rules,
+        0,
+        rules,
+        rules,
+        rules,
+        stage,
+        counts,
+        waits,
+        written,
+        free,
+    );
     if order.len() != counted {
         return false;
     }

@@ -7,7 +7,8 @@ ghost use Rattle.rule_order.specs.Freed.{Freed};
 ghost use Rattle.ordering.specs.Ready.{mayStand};
 ghost use Rattle.unwritten.specs.Words.{flagged};
 use paper::MAX_CONDITIONS;
-use rule_order::references::rule_touches;
+use paper::MAX_MARKS;
+use rule_order::references::mark_referred;
 use texts::references::MARK_WORDS;
 use unwritten::written::RULE_WORDS;
 use unwritten::written::is_written;
@@ -27,5 +28,5 @@ pub fn is_ready(
     if is_written(written, r) {
         return false;
     }
-    !rule_touches(image, r, free, waits)
+    MAX_MARKS <= mark_referred(image, r, free, waits)
 }

@@ -7,7 +7,9 @@ ghost use Rattle.book.specs.WellFormed.{WellFormed};
 ghost use Rattle.order_theory.specs.Order.{NoLoop, countedRules};
 ghost use Rattle.rule_order.specs.Nets.{rulesOf};
 ghost use Rattle.ordering.specs.Scanning.{orderedRoom};
+use crate::scan::NO_RULE;
 use crate::scan::next_rule;
+use crate::scan::start;
 use paper::MAX_CONDITIONS;
 use paper::MAX_MARKS;
 use texts::references::MARK_WORDS;
@@ -29,17 +31,38 @@ pub fn running_order(
     requires { ⌜ (WellFormed (now image)) × (rules ≡ rulesIn (now image)) × (NoLoop (rulesOf (now image) stage)) ⌝ }
     ensures { λ r. ⌜ (r ≡ countedRules (rulesOf (now (image .entry)) stage)) × (now (room .exit) ≡ orderedRoom (rulesOf (now (image .entry)) stage) (now (room .entry))) ⌝ }
 {
-    let counted = count_targets(image, rules, stage, counts, waits, written, free);
+    let counted = count_targets(
+        image,
+        rules,
+        0,
+        rules,
+        rules,
+        rules,
+        stage,
+        counts,
+        waits,
+        written,
+        free,
+    );
     if room.len() < counted {
         return counted;
     }
-    let mut at: usize = 0;
-    let mut passed = rules;
+    let mut low = [NO_RULE; MAX_MARKS];
+    let mut high = [0u32; MAX_MARKS];
+    let mut scan = start();
     for j in 0..counted {
-        let scan = next_rule(image, rules, at, passed, counts, waits, written, free);
+        scan = next_rule(
+            image,
+            rules,
+            scan,
+            counts,
+            waits,
+            written,
+            free,
+            &mut low,
+            &mut high,
+        );
         room[j] = scan.rule as u32;
-        at = scan.at;
-        passed = scan.passed;
     }
     counted
 }
@@ -58,16 +81,37 @@ pub fn gets_through(
     requires { ⌜ (WellFormed (now image)) × (rules ≡ rulesIn (now image)) ⌝ }
     ensures { λ b. ⌜ (b ≡ true) ↔ NoLoop (rulesOf (now (image .entry)) stage) ⌝ }
 {
-    let counted = count_targets(image, rules, stage, counts, waits, written, free);
-    let mut here: usize = 0;
-    let mut over = rules;
+    let counted = count_targets(
+        image,
+        rules,
+        0,
+        rules,
+        rules,
+        rules,
+        stage,
+        counts,
+        waits,
+        written,
+        free,
+    );
+    let mut low = [NO_RULE; MAX_MARKS];
+    let mut high = [0u32; MAX_MARKS];
+    let mut scan = start();
     for j in 0..counted {
-        let scan = next_rule(image, rules, here, over, counts, waits, written, free);
+        scan = next_rule(
+            image,
+            rules,
+            scan,
+            counts,
+            waits,
+            written,
+            free,
+            &mut low,
+            &mut high,
+        );
         if rules <= scan.rule {
             return false;
         }
-        here = scan.at;
-        over = scan.passed;
     }
     true
 }

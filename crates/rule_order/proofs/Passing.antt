@@ -1,6 +1,6 @@
 -- The reading of a text up to a mark of a set, as the code goes on with it. Assumes nothing.
 use mathlib.Core.Path.{_≡_, sym, ap, _∙_}
-use mathlib.Core.Bool.{Bool, true, false, not}
+use mathlib.Core.Bool.{Bool, true, false}
 use mathlib.Core.List.{List}
 use Prim.Native.Nat.{ℕ, _+_, _*_, _≤_, _<_}
 use native.Mathlib.Omega.{arith}
@@ -9,8 +9,7 @@ use lib.ListN.{length, getD, set, length-set}
 use lib.Seq.{getD-set-same, getD-set-other}
 use borrow.Author.Tests.{eqb-true, eqb-false, ltb-true, ltb-false, lt-ltb, le-ltb}
 use Rattle.paper.specs.Limits.{maxMarks, conditionSize, wordSize}
-use Rattle.general.specs.Cases.{cases}
-use Rattle.general.specs.Below.{some-of, some-none}
+use Rattle.general.specs.Cases.{cases, both}
 use Rattle.wire.specs.Wire.{u16At}
 use Rattle.book.specs.Book.{textOf}
 use Rattle.book.specs.Image.{rulesIn, conditionsIn, conditionPlace, wordPlace, conditionFrom, conditionsOffset, wordsOffset, startAt, countAt, bookOf}
@@ -18,8 +17,8 @@ use Rattle.book.specs.Read.{length-words, getD-words}
 use Rattle.book.specs.Marks.{hasMark}
 use Rattle.book.specs.WellFormed.{WellFormed}
 use Rattle.book.specs.WellRead.{text-is}
-use Rattle.rule_order.specs.References.{meets}
-use Rattle.rule_order.specs.Freed.{isIn, Freed, Clear, Stopped, meets-words}
+use Rattle.rule_order.specs.References.{names, Witness}
+use Rattle.rule_order.specs.Freed.{isIn, Freed, Clear, Stopped, named-at, at-named}
 
 -- ---- a word
 
@@ -97,7 +96,7 @@ module _ (s : List ℕ) (w : WellFormed s) (c : ℕ) (h : c < conditionsIn s) wh
             cases (ltb k (getD free c 0)) (λ x. f .none c k h (ltb-true k (getD free c 0) x))
             (λ x. rw (text-word k (omega arith)) (t .clear .passed k (ltb-false k (getD free c 0) x) l))
 
-        pub freed-on : Freed s marks (set free c i)
+        freed-on : Freed s marks (set free c i)
         freed-on =
             let l : c < length free = (let a = w .headed .counted .conditions in let b = f .room in omega arith) in
             record {
@@ -110,10 +109,33 @@ module _ (s : List ℕ) (w : WellFormed s) (c : ℕ) (h : c < conditionsIn s) wh
                   (λ x. f .none d k j (rw (getD-set-other free c d i 0 (eqb-false d c x)) at m));
             }
 
-        pub free-says : eqb i count ≡ not (meets marks (textOf (bookOf s) c))
-        free-says =
-            rw (meets-words marks (textOf (bookOf s) c), text-long)
-            (cases (eqb i count)
-            (λ x. let y : i ≡ count = eqb-true i count x in rw (x, some-none count (λ k. isIn marks (getD (textOf (bookOf s) c) k 0)) (λ k l. clear-upto k (omega arith))))
-            (λ x. let l : i < count = (let y = eqb-false i count x in let m = t .clear .high in omega arith) in
-            rw (x, some-of count (λ k. isIn marks (getD (textOf (bookOf s) c) k 0)) i l (rw (text-word i l) (t .stops l)))))
+        -- the whole text was read
+        pub named-none : i ≡ count → (Witness (names (textOf (bookOf s) c)) marks maxMarks) × (Freed s marks (set free c i))
+        unfolding isIn
+        named-none e = (
+          record {
+            one = λ k. absurd (omega arith);
+            none = λ k x j y. let (n, l, z) = named-at x (textOf (bookOf s) c) y in
+                let u = clear-upto n (omega (arith, text-long)) in
+                rw (z, lt-ltb x maxMarks j) at u;
+          },
+          freed-on,
+        )
+
+        -- the word at which the reading stopped is a mark of the set
+        pub named-inside : (i ≡ count → ⊥) → words + wordSize * start + wordSize * i + 2 ≤ length s
+        named-inside n = let l : i < count = (let k = t .clear .high in omega arith) in omega (arith, text-inside)
+
+        pub named-one : (m : ℕ) → (i ≡ count → ⊥) → m ≡ u16At s (words + wordSize * start + wordSize * i)
+            → (Witness (names (textOf (bookOf s) c)) marks m) × (Freed s marks (set free c i))
+        unfolding isIn
+        named-one m n e =
+            let l : i < count = (let k = t .clear .high in omega arith) in
+            let z : getD (textOf (bookOf s) c) i 0 ≡ m = text-word i l ∙ sym e in
+            let (y, v) = both (ltb m maxMarks) (hasMark marks m) (rw e (t .stops l)) in (
+              record {
+                one = λ k. (rw z at (at-named (textOf (bookOf s) c) i (omega (arith, text-long))), v);
+                none = λ k. absurd (omega (arith, ltb-true m maxMarks y));
+              },
+              freed-on,
+            )

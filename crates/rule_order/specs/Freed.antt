@@ -6,17 +6,16 @@ use Prim.Native.Nat.{ℕ, zero, suc, _+_, _*_, _≤_, _<_}
 use native.Mathlib.Omega.{arith}
 use lib.Dec.{eqb, ltb}
 use lib.ListN.{length, getD, replicate, length-replicate}
-use borrow.Author.Tests.{eqb-true, eq-eqb, ltb-true, lt-ltb}
+use borrow.Author.Tests.{eqb-true, eq-eqb, ltb-true}
 use Rattle.paper.specs.Limits.{maxMarks, maxConditions, wordSize}
-use Rattle.general.specs.Cases.{contra, both, either, or-right, not-so, same-test}
+use Rattle.general.specs.Cases.{contra, both, either, or-right, not-so}
 use Rattle.general.specs.Tables.{zeros-at}
-use Rattle.general.specs.Below.{some, some-of, some-at}
 use Rattle.wire.specs.Wire.{u16At}
 use Rattle.book.specs.Text.{elem}
 use Rattle.book.specs.Book.{textOf}
 use Rattle.book.specs.Image.{conditionsIn, bookOf}
 use Rattle.book.specs.Marks.{hasMark}
-use Rattle.rule_order.specs.References.{meets}
+use Rattle.rule_order.specs.References.{names}
 
 -- whether the word w is a mark of the set; and, or, not lie above every mark
 unfoldable pub isIn : List ℕ → ℕ → Bool
@@ -51,33 +50,19 @@ freed-shrunk s marks after free k f =
           not-so (λ e. let (a, b) = both (ltb w maxMarks) (hasMark after w) e in contra (rw (a, k .kept w (ltb-true w maxMarks a) b)) (f .none c i h l));
     }
 
--- ---- a text names a mark of the set exactly if one of its words is such a mark
+-- ---- a text names the marks that are words of it
 
-elem-at : (m : ℕ) (ws : List ℕ) → elem m ws ≡ true → (i : ℕ) × (i < length ws) × (getD ws i 0 ≡ m)
-unfolding elem
-elem-at m [] e = contra e refl
-elem-at m (w ∷ ws) e =
-    either (eqb m w) (elem m ws) e (λ x. (0, omega arith, sym (eqb-true m w x))) (λ x. let (i, h, y) = elem-at m ws x in (suc i, omega arith, y))
+pub named-at : (m : ℕ) (ws : List ℕ) → names ws m ≡ true → (i : ℕ) × (i < length ws) × (getD ws i 0 ≡ m)
+unfolding names elem
+named-at m [] e = contra e refl
+named-at m (w ∷ ws) e =
+    either (eqb m w) (elem m ws) e (λ x. (0, omega arith, sym (eqb-true m w x))) (λ x. let (i, h, y) = named-at m ws x in (suc i, omega arith, y))
 
-at-elem : (ws : List ℕ) (i : ℕ) → i < length ws → elem (getD ws i 0) ws ≡ true
-unfolding elem
-at-elem [] i h = absurd (omega arith)
-at-elem (w ∷ ws) zero h = rw (eq-eqb w w refl)
-at-elem (w ∷ ws) (suc i) h = or-right (eqb (getD ws i 0) w) (elem (getD ws i 0) ws) (at-elem ws i (omega arith))
-
-pub meets-words : (marks ws : List ℕ) → meets marks ws ≡ some (length ws) (λ i. isIn marks (getD ws i 0))
-unfolding meets isIn
-meets-words marks ws =
-    same-test (some maxMarks (λ m. elem m ws && hasMark marks m)) (some (length ws) (λ i. isIn marks (getD ws i 0)))
-    (λ e.
-    let (m, h, x) = some-at maxMarks (λ m. elem m ws && hasMark marks m) e in
-    let (y, z) = both (elem m ws) (hasMark marks m) x in
-    let (i, l, q) = elem-at m ws y in
-    some-of (length ws) (λ i. isIn marks (getD ws i 0)) i l (rw (q, lt-ltb m maxMarks h) z))
-    (λ e.
-    let (i, l, x) = some-at (length ws) (λ i. isIn marks (getD ws i 0)) e in
-    let (y, z) = both (ltb (getD ws i 0) maxMarks) (hasMark marks (getD ws i 0)) x in
-    some-of maxMarks (λ m. elem m ws && hasMark marks m) (getD ws i 0) (ltb-true (getD ws i 0) maxMarks y) (rw (at-elem ws i l) z))
+pub at-named : (ws : List ℕ) (i : ℕ) → i < length ws → names ws (getD ws i 0) ≡ true
+unfolding names elem
+at-named [] i h = absurd (omega arith)
+at-named (w ∷ ws) zero h = rw (eq-eqb w w refl)
+at-named (w ∷ ws) (suc i) h = or-right (eqb (getD ws i 0) w) (elem (getD ws i 0) ws) (at-named ws i (omega arith))
 
 -- ---- where the reading of a text stops
 

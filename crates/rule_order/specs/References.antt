@@ -1,14 +1,14 @@
 -- Whether a rule refers to a mark of a set, by its trigger and by the text of its condition. Assumes nothing.
-use mathlib.Core.Path.{_≡_, refl, sym, ap, _∙_}
-use mathlib.Core.Bool.{Bool, true, false, not, _&&_, _||_}
+use mathlib.Core.Path.{_≡_, refl, sym, _∙_}
+use mathlib.Core.Bool.{Bool, true, false, _&&_, _||_}
 use mathlib.Core.List.{List}
 use Prim.Native.Nat.{ℕ, _≤_, _<_}
 use native.Mathlib.Omega.{arith}
-use lib.Dec.{eqb, leb}
-use borrow.Author.Tests.{eqb-true, eqb-false, eq-eqb, ne-eqb, le-leb, lt-leb}
+use lib.Dec.{eqb, ltb, leb}
+use borrow.Author.Tests.{eqb-true, eqb-false, eq-eqb, ltb-true, ltb-false, le-leb, lt-leb}
 use Rattle.paper.specs.Limits.{maxMarks}
-use Rattle.general.specs.Cases.{cases, both, either, same-test, or-left, or-right}
-use Rattle.general.specs.Below.{some, some-of, some-at, some-none, some-same}
+use Rattle.general.specs.Cases.{cases, contra, either, or-right}
+use Rattle.general.specs.Below.{some, some-of, some-none}
 use Rattle.book.specs.Text.{elem}
 use Rattle.book.specs.Book.{Book, ruleOf, textOf}
 use Rattle.book.specs.Image.{rulesIn, conditionsIn, rulePlace, triggerFrom, senseFrom, ruleFrom, bookOf, kindAt, senseAt, numberAt, conditionAt}
@@ -22,42 +22,46 @@ use Rattle.book.specs.Firing.{awaits, reads, refers}
 unfoldable pub touches : Book → ℕ → List ℕ → Bool
 touches b r marks = some maxMarks (λ m. refers b r m && hasMark marks m)
 
--- by its trigger, and by its condition
-unfoldable pub awaitsAny : Book → ℕ → List ℕ → Bool
-awaitsAny b r marks = some maxMarks (λ m. awaits (ruleOf b r .trigger) m && hasMark marks m)
+-- whether a text names a mark
+unfoldable pub names : List ℕ → ℕ → Bool
+names words m = elem m words
 
-unfoldable pub readsAny : Book → ℕ → List ℕ → Bool
-readsAny b r marks = some maxMarks (λ m. reads (textOf b) (ruleOf b r .sense) m && hasMark marks m)
+-- m is a mark of the set and one of those asked for, or no mark where the set has none of them
+pub record Witness (asked : ℕ → Bool) (marks : List ℕ) (m : ℕ) : Type 0 where
+  pub one : m < maxMarks → (asked m ≡ true) × (hasMark marks m ≡ true)
+  pub none : maxMarks ≤ m → (x : ℕ) → x < maxMarks → asked x ≡ true → hasMark marks x ≡ false
 
--- whether a text names a mark of the set
-unfoldable pub meets : List ℕ → List ℕ → Bool
-meets marks words = some maxMarks (λ m. elem m words && hasMark marks m)
+-- where none is asked for
+witness-none : (asked : ℕ → Bool) (marks : List ℕ) → ((x : ℕ) → asked x ≡ false) → Witness asked marks maxMarks
+witness-none asked marks f = record { one = λ l. absurd (omega arith); none = λ l x k e. contra e (f x) }
 
-pub touches-or : (b : Book) (r : ℕ) (marks : List ℕ) → touches b r marks ≡ (awaitsAny b r marks || readsAny b r marks)
-unfolding touches awaitsAny readsAny refers
-touches-or b r marks =
-    same-test (some maxMarks (λ m. (f m || g m) && hasMark marks m)) (some maxMarks (λ m. f m && hasMark marks m) || some maxMarks (λ m. g m && hasMark marks m))
-    (λ e.
-    let (m, h, x) = some-at maxMarks (λ m. (f m || g m) && hasMark marks m) e in
-    let (y, z) = both (f m || g m) (hasMark marks m) x in
-    either (f m) (g m) y
-    (λ t. or-left (some maxMarks (λ m. f m && hasMark marks m)) (some maxMarks (λ m. g m && hasMark marks m)) (some-of maxMarks (λ m. f m && hasMark marks m) m h (rw (t, z))))
-    (λ t. or-right (some maxMarks (λ m. f m && hasMark marks m)) (some maxMarks (λ m. g m && hasMark marks m)) (some-of maxMarks (λ m. g m && hasMark marks m) m h (rw (t, z)))))
-    (λ e. either (some maxMarks (λ m. f m && hasMark marks m)) (some maxMarks (λ m. g m && hasMark marks m)) e
-    (λ u.
-    let (m, h, x) = some-at maxMarks (λ m. f m && hasMark marks m) u in
-    let (y, z) = both (f m) (hasMark marks m) x in
-    some-of maxMarks (λ m. (f m || g m) && hasMark marks m) m h (rw (y, z)))
-    (λ u.
-    let (m, h, x) = some-at maxMarks (λ m. g m && hasMark marks m) u in
-    let (y, z) = both (g m) (hasMark marks m) x in
-    some-of maxMarks (λ m. (f m || g m) && hasMark marks m) m h (rw (or-right (f m) (g m) y, z))))
-  where
-    f : ℕ → Bool
-    f m = awaits (ruleOf b r .trigger) m
+-- where those asked for are asked for in other words
+witness-same : (asked other : ℕ → Bool) (marks : List ℕ) (m : ℕ) → ((x : ℕ) → other x ≡ asked x) → Witness asked marks m → Witness other marks m
+witness-same asked other marks m f w =
+    record { one = λ l. let (a, b) = w .one l in (f m ∙ a, b); none = λ l x k e. w .none l x k (sym (f x) ∙ e) }
 
-    g : ℕ → Bool
-    g m = reads (textOf b) (ruleOf b r .sense) m
+module _ (b : Book) (r : ℕ) (marks : List ℕ) where
+  pub witness-touches : (m : ℕ) → Witness (refers b r) marks m → touches b r marks ≡ ltb m maxMarks
+  unfolding touches
+  witness-touches m w =
+      cases (ltb m maxMarks)
+      (λ x. let (e, k) = w .one (ltb-true m maxMarks x) in rw x (some-of maxMarks (λ m. refers b r m && hasMark marks m) m (ltb-true m maxMarks x) (rw (e, k))))
+      (λ x. rw x (some-none maxMarks (λ m. refers b r m && hasMark marks m)
+      (λ y k. cases (refers b r y) (λ e. rw (e, w .none (ltb-false m maxMarks x) y k e)) (λ e. rw e))))
+
+  -- the trigger's mark, else one that the condition names
+  pub refers-first : (m : ℕ) → Witness (awaits (ruleOf b r .trigger)) marks m → m < maxMarks → Witness (refers b r) marks m
+  unfolding refers
+  refers-first m w l =
+      record { one = λ k. let (e, i) = w .one k in (rw e, i); none = λ k. absurd (omega arith) }
+
+  pub refers-then : (m n : ℕ) → Witness (awaits (ruleOf b r .trigger)) marks m → maxMarks ≤ m → Witness (reads (textOf b) (ruleOf b r .sense)) marks n → Witness (refers b r) marks n
+  unfolding refers
+  refers-then m n w l v =
+      record {
+        one = λ k. let (e, i) = v .one k in (or-right (awaits (ruleOf b r .trigger) n) (reads (textOf b) (ruleOf b r .sense) n) e, i);
+        none = λ k x j e. either (awaits (ruleOf b r .trigger) x) (reads (textOf b) (ruleOf b r .sense) x) e (λ i. w .none l x j i) (λ i. v .none k x j i);
+      }
 
 -- ---- by the bytes of the rule's record
 
@@ -68,56 +72,6 @@ module _ (s : List ℕ) (r : ℕ) (g : WellFormed s) (h : r < rulesIn s) where
 
   pub asked-in : (c : ℕ) → 1 ≤ senseAt s (rulePlace r) → c ≡ conditionAt s (rulePlace r) → c < conditionsIn s
   asked-in c l e = rw e (g .rules r h .condition l)
-
-module _ (s marks : List ℕ) (r : ℕ) (g : WellFormed s) (h : r < rulesIn s) where
-  -- trigger kinds 0 and 1 wait for no mark
-  pub awaits-none : kindAt s (rulePlace r) < 2 → false ≡ awaitsAny (bookOf s) r marks
-  unfolding awaitsAny ruleFrom triggerFrom awaits
-  awaits-none l =
-      rw (rule-read s r h)
-      (sym (some-none maxMarks (λ m. awaits (triggerFrom (kindAt s (rulePlace r)) (numberAt s (rulePlace r))) m && hasMark marks m)
-      (λ m k. cases (eqb (kindAt s (rulePlace r)) 0) (λ x. rw x) (λ x. rw (x, eq-eqb (kindAt s (rulePlace r)) 1 (omega (arith, eqb-false (kindAt s (rulePlace r)) 0 x)))))))
-
-  -- kinds 2 and 3 wait for the mark that they name
-  pub awaits-mark : (m : ℕ) (b : Bool) → 2 ≤ kindAt s (rulePlace r) → m ≡ numberAt s (rulePlace r) → b ≡ hasMark marks m → b ≡ awaitsAny (bookOf s) r marks
-  unfolding awaitsAny ruleFrom triggerFrom awaits
-  awaits-mark m b l e q =
-      q ∙ rw (rule-read s r h) (sym (some-same maxMarks (λ x. awaits (triggerFrom (kindAt s (rulePlace r)) (numberAt s (rulePlace r))) x && hasMark marks x)
-      (λ x. eqb x m && hasMark marks x) named ∙ alone))
-    where
-      named : (x : ℕ) → x < maxMarks → (awaits (triggerFrom (kindAt s (rulePlace r)) (numberAt s (rulePlace r))) x && hasMark marks x) ≡ (eqb x m && hasMark marks x)
-      named x k =
-          rw (ne-eqb (kindAt s (rulePlace r)) 0 (λ z. omega arith), ne-eqb (kindAt s (rulePlace r)) 1 (λ z. omega arith), e)
-          (cases (eqb (kindAt s (rulePlace r)) 2) (λ z. rw z) (λ z. rw z))
-
-      alone : some maxMarks (λ x. eqb x m && hasMark marks x) ≡ hasMark marks m
-      alone =
-          same-test (some maxMarks (λ x. eqb x m && hasMark marks x)) (hasMark marks m)
-          (λ t. let (x, k, y) = some-at maxMarks (λ x. eqb x m && hasMark marks x) t in let (u, v) = both (eqb x m) (hasMark marks x) y in rw (← eqb-true x m u) v)
-          (λ t. some-of maxMarks (λ x. eqb x m && hasMark marks x) m (awaited-in s r g h m l e) (rw (eq-eqb m m refl, t)))
-
-  -- sense 0 asks no condition
-  pub reads-none : senseAt s (rulePlace r) < 1 → false ≡ readsAny (bookOf s) r marks
-  unfolding readsAny ruleFrom senseFrom reads
-  reads-none l =
-      rw (rule-read s r h)
-      (sym (some-none maxMarks (λ m. reads (textOf (bookOf s)) (senseFrom (senseAt s (rulePlace r)) (conditionAt s (rulePlace r))) m && hasMark marks m)
-      (λ m k. rw (eq-eqb (senseAt s (rulePlace r)) 0 (omega arith)))))
-
-  -- senses 1 and 2 ask the condition that they name
-  pub reads-text : (c : ℕ) (b : Bool) → 1 ≤ senseAt s (rulePlace r) → c ≡ conditionAt s (rulePlace r) → b ≡ not (meets marks (textOf (bookOf s) c)) → not b ≡ readsAny (bookOf s) r marks
-  unfolding readsAny ruleFrom senseFrom reads meets
-  reads-text c b l e q =
-      ap not q ∙ not-not (meets marks (textOf (bookOf s) c)) ∙ rw (rule-read s r h) (some-same maxMarks (λ m. elem m (textOf (bookOf s) c) && hasMark marks m)
-      (λ m. reads (textOf (bookOf s)) (senseFrom (senseAt s (rulePlace r)) (conditionAt s (rulePlace r))) m && hasMark marks m) named)
-    where
-      named : (m : ℕ) → m < maxMarks
-          → (elem m (textOf (bookOf s) c) && hasMark marks m) ≡ (reads (textOf (bookOf s)) (senseFrom (senseAt s (rulePlace r)) (conditionAt s (rulePlace r))) m && hasMark marks m)
-      named m k = rw (ne-eqb (senseAt s (rulePlace r)) 0 (λ z. omega arith), e) (cases (eqb (senseAt s (rulePlace r)) 1) (λ z. rw z) (λ z. rw z))
-
-      not-not : (x : Bool) → not (not x) ≡ x
-      not-not true = refl
-      not-not false = refl
 
 -- ---- each mark that a rule refers to, by the bytes and the texts
 
@@ -145,8 +99,34 @@ module _ (s : List ℕ) (r m : ℕ) (h : r < rulesIn s) where
   unfolding refers
   refers-bytes = rw (awaits-byte, reads-byte)
 
-pub touches-first : (b : Book) (r : ℕ) (marks : List ℕ) (x : Bool) → x ≡ awaitsAny b r marks → x ≡ true → true ≡ touches b r marks
-touches-first b r marks x e t = rw (touches-or b r marks, ← e, t)
+-- ---- a mark that a rule refers to, by the same bytes
 
-pub touches-then : (b : Book) (r : ℕ) (marks : List ℕ) (x y : Bool) → x ≡ awaitsAny b r marks → x ≡ false → y ≡ readsAny b r marks → y ≡ touches b r marks
-touches-then b r marks x y e t f = rw (touches-or b r marks, ← e, t) f
+module _ (s marks : List ℕ) (r : ℕ) (g : WellFormed s) (h : r < rulesIn s) where
+  -- trigger kinds 0 and 1 wait for no mark
+  pub awaits-none : kindAt s (rulePlace r) < 2 → Witness (awaits (ruleOf (bookOf s) r .trigger)) marks maxMarks
+  awaits-none l = witness-none (awaits (ruleOf (bookOf s) r .trigger)) marks (λ x. rw (awaits-byte s r x h, lt-leb 2 (kindAt s (rulePlace r)) l))
+
+  module _ (m : ℕ) (b : Bool) (l : 2 ≤ kindAt s (rulePlace r)) (e : m ≡ numberAt s (rulePlace r)) (q : b ≡ hasMark marks m) where
+    named : (x : ℕ) → awaits (ruleOf (bookOf s) r .trigger) x ≡ eqb x m
+    named x = rw (awaits-byte s r x h, le-leb 2 (kindAt s (rulePlace r)) l, e)
+
+    -- kinds 2 and 3 wait for the mark that they name
+    pub awaits-mark : b ≡ true → Witness (awaits (ruleOf (bookOf s) r .trigger)) marks m
+    awaits-mark t =
+        record { one = λ k. (named m ∙ eq-eqb m m refl, sym q ∙ t); none = λ k. absurd (omega (arith, awaited-in s r g h m l e)) }
+
+    pub awaits-other : b ≡ false → Witness (awaits (ruleOf (bookOf s) r .trigger)) marks maxMarks
+    awaits-other t =
+        record { one = λ k. absurd (omega arith); none = λ k x j i. rw (eqb-true x m (sym (named x) ∙ i)) (sym q ∙ t) }
+
+  -- sense 0 asks no condition
+  pub reads-none : senseAt s (rulePlace r) < 1 → Witness (reads (textOf (bookOf s)) (ruleOf (bookOf s) r .sense)) marks maxMarks
+  reads-none l = witness-none (reads (textOf (bookOf s)) (ruleOf (bookOf s) r .sense)) marks (λ x. rw (reads-byte s r x h, lt-leb 1 (senseAt s (rulePlace r)) l))
+
+  -- senses 1 and 2 ask the condition that they name
+  pub reads-text : (c m : ℕ) → 1 ≤ senseAt s (rulePlace r) → c ≡ conditionAt s (rulePlace r) → Witness (names (textOf (bookOf s) c)) marks m
+      → Witness (reads (textOf (bookOf s)) (ruleOf (bookOf s) r .sense)) marks m
+  unfolding names
+  reads-text c m l e w =
+      witness-same (names (textOf (bookOf s) c)) (reads (textOf (bookOf s)) (ruleOf (bookOf s) r .sense)) marks m
+      (λ x. rw (reads-byte s r x h, le-leb 1 (senseAt s (rulePlace r)) l, e)) w

@@ -1,14 +1,13 @@
-// Whether the text of a condition names a mark of a set. Where the set only shrinks, each word is passed once: one number for each
+// Which mark of a set the text of a condition names. Where the set only shrinks, each word is passed once: one number for each
 // condition says how far its text was read.
 ghost use mathlib.Core.Path.{_≡_};
-ghost use mathlib.Core.Bool.{not};
 ghost use Prim.Native.Nat.{_+_, _*_, _≤_, _<_};
 ghost use lib.ListN.{length};
 ghost use Rattle.paper.specs.Limits.{wordSize};
 ghost use Rattle.book.specs.Book.{textOf};
 ghost use Rattle.book.specs.Image.{rulesIn, conditionsIn, conditionPlace, bookOf};
 ghost use Rattle.book.specs.WellFormed.{WellFormed};
-ghost use Rattle.rule_order.specs.References.{meets};
+ghost use Rattle.rule_order.specs.References.{names, Witness};
 ghost use Rattle.rule_order.specs.Freed.{isIn, Freed, Stopped};
 use book::conditions::COUNT_AT;
 use book::header::CONDITIONS_OFFSET_AT;
@@ -53,22 +52,26 @@ fn record_at(image: &[u8], c: usize) -> usize
     wire::u32_at(image, CONDITIONS_OFFSET_AT) as usize + CONDITION_SIZE * c
 }
 
-// Whether the text of condition c names no mark of the set: read on from where it was left.
-pub fn condition_free(
+// A mark of the set that the text of condition c names, or MAX_MARKS where it names none: read on from where it was left.
+pub fn mark_named(
     image: &[u8],
     c: usize,
     free: &mut [u32; MAX_CONDITIONS],
     set: &[u64; MARK_WORDS],
-) -> bool
+) -> usize
     requires { ⌜ (WellFormed (now image)) × (c < conditionsIn (now image)) × (Freed (now image) (now set) (now free)) ⌝ }
-    ensures { λ b. ⌜ b ≡ not (meets (now (set .entry)) (textOf (bookOf (now (image .entry))) c)) ⌝ }
+    ensures { λ m. ⌜ Witness (names (textOf (bookOf (now (image .entry))) c)) (now (set .entry)) m ⌝ }
     ensures { λ _. ⌜ Freed (now (image .entry)) (now (set .entry)) (now (free .exit)) ⌝ }
 {
     let record = record_at(image, c);
     let start = wire::u32_at(image, record) as usize;
     let count = wire::u32_at(image, record + COUNT_AT);
     let words = wire::u32_at(image, WORDS_OFFSET_AT) as usize;
-    let to = read_on(image, words + WORD_SIZE * start, free[c], count, set);
+    let at = words + WORD_SIZE * start;
+    let to = read_on(image, at, free[c], count, set);
     free[c] = to;
-    to == count
+    if to == count {
+        return MAX_MARKS;
+    }
+    wire::u16_at(image, at + WORD_SIZE * (to as usize)) as usize
 }

@@ -1,11 +1,12 @@
-// Whether a rule refers to a mark of a set.
-ghost use mathlib.Core.Path.{_≡_};
+// Which mark of a set a rule refers to.
 ghost use Prim.Native.Nat.{_<_};
+ghost use Rattle.book.specs.Book.{ruleOf, textOf};
+ghost use Rattle.book.specs.Firing.{awaits, reads, refers};
 ghost use Rattle.book.specs.Image.{rulesIn, bookOf};
 ghost use Rattle.book.specs.WellFormed.{WellFormed};
-ghost use Rattle.rule_order.specs.References.{awaitsAny, readsAny, touches};
+ghost use Rattle.rule_order.specs.References.{Witness};
 ghost use Rattle.rule_order.specs.Freed.{Freed};
-use crate::reading::condition_free;
+use crate::reading::mark_named;
 use book::rules::CONDITION_AT;
 use book::rules::NUMBER_AT;
 use book::rules::SENSE_AS_WRITTEN;
@@ -13,38 +14,42 @@ use book::rules::SENSE_AT;
 use book::rules::TRIGGER_BECOME_YES;
 use paper::BOOK_HEADER;
 use paper::MAX_CONDITIONS;
+use paper::MAX_MARKS;
 use paper::RULE_SIZE;
 use texts::references::MARK_WORDS;
 
-// Whether rule r waits for a mark of the set to become yes or no. From raw bytes: a rule is asked whenever the scan meets it.
-fn trigger_touches(image: &[u8], r: usize, set: &[u64; MARK_WORDS]) -> bool
+// A mark of the set that rule r waits for to become yes or no, or MAX_MARKS. From raw bytes: a rule is asked whenever the scan meets it.
+fn mark_awaited(image: &[u8], r: usize, set: &[u64; MARK_WORDS]) -> usize
     requires { ⌜ (WellFormed (now image)) × (r < rulesIn (now image)) ⌝ }
-    ensures { λ b. ⌜ b ≡ awaitsAny (bookOf (now (image .entry))) r (now (set .entry)) ⌝ }
+    ensures { λ m. ⌜ Witness (awaits (ruleOf (bookOf (now (image .entry))) r .trigger)) (now (set .entry)) m ⌝ }
 {
     let at = BOOK_HEADER + RULE_SIZE * r;
     if image[at] < TRIGGER_BECOME_YES {
-        return false;
+        return MAX_MARKS;
     }
     let m = wire::u16_at(image, at + NUMBER_AT) as usize;
-    sets::member(set[m / 64], m % 64)
+    if sets::member(set[m / 64], m % 64) {
+        return m;
+    }
+    MAX_MARKS
 }
 
-// Whether the condition of rule r names a mark of the set.
-fn condition_touches(
+// A mark of the set that the condition of rule r names, or MAX_MARKS.
+fn mark_read(
     image: &[u8],
     r: usize,
     free: &mut [u32; MAX_CONDITIONS],
     set: &[u64; MARK_WORDS],
-) -> bool
+) -> usize
     requires { ⌜ (WellFormed (now image)) × (r < rulesIn (now image)) × (Freed (now image) (now set) (now free)) ⌝ }
-    ensures { λ b. ⌜ b ≡ readsAny (bookOf (now (image .entry))) r (now (set .entry)) ⌝ }
+    ensures { λ m. ⌜ Witness (reads (textOf (bookOf (now (image .entry)))) (ruleOf (bookOf (now (image .entry))) r .sense)) (now (set .entry)) m ⌝ }
     ensures { λ _. ⌜ Freed (now (image .entry)) (now (set .entry)) (now (free .exit)) ⌝ }
 {
     let at = BOOK_HEADER + RULE_SIZE * r;
     if image[at + SENSE_AT] < SENSE_AS_WRITTEN {
-        return false;
+        return MAX_MARKS;
     }
-    !condition_free(
+    mark_named(
         image,
         wire::u16_at(image, at + CONDITION_AT) as usize,
         free,
@@ -52,19 +57,20 @@ fn condition_touches(
     )
 }
 
-// Whether rule r refers to a mark of the set.
-pub fn rule_touches(
+// A mark of the set that rule r refers to, or MAX_MARKS where it refers to none.
+pub fn mark_referred(
     image: &[u8],
     r: usize,
     free: &mut [u32; MAX_CONDITIONS],
     set: &[u64; MARK_WORDS],
-) -> bool
+) -> usize
     requires { ⌜ (WellFormed (now image)) × (r < rulesIn (now image)) × (Freed (now image) (now set) (now free)) ⌝ }
-    ensures { λ b. ⌜ b ≡ touches (bookOf (now (image .entry))) r (now (set .entry)) ⌝ }
+    ensures { λ m. ⌜ Witness (refers (bookOf (now (image .entry))) r) (now (set .entry)) m ⌝ }
     ensures { λ _. ⌜ Freed (now (image .entry)) (now (set .entry)) (now (free .exit)) ⌝ }
 {
-    if trigger_touches(image, r, set) {
-        return true;
+    let m = mark_awaited(image, r, set);
+    if m < MAX_MARKS {
+        return m;
     }
-    condition_touches(image, r, free, set)
+    mark_read(image, r, free, set)
 }

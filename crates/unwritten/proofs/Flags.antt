@@ -7,14 +7,37 @@ use native.Mathlib.Omega.{arith}
 use lib.Dec.{ltb}
 use lib.ListN.{getD, set}
 use borrow.Author.Tests.{lt-ltb, le-ltb, ltb-true, ltb-false}
+use Rattle.paper.specs.Limits.{maxRules}
 use Rattle.general.specs.Cases.{contra, cases}
 use Rattle.sets.specs.Set.{has, union, only, minus, allBelow, lowest}
 use Rattle.sets.specs.Laws.{has-all, has-minus, has-empty, minus-le, lowest-lt, lowest-has, lowest-least}
 use Rattle.book.specs.Marks.{wordBits}
-use Rattle.unwritten.specs.Words.{marked, Onward}
+use Rattle.unwritten.specs.Words.{ruleWords, marked, unmarked, AllWritten, all-more, Onward}
 
 pub marked-by : (row : List ℕ) (t one word : ℕ) → one ≡ only (t % wordBits) → word ≡ union (getD row (t / wordBits) 0) one → set row (t / wordBits) word ≡ marked row t
 marked-by row t one word o w = rw (w, o)
+
+pub unmarked-by : (row : List ℕ) (t one word : ℕ) → one ≡ only (t % wordBits) → word ≡ minus (getD row (t / wordBits) 0) one → set row (t / wordBits) word ≡ unmarked row t
+unmarked-by row t one word o w = rw (w, o)
+
+-- ---- every rule of a book
+
+-- a word of 64 more
+pub all-word : (l : List ℕ) (w word : ℕ) → AllWritten (wordBits * w) l → w < ruleWords → word ≡ allBelow wordBits → AllWritten (wordBits * (w + 1)) (set l w word)
+all-word l w word a h e =
+    let z : wordBits * (w + 1) ≡ wordBits * w + wordBits = omega arith in
+    rw (e, z) (all-more l w wordBits a h (omega arith))
+
+-- and what is left, where the words before that are done
+module _ (l : List ℕ) (w rules : ℕ) (a : AllWritten (wordBits * w) l) (h : w ≤ rules / wordBits) (i : rules / wordBits ≤ w) where
+  pub all-rest : (word : ℕ) → rules / wordBits < ruleWords → word ≡ allBelow (rules % wordBits) → AllWritten rules (set l (rules / wordBits) word)
+  all-rest word j e =
+      let p : w ≡ rules / wordBits = omega arith in
+      let z : wordBits * (rules / wordBits) + rules % wordBits ≡ rules = omega arith in
+      rw e (rw z at (all-more l (rules / wordBits) (rules % wordBits) (rw p at a) j (omega arith)))
+
+  pub all-even : rules ≤ maxRules → ruleWords ≤ rules / wordBits → AllWritten rules l
+  all-even j k = let z : wordBits * w ≡ rules = omega arith in rw z at a
 
 -- ---- the next rule that is not written
 

@@ -3,7 +3,7 @@ use mathlib.Core.Path.{_≡_, refl, sym, ap, _∙_, fun-ext}
 use mathlib.Core.Logic.{_≢_}
 use mathlib.Core.Bool.{Bool, true, false, not, cond, _&&_, and-true, and-false, or-true, or-false}
 use mathlib.Core.List.{List}
-use Prim.Native.Nat.{ℕ, suc, _+_, _-_, _/_, _%_, _≤_, _<_}
+use Prim.Native.Nat.{ℕ, zero, suc, _+_, _-_, _/_, _%_, _≤_, _<_}
 use native.Mathlib.Omega.{arith}
 use lib.Dec.{eqb, ltb, leb}
 use lib.ListN.{length, getD, set, length-set, replicate, length-replicate, getD-replicate}
@@ -20,7 +20,7 @@ use Rattle.order_theory.specs.Written.{Written, write}
 use Rattle.order_theory.specs.Marks.{waiting, isSettled, waiting-first, waiting-less, waiting-other}
 use Rattle.order_theory.specs.Skipped.{skipped, skipped-waiting}
 use Rattle.rule_order.specs.Freed.{Shrunk}
-use Rattle.unwritten.specs.Words.{ruleWords, marked, unmarked, has-marked, has-unmarked, flagged, flagged-set, flagged-none}
+use Rattle.unwritten.specs.Words.{ruleWords, marked, unmarked, has-marked, has-unmarked, flagged, AllWritten}
 
 -- counts has for each mark how many counted and unwritten rules target it, and waits the marks of which there is one
 pub record Counters (N : Net) (d : Written) (counts waits : List ℕ) : Type 0 where
@@ -28,6 +28,28 @@ pub record Counters (N : Net) (d : Written) (counts waits : List ℕ) : Type 0 w
   pub wide : length waits ≡ markWords
   pub each : (m : ℕ) → m < maxMarks → getD counts m 0 ≡ waiting N d m
   pub rest : (m : ℕ) → m < maxMarks → hasMark waits m ≡ not (isSettled N d m)
+
+-- every rule that counts is one from `from` to below `to`, or one from `again` to below `end`
+pub record Span (N : Net) (rules from to again end : ℕ) : Type 0 where
+  pub first : from ≤ to
+  pub gap : to ≤ again
+  pub then : again ≤ end
+  pub within : end ≤ rules
+  pub below : (r : ℕ) → r < from → N .counts r ≡ false
+  pub between : (r : ℕ) → to ≤ r → r < again → N .counts r ≡ false
+  pub above : (r : ℕ) → end ≤ r → r < rules → N .counts r ≡ false
+
+pub span-all : (N : Net) (rules : ℕ) → Span N rules 0 rules rules rules
+span-all N rules =
+    record {
+      first = omega arith;
+      gap = omega arith;
+      then = omega arith;
+      within = omega arith;
+      below = λ r h. absurd (omega arith);
+      between = λ r h l. absurd (omega arith);
+      above = λ r h l. absurd (omega arith);
+    }
 
 -- the start: no counted rule is written, and the flags say those that do not count
 pub record Begun (N : Net) (counts waits written : List ℕ) : Type 0 where
@@ -50,20 +72,20 @@ module _ (N : Net) where
     pub flags : length written ≡ ruleWords
     pub each : (m : ℕ) → m < maxMarks → getD counts m 0 ≡ targeting k m
     pub rest : (m : ℕ) → m < maxMarks → hasMark waits m ≡ not (eqb (targeting k m) 0)
-    pub skips : (q : ℕ) → flagged written q ≡ (ltb q k && not (N .counts q))
+    pub skips : (q : ℕ) → flagged written q ≡ (ltb q (N .count) && not (ltb q k && N .counts q))
 
-  pub counting-first : Counting 0 0 (replicate maxMarks 0) (replicate markWords 0) (replicate ruleWords 0)
+  counting-none : (written : List ℕ) → AllWritten (N .count) written → Counting 0 0 (replicate maxMarks 0) (replicate markWords 0) written
   unfolding tally
-  counting-first =
+  counting-none written a =
       record {
         within = omega arith;
         many = refl;
         size = length-replicate {A = ℕ} maxMarks 0;
         wide = length-replicate {A = ℕ} markWords 0;
-        flags = length-replicate {A = ℕ} ruleWords 0;
+        flags = a .size;
         each = λ m h. getD-replicate maxMarks m 0 0 h;
         rest = λ m h. ap (λ (x : ℕ). has x (m % wordBits)) (getD-replicate markWords (m / wordBits) 0 0 (omega arith)) ∙ has-empty (m % wordBits);
-        skips = λ q. ap (λ (d : Written). d q) (flagged-none ruleWords) ∙ rw (le-ltb q 0 (omega arith));
+        skips = λ q. a .flags q ∙ rw (le-ltb q 0 (omega arith)) (sym (and-true (ltb q (N .count))));
       }
 
   pub counting-fits : (n k m : ℕ) (counts waits written : List ℕ) → Counting n k counts waits written → m < maxMarks → N .count ≤ maxRules → getD counts m 0 ≤ maxRules
@@ -72,16 +94,16 @@ module _ (N : Net) where
   pub counting-few : (n k : ℕ) (counts waits written : List ℕ) → Counting n k counts waits written → n ≤ k
   counting-few n k counts waits written c = let e = c .many in omega (arith, tally-le k (N .counts))
 
-  -- the flags say the same of one rule more where that rule counts, and else it is marked
-  skips-more : (k : ℕ) (written : List ℕ) (q : ℕ) → flagged written q ≡ (ltb q k && not (N .counts q)) → (q ≡ k → N .counts k ≡ true) → flagged written q ≡ (ltb q (k + 1) && not (N .counts q))
-  skips-more k written q e n =
-      e ∙ cases (eqb q k)
+  -- one rule more that does not count
+  asked-more : (k q : ℕ) → (q ≡ k → N .counts k ≡ false) → (ltb q k && N .counts q) ≡ (ltb q (k + 1) && N .counts q)
+  asked-more k q n =
+      cases (eqb q k)
       (λ x. let p : q ≡ k = eqb-true q k x in rw (p, n p, and-false (ltb k k), and-false (ltb k (k + 1))))
       (λ x. let u = eqb-false q k x in cases (ltb q k) (λ y. rw (y, lt-ltb q (k + 1) (omega (arith, ltb-true q k y)))) (λ y. rw (y, le-ltb q (k + 1) (omega (arith, ltb-false q k y)))))
 
-  counting-more : (n k t : ℕ) (counts waits written : List ℕ) → Counting n k counts waits written → k < N .count → N .counts k ≡ true → t ≡ N .target k → t < maxMarks
-      → Counting (n + 1) (k + 1) (set counts t (getD counts t 0 + 1)) (marked waits t) written
-  counting-more n k t counts waits written c h y e i =
+  counting-more : (n k t : ℕ) (counts waits written : List ℕ) → Counting n k counts waits written → k < N .count → N .count ≤ maxRules → N .counts k ≡ true → t ≡ N .target k → t < maxMarks
+      → Counting (n + 1) (k + 1) (set counts t (getD counts t 0 + 1)) (marked waits t) (unmarked written k)
+  counting-more n k t counts waits written c h f y e i =
       let l = c .size in
       let w = c .wide in
       record {
@@ -89,7 +111,7 @@ module _ (N : Net) where
         many = rw (tally-step k (N .counts), y) (omega (arith, c .many));
         size = length-set counts t _ ∙ c .size;
         wide = length-set waits (t / wordBits) _ ∙ c .wide;
-        flags = c .flags;
+        flags = length-set written (k / wordBits) _ ∙ c .flags;
         each = λ m j. cases (eqb m t)
             (λ x. let p : m ≡ t = eqb-true m t x in
             rw (p, getD-set-same counts t (getD counts t 0 + 1) 0 (omega arith), tally-step k (λ p. N .counts p && eqb (N .target p) t), y, eq-eqb (N .target k) t (sym e)) (omega
@@ -107,50 +129,77 @@ module _ (N : Net) where
             (λ q. omega arith)))))
             (λ x. rw (x, tally-step k (λ p. N .counts p && eqb (N .target p) m), y, ne-eqb (N .target k) m (λ q. eqb-false m t x (sym (e ∙ q))))
             (let z : targeting k m ≡ 0 + targeting k m = omega arith in or-false (hasMark waits m) ∙ c .rest m j ∙ ap (λ (n : ℕ). not (eqb n 0)) z));
-        skips = λ q. skips-more k written q (c .skips q) (λ z. y);
+        skips = λ q. has-unmarked written k q (let z = c .flags in omega arith) ∙ cases (eqb q k)
+            (λ x. let p : q ≡ k = eqb-true q k x in rw (x, p, y, lt-ltb k (k + 1) (omega arith)) (and-false (flagged written k) ∙ sym (and-false (ltb k (N .count)))))
+            (λ x. rw x (and-true (flagged written q) ∙ c .skips q ∙ ap (λ (b : Bool). ltb q (N .count) && not b) (asked-more k q (λ p. absurd (eqb-false q k x p)))));
       }
 
   -- a rule that counts
   pub counting-on : (n k t one word n′ : ℕ) (b : Bool) (counts waits written counts′ waits′ written′ : List ℕ)
-      → Counting n k counts waits written → k < N .count → b ≡ N .counts k → b ≡ true → t ≡ N .target k → t < maxMarks → one ≡ only (t % wordBits) → word ≡ union (getD waits (t / wordBits) 0) one
-      → counts′ ≡ set counts t (getD counts t 0 + 1) → waits′ ≡ set waits (t / wordBits) word → written′ ≡ written → n′ ≡ n + 1 → Counting n′ (k + 1) counts′ waits′ written′
-  counting-on n k t one word n′ b counts waits written counts′ waits′ written′ c h x y e i o w p q r z =
-      rw (p, q, r, w, o, z) (counting-more n k t counts waits written c h (sym x ∙ y) e i)
+      → Counting n k counts waits written → k < N .count → N .count ≤ maxRules → b ≡ N .counts k → b ≡ true → t ≡ N .target k → t < maxMarks → one ≡ only (t % wordBits) → word ≡ union (getD waits (t / wordBits) 0) one
+      → counts′ ≡ set counts t (getD counts t 0 + 1) → waits′ ≡ set waits (t / wordBits) word → written′ ≡ unmarked written k → n′ ≡ n + 1 → Counting n′ (k + 1) counts′ waits′ written′
+  counting-on n k t one word n′ b counts waits written counts′ waits′ written′ c h f x y e i o w p q r z =
+      rw (p, q, r, w, o, z) (counting-more n k t counts waits written c h f (sym x ∙ y) e i)
 
   same-targeting : (k m : ℕ) → N .counts k ≡ false → targeting (k + 1) m ≡ targeting k m
   same-targeting k m n = rw (tally-step k (λ p. N .counts p && eqb (N .target p) m), n) (omega arith)
 
   -- one that does not
-  counting-pass : (n k : ℕ) (counts waits written : List ℕ) → Counting n k counts waits written → k < N .count → N .count ≤ maxRules → N .counts k ≡ false
-      → Counting n (k + 1) counts waits (marked written k)
-  counting-pass n k counts waits written c h f x =
-      let l = c .flags in
+  counting-pass : (n k : ℕ) (counts waits written : List ℕ) → Counting n k counts waits written → k < N .count → N .counts k ≡ false → Counting n (k + 1) counts waits written
+  counting-pass n k counts waits written c h x =
       record {
         within = omega arith;
         many = rw (tally-step k (N .counts), x) (omega (arith, c .many));
         size = c .size;
         wide = c .wide;
-        flags = length-set written (k / wordBits) _ ∙ c .flags;
+        flags = c .flags;
         each = λ m j. c .each m j ∙ sym (same-targeting k m x);
         rest = λ m j. c .rest m j ∙ ap (λ (z : ℕ). not (eqb z 0)) (sym (same-targeting k m x));
-        skips = λ q. ap (λ (d : Written). d q) (flagged-set written k (omega arith)) ∙ cases (eqb q k)
-            (λ z. let p : q ≡ k = eqb-true q k z in rw (z, p, x, lt-ltb k (k + 1) (omega arith)))
-            (λ z. let u = eqb-false q k z in rw z (skips-more k written q (c .skips q) (λ p. absurd (u p))));
+        skips = λ q. c .skips q ∙ ap (λ (b : Bool). ltb q (N .count) && not b) (asked-more k q (λ z. x));
       }
 
   pub counting-skip : (n k n′ : ℕ) (b : Bool) (counts waits written counts′ waits′ written′ : List ℕ)
-      → Counting n k counts waits written → k < N .count → N .count ≤ maxRules → b ≡ N .counts k → b ≡ false
-      → counts′ ≡ counts → waits′ ≡ waits → written′ ≡ marked written k → n′ ≡ n → Counting n′ (k + 1) counts′ waits′ written′
-  counting-skip n k n′ b counts waits written counts′ waits′ written′ c h f x y p q r z = rw (p, q, r, z) (counting-pass n k counts waits written c h f (sym x ∙ y))
+      → Counting n k counts waits written → k < N .count → b ≡ N .counts k → b ≡ false
+      → counts′ ≡ counts → waits′ ≡ waits → written′ ≡ written → n′ ≡ n → Counting n′ (k + 1) counts′ waits′ written′
+  counting-skip n k n′ b counts waits written counts′ waits′ written′ c h x y p q r z = rw (p, q, r, z) (counting-pass n k counts waits written c h (sym x ∙ y))
 
-  pub counting-last : (n k : ℕ) (counts waits written : List ℕ) → ((q : ℕ) → N .count ≤ q → N .counts q ≡ true) → Counting n k counts waits written → N .count ≤ k
-      → (n ≡ countedRules N) × (Begun N counts waits written)
+  pub counting-there : (n k to : ℕ) (counts waits written : List ℕ) → Counting n k counts waits written → k ≤ to → to ≤ k → Counting n to counts waits written
+  counting-there n k to counts waits written c h i = let e : k ≡ to = omega arith in rw e at c
+
+  -- and any number of those that do not
+  counting-over : (d n k to : ℕ) (counts waits written : List ℕ) → k + d ≡ to → to ≤ N .count → ((r : ℕ) → k ≤ r → r < to → N .counts r ≡ false)
+      → Counting n k counts waits written → Counting n to counts waits written
+  counting-over zero n k to counts waits written e h x c = let p : to ≡ k = omega arith in rw p c
+  counting-over (suc d) n k to counts waits written e h x c =
+      counting-over d n (k + 1) to counts waits written (omega arith) h (λ r i j. x r (omega arith) j) (counting-pass n k counts waits written c (omega arith) (x k (omega arith) (omega arith)))
+
+  module _ (rules from to again end : ℕ) (e : rules ≡ N .count) (x : Span N rules from to again end) where
+    -- up to the first that may count
+    pub counting-first : (written : List ℕ) → AllWritten rules written → Counting 0 from (replicate maxMarks 0) (replicate markWords 0) written
+    counting-first written a =
+        let i = x .first in let j = x .gap in let k = x .then in let l = x .within in
+        counting-over from 0 0 from _ _ written (omega arith) (omega arith) (λ r u v. x .below r v) (counting-none written (rw e at a))
+
+    -- from one span to the next
+    pub counting-gap : (n : ℕ) (counts waits written : List ℕ) → Counting n to counts waits written → Counting n again counts waits written
+    counting-gap n counts waits written c =
+        let i = x .gap in let j = x .then in let k = x .within in
+        counting-over (again - to) n to again counts waits written (omega arith) (omega arith) (x .between) c
+
+    -- behind the last that may
+    counting-end : (n : ℕ) (counts waits written : List ℕ) → Counting n end counts waits written → Counting n (N .count) counts waits written
+    counting-end n counts waits written c =
+        let k = x .within in
+        counting-over (N .count - end) n end (N .count) counts waits written (omega arith) (omega arith) (λ r u v. x .above r u (omega arith)) c
+
+  pub counting-last : (n rules from to again end : ℕ) (counts waits written : List ℕ) → ((q : ℕ) → N .count ≤ q → N .counts q ≡ true) → rules ≡ N .count → Span N rules from to again end
+      → Counting n end counts waits written → (n ≡ countedRules N) × (Begun N counts waits written)
   unfolding isSettled
-  counting-last n k counts waits written past c h =
-      let e : k ≡ N .count = (let i = c .within in omega arith) in
-      let f : flagged written ≡ skipped N = fun-ext (λ q. c .skips q ∙ cases (ltb q k) (λ x. rw x) (λ x. rw (x, past q (omega (arith, ltb-false q k x))))) in
-      let w : (m : ℕ) → targeting k m ≡ waiting N (flagged written) m = λ m. rw (e, f) (sym (skipped-waiting N m ∙ waiting-first N m)) in (
-        c .many ∙ rw e,
+  counting-last n rules from to again end counts waits written past e s i =
+      let c = counting-end rules from to again end e s n counts waits written i in
+      let f : flagged written ≡ skipped N = fun-ext (λ q. c .skips q ∙ cases (ltb q (N .count)) (λ x. rw x) (λ x. rw (x, past q (ltb-false q (N .count) x)))) in
+      let w : (m : ℕ) → targeting (N .count) m ≡ waiting N (flagged written) m = λ m. rw f (sym (skipped-waiting N m ∙ waiting-first N m)) in (
+        c .many,
         record {
           size = c .flags;
           flags = f;

@@ -1,8 +1,8 @@
 // Which rules are written, as bits.
 ghost use mathlib.Core.Path.{_≡_};
-ghost use Prim.Native.Nat.{_<_};
+ghost use Prim.Native.Nat.{_≤_, _<_};
 ghost use Rattle.paper.specs.Limits.{maxRules};
-ghost use Rattle.unwritten.specs.Words.{flagged, marked, Onward};
+ghost use Rattle.unwritten.specs.Words.{flagged, marked, unmarked, AllWritten, Onward};
 use paper::MAX_RULES;
 
 // Rule r is bit r % 64 of word r / 64: about 16 KiB.
@@ -21,6 +21,29 @@ pub fn mark_written(written: &mut [u64; RULE_WORDS], r: usize)
 {
     let word = written[r / 64];
     written[r / 64] = sets::join(word, sets::one(r % 64));
+}
+
+pub fn mark_unwritten(written: &mut [u64; RULE_WORDS], r: usize)
+    requires { ⌜ r < maxRules ⌝ }
+    ensures { λ _. ⌜ now (written .exit) ≡ unmarked (now (written .entry)) r ⌝ }
+{
+    let word = written[r / 64];
+    written[r / 64] = sets::less(word, sets::one(r % 64));
+}
+
+// Every rule of a book of so many stands as written, and nothing past them does. Whatever the array held is gone.
+pub fn write_all(written: &mut [u64; RULE_WORDS], rules: usize)
+    requires { ⌜ rules ≤ maxRules ⌝ }
+    ensures { λ _. ⌜ AllWritten rules (now (written .exit)) ⌝ }
+{
+    *written = [0; RULE_WORDS];
+    let words = rules / 64;
+    for w in 0..words {
+        written[w] = sets::all_below(64);
+    }
+    if words < RULE_WORDS {
+        written[words] = sets::all_below(rules % 64);
+    }
 }
 
 // The next rule in the word of `at` that is not written, or the first of the next word: those between are written.

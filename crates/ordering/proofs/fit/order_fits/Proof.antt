@@ -2,6 +2,7 @@
 use Prim.Native.Nat.{_-_}
 use Rattle.ordering.proofs.Fitting.{Fitting, fitting-first, fitting-short, fitting-past, fitting-unready, fitting-last, fitting-more}
 use Rattle.rule_order.specs.Freed.{Freed}
+use Rattle.unwritten.specs.Counters.{span-all}
 use Rattle.ordering.proofs.Stepping.{below-most, freed-struck}
 use borrow.Author.Needs.{needs}
 use native.Mathlib.Omega.{arith}
@@ -21,7 +22,7 @@ order-fits-spec =
     (tie.spec
     Inv-loop
     μ-loop
-    (λ c κs. search needs)
+    (λ c κs. search (needs, span-all))
     (λ c. fitting-short _ _ _ _ (c .before .count-targets .ensures .0 .0) (c .if1 .taken))
     (λ c. (fitting-first _ _ _ _ _ _ (c .before .count-targets .ensures .0 .1), search needs))
     (λ c κs. omega arith)

@@ -1,7 +1,7 @@
 -- `ordering::ready::is_ready` meets its contract. Assumes nothing.
 use native.Mathlib.Omega.{arith}
 use Rattle.rule_order.specs.Nets.{rules-few}
-use Rattle.ordering.specs.Ready.{stand-written, stand-untouched}
+use Rattle.ordering.specs.Ready.{stand-written, stand-free}
 use borrow.Author.Needs.{needs}
 use Rattle.ordering.proofs.ready.is_ready.Statement.{statement}
 use Rattle.ordering.proofs.ready.is_ready.Tie as tie
@@ -13,4 +13,4 @@ is-ready-spec =
     (λ c κs. omega (arith, rules-few _ (c .before .pre .0)))
     (λ c. (search stand-written, search needs))
     (λ c κs. search needs)
-    (λ c. (search stand-untouched, search needs)))
+    (λ c. (search stand-free, search needs)))

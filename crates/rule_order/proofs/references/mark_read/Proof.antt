@@ -1,11 +1,11 @@
--- `rule_order::references::condition_touches` meets its contract. Assumes nothing.
+-- `rule_order::references::mark_read` meets its contract. Assumes nothing.
 use Rattle.rule_order.specs.References.{reads-none, asked-in, reads-text}
 use borrow.Author.Needs.{needs}
-use Rattle.rule_order.proofs.references.condition_touches.Statement.{statement}
-use Rattle.rule_order.proofs.references.condition_touches.Tie as tie
+use Rattle.rule_order.proofs.references.mark_read.Statement.{statement}
+use Rattle.rule_order.proofs.references.mark_read.Tie as tie
 
-pub condition-touches-spec : {M : Type 1} → statement M
-condition-touches-spec =
+pub mark-read-spec : {M : Type 1} → statement M
+mark-read-spec =
     tie.close
     (tie.spec
     (λ c. search needs)
