@@ -20,7 +20,7 @@ use paper::ORDER_ROOM;
 use texts::references::MARK_WORDS;
 use unwritten::written::RULE_WORDS;
 
-// 23 to 26, behind a head that passed, in six lent arrays: 41,184 bytes.
+// 23 to 26, behind a head that passed, in four lent arrays: 24,800 bytes.
 pub fn judge_book(
     book: &[u8],
     counts: Counts,
@@ -28,8 +28,6 @@ pub fn judge_book(
     waits: &mut [u64; MARK_WORDS],
     written: &mut [u64; RULE_WORDS],
     free: &mut [u32; MAX_CONDITIONS],
-    reached: &mut [u64; MAX_MARKS],
-    asked: &mut [u64; MAX_CONDITIONS],
 ) -> Answer
     requires { ⌜ Begun (now book) counts ⌝ }
     ensures { λ r. ⌜ r ≡ bookAnswer (now (book .entry)) ⌝ }
@@ -39,17 +37,7 @@ pub fn judge_book(
     if answer.code != 0 {
         return answer;
     }
-    judge_rules(
-        book,
-        counts,
-        &named,
-        targeted,
-        waits,
-        written,
-        free,
-        reached,
-        asked,
-    )
+    judge_rules(book, counts, &named, targeted, waits, written, free)
 }
 
 // 23 to 26, 29 and 31, or 0 and the stage's running order in the room.
@@ -61,14 +49,12 @@ fn check_in(
     waits: &mut [u64; MARK_WORDS],
     written: &mut [u64; RULE_WORDS],
     free: &mut [u32; MAX_CONDITIONS],
-    reached: &mut [u64; MAX_MARKS],
-    asked: &mut [u64; MAX_CONDITIONS],
     room: &mut [u32],
 ) -> Answer
     requires { ⌜ Begun (now book) counts ⌝ }
     ensures { λ r. ⌜ (r ≡ checking (now (book .entry)) stage (length (now (room .entry)))) × (now (room .exit) ≡ checkedRoom (now (book .entry)) stage (now (room .entry))) ⌝ }
 {
-    let answer = judge_book(book, counts, targeted, waits, written, free, reached, asked);
+    let answer = judge_book(book, counts, targeted, waits, written, free);
     if answer.code != 0 {
         return answer;
     }
@@ -83,27 +69,30 @@ fn check_in(
     paper::granted()
 }
 
-// The arrays that a book is judged in.
-fn check_book(book: &[u8], counts: Counts, stage: u32, room: &mut [u32]) -> Answer
-    requires { ⌜ Begun (now book) counts ⌝ }
+// The check in four lent arrays: 20 to 26, 29 and 31, or 0 and the order.
+fn check_whole(
+    book: &[u8],
+    stage: u32,
+    targeted: &mut [u32; MAX_MARKS],
+    waits: &mut [u64; MARK_WORDS],
+    written: &mut [u64; RULE_WORDS],
+    free: &mut [u32; MAX_CONDITIONS],
+    room: &mut [u32],
+) -> Answer
     ensures { λ r. ⌜ (r ≡ checking (now (book .entry)) stage (length (now (room .entry)))) × (now (room .exit) ≡ checkedRoom (now (book .entry)) stage (now (room .entry))) ⌝ }
 {
-    let mut targeted = [0u32; MAX_MARKS];
-    let mut waits = [0u64; MARK_WORDS];
-    let mut written = [0u64; RULE_WORDS];
-    let mut free = [0u32; MAX_CONDITIONS];
-    let mut reached = [0u64; MAX_MARKS];
-    let mut asked = [0u64; MAX_CONDITIONS];
+    let judged = judge_head(book);
+    if judged.code != 0 {
+        return judged;
+    }
     check_in(
         book,
-        counts,
+        counts_at(book),
         stage,
-        &mut targeted,
-        &mut waits,
-        &mut written,
-        &mut free,
-        &mut reached,
-        &mut asked,
+        targeted,
+        waits,
+        written,
+        free,
         room,
     )
 }
@@ -112,13 +101,22 @@ fn check_book(book: &[u8], counts: Counts, stage: u32, room: &mut [u32]) -> Answ
 // Cost: one pass over the rules for 23, one over the condition records and their texts for 24, in which the marks that they name are noted, one over the
 // rules for loops, one for each 192 marks for clashes, one for what counts, and the scan of the running order, which reads each text once more.
 // A book where some mark may lie on a loop or have a clash takes more: `loops::loop_place` and `clash_search::first_clash` say how much.
-// Stack: 40 KiB for the six arrays, and 4 in the search for clashes.
+// Stack: 24 KiB for the four arrays, 8 in the scan, 4 in the search for clashes, and 16 in that for loops. The arrays are made before the head is judged:
+// docs/DECISIONS.md says why.
 pub fn check(book: &[u8], stage: u32, room: &mut [u32]) -> Answer
     ensures { λ r. ⌜ (r ≡ checking (now (book .entry)) stage (length (now (room .entry)))) × (now (room .exit) ≡ checkedRoom (now (book .entry)) stage (now (room .entry))) ⌝ }
 {
-    let judged = judge_head(book);
-    if judged.code != 0 {
-        return judged;
-    }
-    check_book(book, counts_at(book), stage, room)
+    let mut targeted = [0u32; MAX_MARKS];
+    let mut waits = [0u64; MARK_WORDS];
+    let mut written = [0u64; RULE_WORDS];
+    let mut free = [0u32; MAX_CONDITIONS];
+    check_whole(
+        book,
+        stage,
+        &mut targeted,
+        &mut waits,
+        &mut written,
+        &mut free,
+        room,
+    )
 }

@@ -24,25 +24,13 @@ pub fn judge_rules(
     waits: &mut [u64; MARK_WORDS],
     written: &mut [u64; RULE_WORDS],
     free: &mut [u32; MAX_CONDITIONS],
-    reached: &mut [u64; MAX_MARKS],
-    asked: &mut [u64; MAX_CONDITIONS],
 ) -> Answer
     requires { ⌜ (Opened (now book) counts) × (NamedIn (now book) (now named)) ⌝ }
     ensures { λ r. ⌜ r ≡ rulesAnswer (bookOf (now (book .entry))) ⌝ }
 {
     let rules = counts.rules as usize;
     let marks = counts.marks as usize;
-    let m = loop_place(
-        book,
-        counts,
-        named,
-        targeted,
-        waits,
-        written,
-        free,
-        reached,
-        asked,
-    );
+    let m = loop_place(book, counts, named, targeted, waits, written, free);
     if m < marks {
         return paper::refused(LOOP, m as u32, 0);
     }

@@ -89,20 +89,16 @@ fn source_on_loop(
 }
 
 // 64 marks at a time.
-fn search(
-    image: &[u8],
-    counts: Counts,
-    stage: u32,
-    reached: &mut [u64; MAX_MARKS],
-    asked: &mut [u64; MAX_CONDITIONS],
-) -> usize
+fn search(image: &[u8], counts: Counts, stage: u32) -> usize
     requires { ⌜ Opened (now image) counts ⌝ }
     ensures { λ r. ⌜ r ≡ stagePlace (bookOf (now (image .entry))) stage ⌝ }
 {
+    let mut reached = [0u64; MAX_MARKS];
+    let mut asked = [0u64; MAX_CONDITIONS];
     let marks = counts.marks as usize;
     let mut base: usize = 0;
     while base < marks {
-        let i = source_on_loop(image, counts, stage, base, reached, asked);
+        let i = source_on_loop(image, counts, stage, base, &mut reached, &mut asked);
         if i < 64 {
             return base + i;
         }
@@ -112,7 +108,7 @@ fn search(
 }
 
 // The stage need not be one that the book has. Where the running order lists all rules that count, there is no loop and no search. The
-// six arrays are lent, whatever they hold. A search takes a round for every 64 marks up to the place. A round takes passes over the texts
+// four arrays are lent, whatever they hold. A search takes a round for every 64 marks up to the place. A round takes passes over the texts
 // and the rules, at most one for each mark, fewer where rules stand before those that refer to their targets, and one more over the rules.
 pub fn stage_place(
     image: &[u8],
@@ -122,8 +118,6 @@ pub fn stage_place(
     waits: &mut [u64; MARK_WORDS],
     written: &mut [u64; RULE_WORDS],
     free: &mut [u32; MAX_CONDITIONS],
-    reached: &mut [u64; MAX_MARKS],
-    asked: &mut [u64; MAX_CONDITIONS],
 ) -> usize
     requires { ⌜ Opened (now image) counts ⌝ }
     ensures { λ r. ⌜ r ≡ stagePlace (bookOf (now (image .entry))) stage ⌝ }
@@ -132,5 +126,5 @@ pub fn stage_place(
     if gets_through(image, rules, stage, targeted, waits, written, free) {
         return counts.marks as usize;
     }
-    search(image, counts, stage, reached, asked)
+    search(image, counts, stage)
 }

@@ -67,8 +67,6 @@ fn searched_place(
     waits: &mut [u64; MARK_WORDS],
     written: &mut [u64; RULE_WORDS],
     free: &mut [u32; MAX_CONDITIONS],
-    reached: &mut [u64; MAX_MARKS],
-    asked: &mut [u64; MAX_CONDITIONS],
 ) -> usize
     requires { ⌜ (Opened (now image) counts) × (number set ≡ searching (bookOf (now image))) × (number set ≡ 0 → ⊥) ⌝ }
     ensures { λ r. ⌜ r ≡ loopPlace (bookOf (now (image .entry))) ⌝ }
@@ -77,24 +75,14 @@ fn searched_place(
     let stages = counts.stages;
     for stage in 0..stages {
         if wide::member(set, stage as usize) {
-            let place = stage_place(
-                image,
-                counts,
-                stage,
-                targeted,
-                waits,
-                written,
-                free,
-                reached,
-                asked,
-            );
+            let place = stage_place(image, counts, stage, targeted, waits, written, free);
             least = lesser(least, place);
         }
     }
     least
 }
 
-// Over all stages. `named` has the marks of the texts; the six arrays are lent, whatever they hold.
+// Over all stages. `named` has the marks of the texts; the four arrays are lent, whatever they hold.
 // A book where no loop is possible, as a derived one, takes one pass over the rules, and no search. Else a completion rule without a condition
 // refers to nothing and is on no loop: where no stage has one with a condition, one search among the rules that count for every stage serves
 // all; it is asked for `stages`, which no rule names. Where some stages have, these rules count for each of them too, and the searches
@@ -108,8 +96,6 @@ pub fn loop_place(
     waits: &mut [u64; MARK_WORDS],
     written: &mut [u64; RULE_WORDS],
     free: &mut [u32; MAX_CONDITIONS],
-    reached: &mut [u64; MAX_MARKS],
-    asked: &mut [u64; MAX_CONDITIONS],
 ) -> usize
     requires { ⌜ (Opened (now image) counts) × (NamedIn (now image) (now named)) ⌝ }
     ensures { λ r. ⌜ r ≡ loopPlace (bookOf (now (image .entry))) ⌝ }
@@ -122,27 +108,7 @@ pub fn loop_place(
     }
     let set = searching(image, counts.rules as usize);
     if wide::is_empty(set) {
-        return stage_place(
-            image,
-            counts,
-            counts.stages,
-            targeted,
-            waits,
-            written,
-            free,
-            reached,
-            asked,
-        );
+        return stage_place(image, counts, counts.stages, targeted, waits, written, free);
     }
-    searched_place(
-        image,
-        counts,
-        set,
-        targeted,
-        waits,
-        written,
-        free,
-        reached,
-        asked,
-    )
+    searched_place(image, counts, set, targeted, waits, written, free)
 }

@@ -20,8 +20,6 @@ fn judge_begun(book: &[u8], counts: Counts) -> Answer
     let mut waits = [0u64; MARK_WORDS];
     let mut written = [0u64; RULE_WORDS];
     let mut free = [0u32; MAX_CONDITIONS];
-    let mut reached = [0u64; MAX_MARKS];
-    let mut asked = [0u64; MAX_CONDITIONS];
     judge_book(
         book,
         counts,
@@ -29,8 +27,6 @@ fn judge_begun(book: &[u8], counts: Counts) -> Answer
         &mut waits,
         &mut written,
         &mut free,
-        &mut reached,
-        &mut asked,
     )
 }
 

@@ -69,8 +69,8 @@ fn refuse(answer: Answer) -> ReadBack
 
 // 20 to 26 and 33 with the empty chart, or 0 and the chart for which the deriver writes this book: no roles, and no marking, which a book does not carry.
 // Cost: the passes of `judge::judge_book`, one over the rules and one over the texts that gather the chart, and one over the book that compares it.
-// Stack: 114 KiB, and 155 with the caller's copy: one frame holds the tables as they are gathered, 40, the chart made of them, 41, and the empty chart of a
-// refusal; the arrays that the book is judged in, 44, are gone by then, and their place is taken again.
+// Stack: 134 KiB, and 174 with the caller's copy: one frame holds the tables as they are gathered, 40, the chart made of them, 41, and the empty chart of a
+// refusal; the search for loops takes 16 and its scan 8 below it.
 pub fn read_back(book: &[u8]) -> ReadBack
     ensures { λ r. ⌜ backOf r ≡ readingBack (now (book .entry)) ⌝ }
 {

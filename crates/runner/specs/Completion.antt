@@ -31,7 +31,7 @@ use Rattle.runner.specs.declared.Completion.{Completion}
 
 -- ---- what a completion is made for
 
--- "any snapshot whose marks belong to it, any open stage": one record of 256 marks, none at or above M yes, and a stage of the book that is open
+-- "any snapshot whose marks belong to it, any open stage": one record of 1,024 marks, none at or above M yes, and a stage of the book that is open
 pub record Open (s : List ℕ) (snapshot : Snapshot) (stage : ℕ) : Type 0 where
   pub whole : length (snapshot .marks) ≡ maxMarks
   pub belongs : Belongs s (snapshot .marks)
@@ -46,7 +46,7 @@ pub record Completes (s order : List ℕ) (snapshot : Snapshot) (stage : ℕ) (r
   pub fires : Goes (bookOf s) (snapOf (snapshot .marks)) stage (snapOf (snapshot .marks)) order (snapOf (result .snapshot .marks))
   -- the rules that fire in the end have written the end, and nothing else has
   pub settled : Settled (rulesOf s stage) (actsOf (bookOf s) (snapOf (snapshot .marks)) stage) (snapOf (snapshot .marks)) (snapOf (result .snapshot .marks))
-  -- the snapshot is one of 256 marks that belong to the book
+  -- the snapshot is one of 1,024 marks that belong to the book
   pub whole : length (result .snapshot .marks) ≡ maxMarks
   pub belongs : Belongs s (result .snapshot .marks)
 

@@ -29,13 +29,11 @@ fn judge_order_in(
     waits: &mut [u64; MARK_WORDS],
     written: &mut [u64; RULE_WORDS],
     free: &mut [u32; MAX_CONDITIONS],
-    reached: &mut [u64; MAX_MARKS],
-    asked: &mut [u64; MAX_CONDITIONS],
 ) -> Answer
     requires { ⌜ Begun (now book) counts ⌝ }
     ensures { λ r. ⌜ r ≡ orderAnswer (now (book .entry)) (now (order .entry)) stage ⌝ }
 {
-    let answer = judge_book(book, counts, targeted, waits, written, free, reached, asked);
+    let answer = judge_book(book, counts, targeted, waits, written, free);
     if answer.code != 0 {
         return answer;
     }
@@ -58,8 +56,6 @@ fn judge_order_of(book: &[u8], counts: Counts, order: &[u32], stage: u32) -> Ans
     let mut waits = [0u64; MARK_WORDS];
     let mut written = [0u64; RULE_WORDS];
     let mut free = [0u32; MAX_CONDITIONS];
-    let mut reached = [0u64; MAX_MARKS];
-    let mut asked = [0u64; MAX_CONDITIONS];
     judge_order_in(
         book,
         counts,
@@ -69,8 +65,6 @@ fn judge_order_of(book: &[u8], counts: Counts, order: &[u32], stage: u32) -> Ans
         &mut waits,
         &mut written,
         &mut free,
-        &mut reached,
-        &mut asked,
     )
 }
 

@@ -10,5 +10,5 @@ judge-book-spec =
     (tie.spec
     (λ c κs. search needs)
     (λ c. book-refused _ _ (c .before .before .judge-body .ensures .0) (c .if1 .taken))
-    (λ c κs. let j = c .before .before .before .before .before .before .before .before .before .judge-body .ensures in (book-opened _ _ (j .0) (c .before .before .before .before .before .before .before .if1 .left) _ (c .before .before .before .before .before .before .before .before .before .before .before .before .pre .counts), j .1 (c .before .before .before .before .before .before .before .if1 .left)))
-    (λ c. book-judged _ _ (c .before .before .before .before .before .before .before .before .before .before .judge-body .ensures .0) (c .before .before .before .before .before .before .before .before .if1 .left) _ (c .judge-rules .ensures)))
+    (λ c κs. let j = c .before .before .before .before .before .before .before .judge-body .ensures in (book-opened _ _ (j .0) (c .before .before .before .before .before .if1 .left) _ (c .before .before .before .before .before .before .before .before .before .before .pre .counts), j .1 (c .before .before .before .before .before .if1 .left)))
+    (λ c. book-judged _ _ (c .before .before .before .before .before .before .before .before .judge-body .ensures .0) (c .before .before .before .before .before .before .if1 .left) _ (c .judge-rules .ensures)))

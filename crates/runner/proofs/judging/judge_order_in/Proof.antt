@@ -11,11 +11,11 @@ judge-order-in-spec =
     (λ c κs. search needs)
     (λ c. order-book _ _ _ _ (c .before .before .judge-book .ensures) (c .if1 .taken))
     (λ c κs. search needs)
-    (λ c. order-nowhere _ _ _ _ (c .before .before .before .before .before .judge-book .ensures) (c .before .before .before .if1 .left) _ (c .before .before .before .before .before .before .before .before .before .before .before .before .before .before .pre .counts) _
+    (λ c. order-nowhere _ _ _ _ (c .before .before .before .before .before .judge-book .ensures) (c .before .before .before .if1 .left) _ (c .before .before .before .before .before .before .before .before .before .before .before .before .pre .counts) _
     (c .before .if2 .taken) (c .refused .ensures))
     (λ c. search needs)
-    (λ c κs. fit-asks _ _ (c .before .before .before .before .before .before .before .before .before .judge-book .ensures) (c .before .before .before .before .before .before .before .if1 .left) _ (c .before .before .before .before .before .before .before .before .before .before .before .before .before .before .before .before .before .before .pre .counts))
+    (λ c κs. fit-asks _ _ (c .before .before .before .before .before .before .before .before .before .judge-book .ensures) (c .before .before .before .before .before .before .before .if1 .left) _ (c .before .before .before .before .before .before .before .before .before .before .before .before .before .before .before .before .pre .counts))
     (λ c κs. search needs)
-    (λ c. order-fit _ _ _ _ (c .before .before .before .before .before .before .before .before .before .before .before .before .judge-book .ensures) (c .before .before .before .before .before .before .before .before .before .before .if1 .left) _ (c .before .before .before .before .before .before .before .before .before .before .before .before .before .before .before .before .before .before .before .before .before .pre .counts) (c .before .before .before .before .before .before .before .before .if2 .left) _ (c .before .before .order-fits .ensures) _ (c .before .if3 .taken) (c .granted .ensures))
+    (λ c. order-fit _ _ _ _ (c .before .before .before .before .before .before .before .before .before .before .before .before .judge-book .ensures) (c .before .before .before .before .before .before .before .before .before .before .if1 .left) _ (c .before .before .before .before .before .before .before .before .before .before .before .before .before .before .before .before .before .before .before .pre .counts) (c .before .before .before .before .before .before .before .before .if2 .left) _ (c .before .before .order-fits .ensures) _ (c .before .if3 .taken) (c .granted .ensures))
     (λ c κs. search needs)
-    (λ c. order-unfit _ _ _ _ (c .before .before .before .before .before .before .before .before .before .before .before .before .judge-book .ensures) (c .before .before .before .before .before .before .before .before .before .before .if1 .left) _ (c .before .before .before .before .before .before .before .before .before .before .before .before .before .before .before .before .before .before .before .before .before .pre .counts) (c .before .before .before .before .before .before .before .before .if2 .left) _ (c .before .before .order-fits .ensures) _ (c .before .if3 .left) (c .refused2 .ensures)))
+    (λ c. order-unfit _ _ _ _ (c .before .before .before .before .before .before .before .before .before .before .before .before .judge-book .ensures) (c .before .before .before .before .before .before .before .before .before .before .if1 .left) _ (c .before .before .before .before .before .before .before .before .before .before .before .before .before .before .before .before .before .before .before .pre .counts) (c .before .before .before .before .before .before .before .before .if2 .left) _ (c .before .before .order-fits .ensures) _ (c .before .if3 .left) (c .refused2 .ensures)))
