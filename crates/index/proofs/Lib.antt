@@ -1,2 +1,4 @@
 -- The root of the crate's proofs.
 pub mod Writing
+pub mod Ascending
+pub mod Listing

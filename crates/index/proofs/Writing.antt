@@ -4,7 +4,7 @@ use mathlib.Core.List.{List, _++_}
 use Prim.Native.Nat.{ℕ, suc, _+_, _*_, _^_, _≤_, _<_}
 use native.Mathlib.Omega.{arith}
 use lib.ListN.{length, getD}
-use Rattle.paper.specs.Limits.{maxRules, indexHeader, indexStage, indexRule}
+use Rattle.paper.specs.Limits.{maxMarks, maxRules, indexHeader, indexStage, indexRule}
 use Rattle.general.specs.Lists.{flat}
 use Rattle.general.specs.Writing.{Fits, Wrote, then, fits-first, fits-then, Runs, runs-start, runs-length, runs-fits, runs-more, runs-done}
 use Rattle.wire.specs.Wire.{put16, put32, bytes16, bytes32}
@@ -16,6 +16,7 @@ use Rattle.book.specs.WellFormed.{WellFormed}
 use Rattle.book.specs.declared.Counts.{Counts}
 use Rattle.rule_order.specs.Nets.{rulesOf, rules-few}
 use Rattle.unwritten.specs.Counters.{Begun}
+use Rattle.ordering.specs.declared.scan.Scan.{Scan}
 use Rattle.ordering.specs.Scanning.{Scanned, Turn, scanned-first, order-few}
 use Rattle.index.specs.Index.{orderBytes, indexImage, order-length}
 use Rattle.index.specs.Sizes.{orderSize, startFrom, entryFrom, Sized}
@@ -24,7 +25,7 @@ use Rattle.index.specs.Ready.{IndexReady, image-runs}
 
 -- ---- a pair of numbers
 
-number-wrote : (room : List ℕ) (at n : ℕ) → Wrote room at (bytes32 n) (at + 4) (put32 room at n)
+pub number-wrote : (room : List ℕ) (at n : ℕ) → Wrote room at (bytes32 n) (at + 4) (put32 room at n)
 unfolding put32 put16 bytes32 bytes16
 number-wrote room at n =
     let a : at + 2 + 1 ≡ suc (suc (suc at)) = omega arith in
@@ -73,18 +74,19 @@ module _ (stages : ℕ) (table : List ℕ) (common : ℕ) where
 -- ---- the rules of an order
 
 module _ (s : List ℕ) (stage : ℕ) where
-  pub record Putting (room₀ : List ℕ) (from counted at passed : ℕ) (counts waits written : List ℕ) (j next : ℕ) (room : List ℕ) : Type 0 where
+  pub record Putting (room₀ : List ℕ) (from counted : ℕ) (scan : Scan) (counts waits written low high : List ℕ) (j next : ℕ) (room : List ℕ) : Type 0 where
     pub many : counted ≡ ordered s stage
     pub runs : Runs (ruleAt s stage) (ordered s stage) room₀ from j next room
-    pub scan : Scanned s stage j at passed counts waits written
+    pub scanned : Scanned s stage j scan counts waits written low high
 
-  pub putting-first : (room : List ℕ) (from counted passed : ℕ) (counts waits written : List ℕ) → WellFormed s → NoLoop (rulesOf s stage)
-      → counted ≡ countedRules (rulesOf s stage) → Begun (rulesOf s stage) counts waits written → Putting room from counted 0 passed counts waits written 0 from room
-  putting-first room from counted passed counts waits written g l e b =
-      record { many = e ∙ sym (order-length s stage g l); runs = runs-start (ruleAt s stage) (ordered s stage) room from; scan = scanned-first s stage passed counts waits written b }
+  pub putting-first : (room : List ℕ) (from counted : ℕ) (scan : Scan) (counts waits written low high : List ℕ) → (scan .at ≡ 0) × (scan .front ≡ 0) → length low ≡ maxMarks → length high ≡ maxMarks
+      → WellFormed s → NoLoop (rulesOf s stage) → counted ≡ countedRules (rulesOf s stage) → Begun (rulesOf s stage) counts waits written
+      → Putting room from counted scan counts waits written low high 0 from room
+  putting-first room from counted scan counts waits written low high x y z g l e b =
+      record { many = e ∙ sym (order-length s stage g l); runs = runs-start (ruleAt s stage) (ordered s stage) room from; scanned = scanned-first s stage scan counts waits written low high x y z b }
 
-  module _ (room₀ : List ℕ) (from counted at passed : ℕ) (counts waits written : List ℕ) (j next : ℕ) (room : List ℕ)
-      (i : Putting room₀ from counted at passed counts waits written j next room) where
+  module _ (room₀ : List ℕ) (from counted : ℕ) (scan : Scan) (counts waits written low high : List ℕ) (j next : ℕ) (room : List ℕ)
+      (i : Putting room₀ from counted scan counts waits written low high j next room) where
     pub putting-length : length room ≡ length room₀
     putting-length = runs-length _ _ _ _ _ _ _ (i .runs)
 
@@ -96,19 +98,19 @@ module _ (s : List ℕ) (stage : ℕ) where
     pub putting-last : counted ≤ j → Wrote room₀ from (orderBytes (bookOf s) stage) next room
     putting-last h = let e : counted ≡ ordered s stage = i .many in rw (order-runs s stage) (runs-done _ _ _ _ _ _ _ (i .runs) (omega arith))
 
-    module _ (rule at′ passed′ : ℕ) (counts′ waits′ written′ : List ℕ) (f : Turn s at passed counts waits written rule at′ passed′ counts′ waits′ written′) where
-      pub putting-small : WellFormed s → rule < 2 ^ 32
-      putting-small g = let e = f .finds stage j (i .scan) .next in omega (arith, order-few s stage j, rules-few s g)
+    module _ (scan′ : Scan) (counts′ waits′ written′ low′ high′ : List ℕ) (f : Turn s scan counts waits written low high scan′ counts′ waits′ written′ low′ high′) where
+      pub putting-small : WellFormed s → scan′ .rule < 2 ^ 32
+      putting-small g = let e = f .finds stage j (i .scanned) .next in omega (arith, order-few s stage j, rules-few s g)
 
-      pub putting-more : (room′ : List ℕ) → j < counted → room′ ≡ put32 room next rule → Putting room₀ from counted at′ passed′ counts′ waits′ written′ (j + 1) (next + indexRule) room′
+      pub putting-more : (room′ : List ℕ) → j < counted → room′ ≡ put32 room next (scan′ .rule) → Putting room₀ from counted scan′ counts′ waits′ written′ low′ high′ (j + 1) (next + indexRule) room′
       putting-more room′ h e =
           let m : counted ≡ ordered s stage = i .many in
           let l : j < ordered s stage = omega arith in
-          let d = f .finds stage j (i .scan) in
+          let d = f .finds stage j (i .scanned) in
           record {
             many = m;
             runs = runs-more _ _ _ _ _ _ _ (i .runs) (next + indexRule) room′ l (rw (e, d .next) (number-wrote room next (getD (runningOrder (rulesOf s stage)) j (rulesIn s))));
-            scan = d .goes l;
+            scanned = d .goes l;
           }
 
 -- ---- the whole

@@ -59,14 +59,12 @@ fn build_in(
     waits: &mut [u64; MARK_WORDS],
     written: &mut [u64; RULE_WORDS],
     free: &mut [u32; MAX_CONDITIONS],
-    reached: &mut [u64; MAX_MARKS],
-    asked: &mut [u64; MAX_CONDITIONS],
     room: &mut [u8],
 ) -> Answer
     requires { ⌜ Begun (now book) counts ⌝ }
     ensures { λ r. ⌜ (r ≡ building (now (book .entry)) (length (now (room .entry)))) × (now (room .exit) ≡ builtRoom (now (book .entry)) (now (room .entry))) ⌝ }
 {
-    let answer = judge_book(book, counts, targeted, waits, written, free, reached, asked);
+    let answer = judge_book(book, counts, targeted, waits, written, free);
     if answer.code != 0 {
         return answer;
     }
@@ -82,8 +80,6 @@ pub fn build_book(book: &[u8], counts: Counts, room: &mut [u8]) -> Answer
     let mut waits = [0u64; MARK_WORDS];
     let mut written = [0u64; RULE_WORDS];
     let mut free = [0u32; MAX_CONDITIONS];
-    let mut reached = [0u64; MAX_MARKS];
-    let mut asked = [0u64; MAX_CONDITIONS];
     build_in(
         book,
         counts,
@@ -91,8 +87,6 @@ pub fn build_book(book: &[u8], counts: Counts, room: &mut [u8]) -> Answer
         &mut waits,
         &mut written,
         &mut free,
-        &mut reached,
-        &mut asked,
         room,
     )
 }

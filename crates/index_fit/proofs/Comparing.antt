@@ -10,7 +10,7 @@ use native.Mathlib.Omega.{arith}
 use lib.Dec.{eqb}
 use lib.ListN.{length, getD, length-append}
 use borrow.Author.Tests.{eqb-true, eq-eqb, not-true, not-false}
-use Rattle.paper.specs.Limits.{indexHeader, indexStage, indexRule}
+use Rattle.paper.specs.Limits.{maxMarks, indexHeader, indexStage, indexRule}
 use Rattle.general.specs.Cases.{contra, both, not-so, same-test}
 use Rattle.general.specs.Comparing.{sameBytes, same-so, same-shorter, standsAt, stands-append, stands-whole, Stand, stand-start, stand-fits, stand-more, stand-not, stand-done}
 use Rattle.general.specs.Lists.{flat, length-parts}
@@ -24,6 +24,7 @@ use Rattle.book.specs.WellFormed.{WellFormed}
 use Rattle.book.specs.declared.Counts.{Counts}
 use Rattle.rule_order.specs.Nets.{rulesOf, rules-few}
 use Rattle.unwritten.specs.Counters.{Begun}
+use Rattle.ordering.specs.declared.scan.Scan.{Scan}
 use Rattle.ordering.specs.Scanning.{Scanned, Turn, scanned-first, order-few}
 use Rattle.index.specs.Index.{orderBytes, indexImage, length-order, order-length}
 use Rattle.index.specs.Sizes.{orderSize, startFrom, entryFrom, Sized, size-is}
@@ -109,17 +110,18 @@ module _ (stages : ℕ) (table : List ℕ) (common : ℕ) (index : List ℕ) (at
 -- ---- the rules of an order
 
 module _ (s : List ℕ) (stage : ℕ) (index : List ℕ) (from : ℕ) where
-  pub record Following (counted at passed : ℕ) (counts waits written : List ℕ) (j next : ℕ) : Type 0 where
+  pub record Following (counted : ℕ) (scan : Scan) (counts waits written low high : List ℕ) (j next : ℕ) : Type 0 where
     pub many : counted ≡ ordered s stage
     pub stand : Stand (ruleAt s stage) (ordered s stage) index from j next
-    pub scan : Scanned s stage j at passed counts waits written
+    pub scanned : Scanned s stage j scan counts waits written low high
 
-  pub following-first : (counted passed : ℕ) (counts waits written : List ℕ) → WellFormed s → NoLoop (rulesOf s stage)
-      → counted ≡ countedRules (rulesOf s stage) → Begun (rulesOf s stage) counts waits written → Following counted 0 passed counts waits written 0 from
-  following-first counted passed counts waits written g l e b =
-      record { many = e ∙ sym (order-length s stage g l); stand = stand-start (ruleAt s stage) (ordered s stage) index from; scan = scanned-first s stage passed counts waits written b }
+  pub following-first : (counted : ℕ) (scan : Scan) (counts waits written low high : List ℕ) → (scan .at ≡ 0) × (scan .front ≡ 0) → length low ≡ maxMarks → length high ≡ maxMarks
+      → WellFormed s → NoLoop (rulesOf s stage) → counted ≡ countedRules (rulesOf s stage) → Begun (rulesOf s stage) counts waits written
+      → Following counted scan counts waits written low high 0 from
+  following-first counted scan counts waits written low high x y z g l e b =
+      record { many = e ∙ sym (order-length s stage g l); stand = stand-start (ruleAt s stage) (ordered s stage) index from; scanned = scanned-first s stage scan counts waits written low high x y z b }
 
-  module _ (counted at passed : ℕ) (counts waits written : List ℕ) (j next : ℕ) (i : Following counted at passed counts waits written j next) where
+  module _ (counted : ℕ) (scan : Scan) (counts waits written low high : List ℕ) (j next : ℕ) (i : Following counted scan counts waits written low high j next) where
     pub following-fits : Fits index from (orderBytes (bookOf s) stage) → j < counted → next + indexRule ≤ length index
     following-fits f h =
         let e : counted ≡ ordered s stage = i .many in
@@ -128,26 +130,26 @@ module _ (s : List ℕ) (stage : ℕ) (index : List ℕ) (from : ℕ) where
     pub following-done : counted ≤ j → true ≡ standsAt index from (orderBytes (bookOf s) stage)
     following-done h = let e : counted ≡ ordered s stage = i .many in rw (order-runs s stage) (stand-done _ _ _ _ _ _ (i .stand) (omega arith))
 
-    module _ (rule at′ passed′ : ℕ) (counts′ waits′ written′ : List ℕ) (f : Turn s at passed counts waits written rule at′ passed′ counts′ waits′ written′) where
-      pub following-small : WellFormed s → rule < 2 ^ 32
-      following-small g = let e = f .finds stage j (i .scan) .next in omega (arith, order-few s stage j, rules-few s g)
+    module _ (scan′ : Scan) (counts′ waits′ written′ low′ high′ : List ℕ) (f : Turn s scan counts waits written low high scan′ counts′ waits′ written′ low′ high′) where
+      pub following-small : WellFormed s → scan′ .rule < 2 ^ 32
+      following-small g = let e = f .finds stage j (i .scanned) .next in omega (arith, order-few s stage j, rules-few s g)
 
-      module _ (b : Bool) (h : j < counted) (t : b ≡ standsAt index next (bytes32 rule)) where
+      module _ (b : Bool) (h : j < counted) (t : b ≡ standsAt index next (bytes32 (scan′ .rule))) where
         inside : j < ordered s stage
         inside = let e : counted ≡ ordered s stage = i .many in omega arith
 
         rule-stands : b ≡ standsAt index next (ruleAt s stage j)
-        rule-stands = t ∙ rw (f .finds stage j (i .scan) .next)
+        rule-stands = t ∙ rw (f .finds stage j (i .scanned) .next)
 
         pub following-not : not b ≡ true → false ≡ standsAt index from (orderBytes (bookOf s) stage)
         following-not x = rw (order-runs s stage) (stand-not _ _ _ _ _ _ (i .stand) b inside rule-stands x)
 
-        pub following-more : not b ≡ false → Following counted at′ passed′ counts′ waits′ written′ (j + 1) (next + indexRule)
+        pub following-more : not b ≡ false → Following counted scan′ counts′ waits′ written′ low′ high′ (j + 1) (next + indexRule)
         following-more x =
             record {
               many = i .many;
               stand = stand-more _ _ _ _ _ _ (i .stand) (next + indexRule) b inside rule-stands x (omega (arith, length-bytes32 (getD (runningOrder (rulesOf s stage)) j (rulesIn s))));
-              scan = f .finds stage j (i .scan) .goes inside;
+              scanned = f .finds stage j (i .scanned) .goes inside;
             }
 
 -- ---- the orders and the whole

@@ -1,3 +1,3 @@
 -- The root of the crate's proofs.
 pub mod Comparing
-pub mod Ascending
+pub mod Climbing

@@ -1,4 +1,3 @@
 -- The root of the crate's specs.
 pub mod Entries
-pub mod Ascending
 pub mod Stored

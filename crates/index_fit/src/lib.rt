@@ -19,12 +19,14 @@ ghost use Rattle.rule_order.specs.Nets.{rulesOf};
 ghost use Rattle.index.specs.Index.{orderBytes, indexImage};
 ghost use Rattle.index.specs.Sizes.{entryFrom, Sized};
 ghost use Rattle.index.specs.Ready.{IndexReady};
-use crate::rising::ascends;
 use crate::rising::entries_rise;
 use book::Counts;
+use index::rising::ascends;
 use index::sizes::index_size;
 use index::sizes::order_size;
+use ordering::scan::NO_RULE;
 use ordering::scan::next_rule;
+use ordering::scan::start;
 use paper::INDEX_HEADER;
 use paper::INDEX_RULE;
 use paper::INDEX_STAGE;
@@ -91,18 +93,39 @@ pub fn order_same(
         × Fits (now index) at (orderBytes (bookOf (now image)) stage) ⌝ }
     ensures { λ r. ⌜ r ≡ standsAt (now (index .entry)) at (orderBytes (bookOf (now (image .entry))) stage) ⌝ }
 {
-    let counted = count_targets(image, rules, stage, counts, waits, written, free);
+    let counted = count_targets(
+        image,
+        rules,
+        0,
+        rules,
+        rules,
+        rules,
+        stage,
+        counts,
+        waits,
+        written,
+        free,
+    );
     let mut next = at;
-    let mut here: usize = 0;
-    let mut passed = rules;
+    let mut low = [NO_RULE; MAX_MARKS];
+    let mut high = [0u32; MAX_MARKS];
+    let mut scan = start();
     for j in 0..counted {
-        let scan = next_rule(image, rules, here, passed, counts, waits, written, free);
+        scan = next_rule(
+            image,
+            rules,
+            scan,
+            counts,
+            waits,
+            written,
+            free,
+            &mut low,
+            &mut high,
+        );
         if !rule_same(index, next, scan.rule as u32) {
             return false;
         }
         next += INDEX_RULE;
-        here = scan.at;
-        passed = scan.passed;
     }
     true
 }

@@ -65,13 +65,11 @@ fn judge_index_in(
     waits: &mut [u64; MARK_WORDS],
     written: &mut [u64; RULE_WORDS],
     free: &mut [u32; MAX_CONDITIONS],
-    reached: &mut [u64; MAX_MARKS],
-    asked: &mut [u64; MAX_CONDITIONS],
 ) -> Answer
     requires { ⌜ Begun (now book) counts ⌝ }
     ensures { λ r. ⌜ r ≡ indexAnswer (now (book .entry)) (now (index .entry)) ⌝ }
 {
-    let answer = judge_book(book, counts, targeted, waits, written, free, reached, asked);
+    let answer = judge_book(book, counts, targeted, waits, written, free);
     if answer.code != 0 {
         return answer;
     }
@@ -90,8 +88,6 @@ fn judge_index_of(book: &[u8], counts: Counts, index: &[u8]) -> Answer
     let mut waits = [0u64; MARK_WORDS];
     let mut written = [0u64; RULE_WORDS];
     let mut free = [0u32; MAX_CONDITIONS];
-    let mut reached = [0u64; MAX_MARKS];
-    let mut asked = [0u64; MAX_CONDITIONS];
     judge_index_in(
         book,
         counts,
@@ -100,8 +96,6 @@ fn judge_index_of(book: &[u8], counts: Counts, index: &[u8]) -> Answer
         &mut waits,
         &mut written,
         &mut free,
-        &mut reached,
-        &mut asked,
     )
 }
 

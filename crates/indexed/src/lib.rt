@@ -19,8 +19,8 @@ pub struct IndexedCompletion {
 // 20 to 26, 34, 28, 29, 30, the snapshot that was given and 0 rules evaluated, or 0, the snapshot after every rule of the stage's running order had
 // its turn, and how many that were.
 // Cost: the passes of `judge::judge_book` (`judge::check` says which), one over the rules for what counts, two over the rules and one over the texts for
-// whether orders rise, and one turn for each rule in the stage's order. Where they rise, as in a derived book, one pass over the index; else what building
-// takes, compared in place of written. Stack: as for building, and some copies of the snapshot.
+// whether orders rise, and one turn for each rule in the stage's order. Where they rise, as in a derived book, one pass over the index; else for each stage
+// a pass over the rules and the scan of its running order. Stack: as for building but for two tables, and some copies of the snapshot.
 pub fn complete(book: &[u8], index: &[u8], snapshot: Snapshot, stage: u32) -> IndexedCompletion
     ensures { λ r. ⌜ r ≡ completingIndexed (now (book .entry)) (now (index .entry)) snapshot stage ⌝ }
 {

@@ -1,5 +1,5 @@
 -- `index_fit::stage_same` meets its contract. Assumes nothing.
-use Rattle.index_fit.proofs.Ascending.{entries-fit, entries-same}
+use Rattle.index_fit.proofs.Climbing.{entries-fit, entries-same}
 use borrow.Author.Needs.{needs}
 use Rattle.index_fit.proofs.stage_same.Statement.{statement}
 use Rattle.index_fit.proofs.stage_same.Tie as tie

@@ -8,11 +8,11 @@ use Rattle.index.proofs.write.put_order.Statement.{statement}
 use Rattle.index.proofs.write.put_order.Tie as tie
 
 abbrev Inv-loop : tie.InvT-loop
-Inv-loop image rules stage counts₀ waits₀ written₀ free₀ room₀ at counted next₀ here₀ passed₀ j₀ counts waits written free room next here passed j =
-    (Putting image stage room₀ at counted here passed counts waits written j next room) × (Freed image waits free)
+Inv-loop image rules from to again end stage counts₀ waits₀ written₀ free₀ room₀ at counted next₀ low₀ high₀ scan₀ j₀ counts waits written free room next low high scan j =
+    (Putting image stage room₀ at counted scan counts waits written low high j next room) × (Freed image waits free)
 
 abbrev μ-loop : tie.MeasureT-loop
-μ-loop image rules stage counts₀ waits₀ written₀ free₀ room₀ at counted next₀ here₀ passed₀ j₀ counts waits written free room next here passed j = counted - j
+μ-loop image rules from to again end stage counts₀ waits₀ written₀ free₀ room₀ at counted next₀ low₀ high₀ scan₀ j₀ counts waits written free room next low high scan j = counted - j
 
 pub put-order-spec : {M : Type 1} → statement M
 put-order-spec =
@@ -21,21 +21,20 @@ put-order-spec =
     Inv-loop
     μ-loop
     (λ c κs. search needs)
+    (λ c κs. search needs)
     (λ c. (search putting-first, search needs))
     (λ c κs. search needs)
-    (λ c. search putting-small)
-    (λ c κs. search putting-fits)
-    (λ c. record {
-      fits = omega (
-        arith,
-        putting-fits _ _ _ _ _ _ _ _ _ _ _ _ _ (c .before .before .before .before .before .before .before .before .before .before .before .loop .inv .0)
-            (c .before .before .before .before .before .before .before .before .before .before .before .before .before .before .before .before .before .before .before .pre .3)
-            (c .before .before .before .before .before .before .before .before .before .before .loop-test .taken),
-        putting-length _ _ _ _ _ _ _ _ _ _ _ _ _ (c .before .before .before .before .before .before .before .before .before .before .before .loop .inv .0),
-        c .before .before .before .before .before .before .before .before .before .before .before .before .before .before .before .before .before .before .before .good,
-      );
-    })
+    (λ c. record { fits = putting-small _ _ _ _ _ _ _ _ _ _ _ _ _ _ (c .before .before .before .before .before .before .before .before .before .before .loop .inv .0) _ _ _ _ _ _ (c .before .before .next-rule .ensures .0) (c .before .before .before .before .before .before .before .before .before .before .before .before .before .before .before .before .before .before .before .pre .0) })
+    (λ c κs. putting-fits _ _ _ _ _ _ _ _ _ _ _ _ _ _ (c .before .before .before .before .before .before .before .before .before .before .loop .inv .0) (c .before .before .before .before .before .before .before .before .before .before .before .before .before .before .before .before .before .before .before .pre .4) (c .before .before .before .before .before .before .before .before .before .loop-test .taken))
+    (λ c.
+    let a = c .before .before .before .before .before .before .before .before .before .before .before .before .before in
+    let p = a .before .before .before .before .before .before .before .before .before in
+    record { fits = omega (arith, putting-fits _ _ _ _ _ _ _ _ _ _ _ _ _ _ (a .loop .inv .0) (p .pre .4) (c .before .before .before .before .before .before .before .before .before .before .before .before .loop-test .taken), putting-length _ _ _ _ _ _ _ _ _ _ _ _ _ _ (a .loop .inv .0), p .good) })
     (λ c. search needs) (λ c. search needs)
-    (λ c. (search putting-more, search needs))
+    (λ c.
+    let a = c .before .before .before .before .before .before .before .before .before .before .before .before .before in (
+      putting-more _ _ _ _ _ _ _ _ _ _ _ _ _ _ (a .loop .inv .0) _ _ _ _ _ _ (c .before .before .before .before .before .next-rule .ensures .0) _ (c .before .before .before .before .before .before .before .before .before .before .before .before .loop-test .taken) (c .before .before .put32 .ensures),
+      c .before .before .before .before .before .next-rule .ensures .1,
+    ))
     (λ c. search putting-length)
     (λ c. search putting-last))

@@ -10,6 +10,6 @@ build-in-spec =
     (tie.spec
     (λ c κs. search needs)
     (λ c. build-book _ _ _ (c .before .before .judge-book .ensures) (c .if1 .taken))
-    (λ c κs. judged-so _ _ (c .before .before .before .before .before .before .before .judge-book .ensures) (c .before .before .before .before .before .if1 .left) _ (c .before .before .before .before .before .before .before .before .before .before .before .before .before .before .before .before .pre .counts))
+    (λ c κs. judged-so _ _ (c .before .before .before .before .before .before .before .judge-book .ensures) (c .before .before .before .before .before .if1 .left) _ (c .before .before .before .before .before .before .before .before .before .before .before .before .before .before .pre .counts))
     (λ c. search needs)
     (λ c. c .before .before .write-in .ensures))

@@ -1,7 +1,7 @@
 -- `index_fit::rising::entries_rise` meets its contract. Assumes nothing.
 use Prim.Native.Nat.{_-_}
 use native.Mathlib.Omega.{arith}
-use Rattle.index_fit.proofs.Ascending.{Climbing, climbing-first, climbing-fits, climbing-not, climbing-more, climbing-done}
+use Rattle.index_fit.proofs.Climbing.{Climbing, climbing-first, climbing-fits, climbing-not, climbing-more, climbing-done}
 use borrow.Author.Needs.{needs}
 use Rattle.index_fit.proofs.rising.entries_rise.Statement.{statement}
 use Rattle.index_fit.proofs.rising.entries_rise.Tie as tie

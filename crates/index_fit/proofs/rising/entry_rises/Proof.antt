@@ -1,5 +1,5 @@
 -- `index_fit::rising::entry_rises` meets its contract. Assumes nothing.
-use Rattle.index_fit.proofs.Ascending.{entry-low, entry-past, entry-counts}
+use Rattle.index_fit.proofs.Climbing.{entry-low, entry-past, entry-counts}
 use borrow.Author.Needs.{needs}
 use Rattle.index_fit.proofs.rising.entry_rises.Statement.{statement}
 use Rattle.index_fit.proofs.rising.entry_rises.Tie as tie

@@ -11,7 +11,7 @@ judge-index-in-spec =
     (tie.spec
     (λ c κs. search needs)
     (λ c. index-book _ _ _ (c .before .before .judge-book .ensures) (c .if1 .taken))
-    (λ c κs. judged-so _ _ (c .before .before .before .before .before .before .judge-book .ensures) (c .before .before .before .before .if1 .left) _ (c .before .before .before .before .before .before .before .before .before .before .before .before .before .before .before .pre .counts))
+    (λ c κs. judged-so _ _ (c .before .before .before .before .before .before .judge-book .ensures) (c .before .before .before .before .if1 .left) _ (c .before .before .before .before .before .before .before .before .before .before .before .before .before .pre .counts))
     (λ c κs. search needs)
     (λ c. index-fits _ _ _ (c .before .before .before .before .before .before .before .before .before .judge-book .ensures) (c .before .before .before .before .before .before .before .if1 .left) _ (c .before .before .index-fits .ensures) _ (c .before .if2 .taken) (c .granted .ensures))
     (λ c κs. search needs)

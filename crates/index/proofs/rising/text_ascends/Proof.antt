@@ -1,11 +1,11 @@
--- `index_fit::rising::text_ascends` meets its contract. Assumes nothing.
+-- `index::rising::text_ascends` meets its contract. Assumes nothing.
 use native.Mathlib.Omega.{arith}
 use Rattle.rule_order.specs.Nets.{rules-few}
 use Rattle.rule_order.specs.References.{asked-in}
-use Rattle.index_fit.proofs.Ascending.{reading-none, reading-text}
+use Rattle.index.proofs.Ascending.{reading-none, reading-text}
 use borrow.Author.Needs.{needs}
-use Rattle.index_fit.proofs.rising.text_ascends.Statement.{statement}
-use Rattle.index_fit.proofs.rising.text_ascends.Tie as tie
+use Rattle.index.proofs.rising.text_ascends.Statement.{statement}
+use Rattle.index.proofs.rising.text_ascends.Tie as tie
 
 pub text-ascends-spec : {M : Type 1} → statement M
 text-ascends-spec =

@@ -1,12 +1,12 @@
--- `index_fit::rising::last_targets` meets its contract. Assumes nothing.
+-- `index::rising::last_targets` meets its contract. Assumes nothing.
 use Prim.Native.Nat.{_-_}
 use native.Mathlib.Omega.{arith}
 use Rattle.rule_order.specs.Nets.{rules-few}
-use Rattle.index_fit.specs.Ascending.{Targeted}
-use Rattle.index_fit.proofs.Ascending.{targeted-first, targeted-more, targeted-last}
+use Rattle.index.specs.Ascending.{Targeted}
+use Rattle.index.proofs.Ascending.{targeted-first, targeted-more, targeted-last}
 use borrow.Author.Needs.{needs}
-use Rattle.index_fit.proofs.rising.last_targets.Statement.{statement}
-use Rattle.index_fit.proofs.rising.last_targets.Tie as tie
+use Rattle.index.proofs.rising.last_targets.Statement.{statement}
+use Rattle.index.proofs.rising.last_targets.Tie as tie
 
 abbrev Inv-loop : tie.InvT-loop
 Inv-loop image rules last₀ r₀ last r = Targeted image r last

@@ -1,8 +1,8 @@
--- `index_fit::rising::last_of` meets its contract. Assumes nothing.
+-- `index::rising::last_of` meets its contract. Assumes nothing.
 use native.Mathlib.Omega.{arith}
 use borrow.Author.Needs.{needs}
-use Rattle.index_fit.proofs.rising.last_of.Statement.{statement}
-use Rattle.index_fit.proofs.rising.last_of.Tie as tie
+use Rattle.index.proofs.rising.last_of.Statement.{statement}
+use Rattle.index.proofs.rising.last_of.Tie as tie
 
 pub last-of-spec : {M : Type 1} → statement M
 last-of-spec =

@@ -1,9 +1,9 @@
--- `index_fit::rising::last_asked` meets its contract. Assumes nothing.
+-- `index::rising::last_asked` meets its contract. Assumes nothing.
 use Rattle.book.specs.WellRead.{span-inside, span-asks}
-use Rattle.index_fit.proofs.Ascending.{text-above}
+use Rattle.index.proofs.Ascending.{text-above}
 use borrow.Author.Needs.{needs}
-use Rattle.index_fit.proofs.rising.last_asked.Statement.{statement}
-use Rattle.index_fit.proofs.rising.last_asked.Tie as tie
+use Rattle.index.proofs.rising.last_asked.Statement.{statement}
+use Rattle.index.proofs.rising.last_asked.Tie as tie
 
 pub last-asked-spec : {M : Type 1} → statement M
 last-asked-spec =

@@ -1,21 +1,17 @@
--- What the pass that finds whether orders rise keeps, and the loop over the entries of an order that should. Assumes nothing.
+-- What the pass that finds whether orders rise keeps. Assumes nothing.
 use mathlib.Core.Path.{_≡_, refl, sym, ap, _∙_}
-use mathlib.Core.Bool.{Bool, true, false, not, _&&_}
+use mathlib.Core.Bool.{true, _&&_}
 use mathlib.Core.List.{List, [], _∷_}
-use Prim.Native.Nat.{ℕ, suc, _+_, _-_, _*_, _≤_, _<_}
-use native.Mathlib.Numerals.{add-one}
+use Prim.Native.Nat.{ℕ, suc, _+_, _*_, _≤_, _<_}
 use native.Mathlib.Omega.{arith}
-use lib.Dec.{eqb, leb, ltb}
+use lib.Dec.{eqb, leb}
 use lib.ListN.{length, getD, set, length-set, replicate, length-replicate}
 use lib.Seq.{getD-set-same, getD-set-other}
-use borrow.Author.Tests.{eqb-true, eqb-false, le-leb, lt-leb, leb-true, lt-ltb, le-ltb, not-true, not-false}
-use Rattle.paper.specs.Limits.{maxMarks, maxConditions, indexRule, wordSize}
+use borrow.Author.Tests.{eqb-true, eqb-false, leb-true}
+use Rattle.paper.specs.Limits.{maxMarks, maxConditions, wordSize}
 use Rattle.general.specs.Cases.{contra, cases, both, either}
-use Rattle.general.specs.Comparing.{standsAt}
-use Rattle.general.specs.Writing.{Fits}
-use Rattle.wire.specs.Wire.{u16At, u32At}
-use Rattle.order_theory.specs.Order.{countedRules, NoLoop}
-use Rattle.order_theory.specs.Rising.{Rising, rises}
+use Rattle.wire.specs.Wire.{u16At}
+use Rattle.order_theory.specs.Rising.{Rising}
 use Rattle.book.specs.Text.{elem}
 use Rattle.book.specs.Book.{ruleOf, textOf}
 use Rattle.book.specs.Firing.{refers}
@@ -29,10 +25,7 @@ use Rattle.book.specs.declared.Span.{Span}
 use Rattle.rule_order.specs.Rules.{netOf}
 use Rattle.rule_order.specs.Nets.{rulesOf, count-is, target-says}
 use Rattle.rule_order.specs.References.{asked-in, refers-bytes}
-use Rattle.index.specs.Index.{orderBytes, length-order, order-length}
-use Rattle.index_fit.specs.Entries.{entriesAt, order-stands}
-use Rattle.index_fit.specs.Ascending.{Targeted, Above, Asking, Awaiting, Reading}
-use Rattle.index_fit.proofs.Comparing.{number-same}
+use Rattle.index.specs.Ascending.{Targeted, Above, Asking, Awaiting, Reading}
 
 -- ---- how many rules there are up to the last that targets a mark
 
@@ -171,63 +164,3 @@ module _ (s last asked : List ℕ) (g : WellFormed s) (a : Asking s last (condit
       let (b, f) = target-says s g p (targetAt s (rulePlace p)) u refl in
       let z : getD last (ruleOf (bookOf s) p .target) 0 ≤ q = i .each q (ruleOf (bookOf s) p .target) (omega arith) v (rw b at f) x in
       omega arith
-
--- ---- an entry, and the entries of an order
-
-module _ (s : List ℕ) (stage from r : ℕ) where
-  abbrev enters : Bool
-  enters = leb from r && (ltb r (rulesOf s stage .count) && rulesOf s stage .counts r)
-
-  pub entry-low : r < from → false ≡ enters
-  entry-low h = rw (lt-leb from r h)
-
-  pub entry-past : (n : ℕ) → n ≡ rulesIn s → from ≤ r → n ≤ r → false ≡ enters
-  entry-past n e l h = rw (le-leb from r l, le-ltb r (rulesOf s stage .count) (omega (arith, count-is s stage)))
-
-  pub entry-counts : (n : ℕ) (b : Bool) → n ≡ rulesIn s → from ≤ r → r < n → b ≡ rulesOf s stage .counts r → b ≡ enters
-  entry-counts n b e l h c = c ∙ rw (le-leb from r l, lt-ltb r (rulesOf s stage .count) (omega (arith, count-is s stage)))
-
--- what is left to see is what the whole asks
-pub record Climbing (s : List ℕ) (stage : ℕ) (index : List ℕ) (at counted j next from : ℕ) : Type 0 where
-  pub few : j ≤ counted
-  pub place : next ≡ at + indexRule * j
-  pub rest : rises (rulesOf s stage) 0 (entriesAt index at counted) ≡ rises (rulesOf s stage) from (entriesAt index next (counted - j))
-
-module _ (s : List ℕ) (stage : ℕ) (index : List ℕ) (at counted : ℕ) where
-  pub climbing-first : Climbing s stage index at counted 0 at 0
-  climbing-first = let z : counted - 0 ≡ counted = omega arith in record { few = omega arith; place = omega arith; rest = rw z }
-
-  module _ (j next from : ℕ) (i : Climbing s stage index at counted j next from) where
-    pub climbing-fits : at + indexRule * counted ≤ length index → j < counted → next + indexRule ≤ length index
-    climbing-fits l h = let p = i .place in omega arith
-
-    pub climbing-done : counted ≤ j → true ≡ rises (rulesOf s stage) 0 (entriesAt index at counted)
-    unfolding rises entriesAt
-    climbing-done h = let z : counted - j ≡ 0 = omega arith in sym (i .rest ∙ rw z)
-
-    module _ (h : j < counted) (r : ℕ) (e : r ≡ u32At index next) (b : Bool) (t : b ≡ enters s stage from r) where
-      -- the next entry, and those behind it
-      ahead : rises (rulesOf s stage) 0 (entriesAt index at counted) ≡ (b && rises (rulesOf s stage) (suc r) (entriesAt index (next + indexRule) (counted - (j + 1))))
-      unfolding rises entriesAt
-      ahead = let z : counted - j ≡ suc (counted - (j + 1)) = omega arith in i .rest ∙ rw (z, ← e, ← t)
-
-      pub climbing-not : not b ≡ true → false ≡ rises (rulesOf s stage) 0 (entriesAt index at counted)
-      climbing-not x = sym (ahead ∙ rw (not-true b x))
-
-      pub climbing-more : not b ≡ false → Climbing s stage index at counted (j + 1) (next + indexRule) (r + 1)
-      climbing-more x =
-          record {
-            few = omega arith;
-            place = let p = i .place in omega arith;
-            rest = ahead ∙ rw (not-false b x, add-one r);
-          }
-
--- ---- the order of a stage by its entries
-
-module _ (s : List ℕ) (stage : ℕ) (g : WellFormed s) (n : NoLoop (rulesOf s stage)) (counted : ℕ) (e : counted ≡ countedRules (rulesOf s stage)) (index : List ℕ) (at : ℕ) where
-  pub entries-fit : Fits index at (orderBytes (bookOf s) stage) → at + indexRule * counted ≤ length index
-  entries-fit f = omega (arith, length-order (bookOf s) stage, order-length s stage g n)
-
-  pub entries-same : ((i : ℕ) → getD index i 0 < 256) → Rising (rulesOf s stage) → (b : Bool) → b ≡ rises (rulesOf s stage) 0 (entriesAt index at counted)
-      → b ≡ standsAt index at (orderBytes (bookOf s) stage)
-  entries-same small r b t = t ∙ rw e (order-stands index (number-same index small) s stage at r (order-length s stage g n))

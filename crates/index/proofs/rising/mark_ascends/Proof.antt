@@ -1,11 +1,11 @@
--- `index_fit::rising::mark_ascends` meets its contract. Assumes nothing.
+-- `index::rising::mark_ascends` meets its contract. Assumes nothing.
 use native.Mathlib.Omega.{arith}
 use Rattle.rule_order.specs.Nets.{rules-few}
 use Rattle.rule_order.specs.References.{awaited-in}
-use Rattle.index_fit.proofs.Ascending.{awaiting-none, awaiting-mark}
+use Rattle.index.proofs.Ascending.{awaiting-none, awaiting-mark}
 use borrow.Author.Needs.{needs}
-use Rattle.index_fit.proofs.rising.mark_ascends.Statement.{statement}
-use Rattle.index_fit.proofs.rising.mark_ascends.Tie as tie
+use Rattle.index.proofs.rising.mark_ascends.Statement.{statement}
+use Rattle.index.proofs.rising.mark_ascends.Tie as tie
 
 pub mark-ascends-spec : {M : Type 1} → statement M
 mark-ascends-spec =

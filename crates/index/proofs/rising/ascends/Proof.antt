@@ -1,13 +1,13 @@
--- `index_fit::rising::ascends` meets its contract. Assumes nothing.
+-- `index::rising::ascends` meets its contract. Assumes nothing.
 use mathlib.Core.Path.{refl}
 use Prim.Native.Nat.{_-_}
 use native.Mathlib.Omega.{arith}
 use borrow.Author.Tests.{not-false}
 use Rattle.general.specs.Cases.{contra}
-use Rattle.index_fit.proofs.Ascending.{opened-rules, Lifting, lifting-first, lifting-more, lifting-last}
+use Rattle.index.proofs.Ascending.{opened-rules, Lifting, lifting-first, lifting-more, lifting-last}
 use borrow.Author.Needs.{needs}
-use Rattle.index_fit.proofs.rising.ascends.Statement.{statement}
-use Rattle.index_fit.proofs.rising.ascends.Tie as tie
+use Rattle.index.proofs.rising.ascends.Statement.{statement}
+use Rattle.index.proofs.rising.ascends.Tie as tie
 
 abbrev Inv-loop : tie.InvT-loop
 Inv-loop image last asked rules r₀ r = Lifting image last r

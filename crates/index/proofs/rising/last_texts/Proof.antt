@@ -1,11 +1,11 @@
--- `index_fit::rising::last_texts` meets its contract. Assumes nothing.
+-- `index::rising::last_texts` meets its contract. Assumes nothing.
 use Prim.Native.Nat.{_-_}
 use native.Mathlib.Omega.{arith}
-use Rattle.index_fit.specs.Ascending.{Asking}
-use Rattle.index_fit.proofs.Ascending.{asking-first, asking-more, asking-last, opened-conditions, opened-few}
+use Rattle.index.specs.Ascending.{Asking}
+use Rattle.index.proofs.Ascending.{asking-first, asking-more, asking-last, opened-conditions, opened-few}
 use borrow.Author.Needs.{needs}
-use Rattle.index_fit.proofs.rising.last_texts.Statement.{statement}
-use Rattle.index_fit.proofs.rising.last_texts.Tie as tie
+use Rattle.index.proofs.rising.last_texts.Statement.{statement}
+use Rattle.index.proofs.rising.last_texts.Tie as tie
 
 abbrev Inv-loop : tie.InvT-loop
 Inv-loop image head last asked₀ conditions c₀ asked c = Asking image last c asked
