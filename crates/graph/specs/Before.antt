@@ -1,4 +1,5 @@
--- Fitness as it was until request (xii), in the words of then, and what is left of it: fit then is fit now and no pair has both. Assumes nothing.
+-- Fitness as it was until request (xii), in the words of then, and what is left of it: fit then is fit now and no pair has both.
+-- Its limits are those of now (request xiv). Assumes nothing.
 use Prim.Native.Nat.{ℕ, zero, suc, _-_, _<_}
 use mathlib.Core.Path.{_≡_, refl, sym, ap, ap₂, _∙_}
 use mathlib.Core.Bool.{Bool, true, false, _&&_, and-true, and-false}

@@ -298,7 +298,7 @@ module _ (c : FlatChart) (m : Marking) (e : ℕ) where
 
 -- ---- counting and the finished test
 
--- "A call reports the number of open events and the lowest-numbered one (64 if none)."
+-- "A call reports the number of open events and the lowest-numbered one (64 if none)", 256 by request (xiv)
 pub record Counts (c : FlatChart) (m : Marking) (r : OpenCount) : Type 0 where
   pub granting : r .answer ≡ granted
   pub number : r .count ≡ tally (c .count) (isOpen c m)
@@ -344,7 +344,7 @@ module _ (c : FlatChart) (m : Marking) where
         λ h. eq-eqb _ 0 (not-apart (m .included) (m .pending) h),
       )
 
-  -- "a refused count 0 and 64; a refused finished test no"
+  -- "a refused count 0 and 64; a refused finished test no": 0 and 256 by request (xiv)
   pub count-refused : (Fit c → FitMarking (c .count) m → ⊥) → counting c m ≡ record { answer = refusal unfit; count = 0; lowest = maxEvents }
   unfolding counting
   count-refused n = let no : fit c m ≡ false = not-so (λ ok. let t = fit-both c m ok in n (t .0) (t .1)) in rw no

@@ -118,7 +118,7 @@ impl Marking {
     }
 
     // Whether nothing holds an event back: it is open if it is included too.
-    fn is_free(self, conditions: Set, milestones: Set) -> bool
+    pub fn is_free(self, conditions: Set, milestones: Set) -> bool
         ensures { λ r. ⌜ r ≡ freeWith (marksOf self) (number conditions) (number milestones) ⌝ }
     {
         let by = self.blocking(conditions, milestones);
@@ -126,7 +126,7 @@ impl Marking {
     }
 
     // The marking after e, which excludes before it includes.
-    fn after(self, e: usize, responses: Set, includes: Set, excludes: Set) -> Marking
+    pub fn after(self, e: usize, responses: Set, includes: Set, excludes: Set) -> Marking
         requires { ⌜ e < maxEvents ⌝ }
         ensures { λ r. ⌜ marksOf r ≡ afterWith (marksOf self) e (number responses) (number includes) (number excludes) ⌝ }
     {

@@ -1,20 +1,25 @@
 -- What the loop over a record keeps, and where it stops. Assumes nothing.
 use Prim.Native.Nat.{ℕ, zero, suc, _+_, _*_, _/_, _≤_, _<_}
 use mathlib.Core.Path.{_≡_, refl, sym, ap, _∙_}
-use mathlib.Core.Bool.{true}
+use mathlib.Core.Bool.{Bool, true, false, not}
 use mathlib.Core.List.{List, [], _∷_}
 use native.Mathlib.Omega.{arith}
 use native.Mathlib.Nat.{add-zero, add-suc, suc-add}
 use native.Mathlib.Numerals.{add-one}
+use lib.Dec.{eqb, leb}
 use lib.ListN.{length, getD}
 use lib.Seq.{slice, slice-cons, slice-empty}
+use borrow.Author.Tests.{not-true, not-false, eqb-true, leb-true, leb-false}
+use Rattle.general.specs.Cases.{cases, contra}
 use Rattle.paper.specs.Limits.{maxEvents, noSuchEvent}
 use Rattle.paper.specs.Answers.{granted, refusal}
 use Rattle.paper.specs.declared.Answer.{Answer}
 use Rattle.graph.specs.Fitness.{fit}
 use Rattle.graph.specs.Fitness.{fit-both, both-fit}
-use Rattle.flat_chart.specs.Chart.{rowOf}
-use Rattle.graph.specs.Steps.{executing, refusing, steppingBy, fit-index, step-gone, step-taken}
+use Rattle.sets.specs.Set.{has}
+use Rattle.flat_chart.specs.Chart.{condition, response, milestone, include, exclude, setOf, rowOf}
+use Rattle.flat_chart.specs.Roles.{permits}
+use Rattle.graph.specs.Steps.{unmetOf, awaitedOf, freeWith, afterWith, executing, refusing, stepping, testing, steppingBy, fit-index, step-gone, step-taken}
 use Rattle.graph.specs.Execution.{step-fit}
 use Rattle.flat_chart.specs.Flat.{FlatChart, Row}
 use Rattle.graph.specs.Flat.{Marking, Step}
@@ -57,6 +62,51 @@ module _ (c : FlatChart) (m : Marking) (e r : ℕ) (f : fit c m ≡ true) where
   pub known-taken : (s : Step) (row : Row) → e < c .count → row ≡ rowOf c e → s ≡ steppingBy m e row r → s ≡ executing c m e r
   known-taken s row h l z = step-taken c m e r true (sym f) refl s row h l z
 
+-- ---- whether it is allowed
+
+module _ (c : FlatChart) (m : Marking) (e r : ℕ) (f : fit c m ≡ true) where
+  taken : e < c .count → executing c m e r ≡ steppingBy m e (rowOf c e) r
+  taken h = sym (known-taken c m e r f (steppingBy m e (rowOf c e) r) (rowOf c e) h refl refl)
+
+  pub allowed-gone : c .count ≤ e → false ≡ eqb (executing c m e r .answer .code) 0
+  allowed-gone h = ap (λ (s : Step). eqb (s .answer .code) 0) (known-gone c m e r f (refusal noSuchEvent) 0 0 h refl refl refl)
+
+  module _ (h : e < c .count) (o : Bool) (p : o ≡ permits (getD (c .roles) e 0) r) where
+    pub allowed-forbidden : not o ≡ true → false ≡ eqb (executing c m e r .answer .code) 0
+    unfolding steppingBy
+    allowed-forbidden q = rw (taken h, ← p, not-true o q)
+
+    module _ (q : not o ≡ false) (i : Bool) (k : i ≡ has (m .included) e) where
+      pub allowed-shut : not i ≡ true → false ≡ eqb (executing c m e r .answer .code) 0
+      unfolding steppingBy stepping testing
+      allowed-shut l = rw (taken h, ← p, not-false o q, ← k, not-true i l)
+
+      pub allowed-free : not i ≡ false → (x y : ℕ) → x ≡ setOf c condition e → y ≡ setOf c milestone e → (b : Bool) → b ≡ freeWith m x y → b ≡ eqb (executing c m e r .answer .code) 0
+      unfolding steppingBy stepping testing freeWith
+      allowed-free l x y s t b z =
+          z ∙ rw (s, t, taken h, ← p, not-false o q, ← k, not-false i l)
+          (cases (eqb (unmetOf m (setOf c condition e)) 0) (λ u. cases (eqb (awaitedOf m (setOf c milestone e)) 0) (λ w. rw (u, w)) (λ w. rw (u, w))) (λ u. rw u))
+
+  module _ (a : eqb (executing c m e r .answer .code) 0 ≡ true) where
+    pub allowed-there : e < c .count
+    allowed-there = cases (leb (c .count) e) (λ t. contra a (sym (allowed-gone (leb-true (c .count) e t)))) (λ t. leb-false (c .count) e t)
+
+    pub allowed-moved : (n : Marking) → n ≡ afterWith m e (setOf c response e) (setOf c include e) (setOf c exclude e) → n ≡ executing c m e r .marking
+    unfolding steppingBy stepping testing
+    allowed-moved n z = z ∙ sym (ap (λ (s : Step). s .marking) (taken allowed-there) ∙ rest (rw (taken allowed-there) at a))
+      where
+        rest : eqb (steppingBy m e (rowOf c e) r .answer .code) 0 ≡ true → steppingBy m e (rowOf c e) r .marking ≡ afterWith m e (setOf c response e) (setOf c include e) (setOf c exclude e)
+        rest b =
+            cases (permits (getD (c .roles) e 0) r)
+            (λ o. cases (has (m .included) e)
+            (λ i. cases (eqb (unmetOf m (setOf c condition e)) 0)
+            (λ u. cases (eqb (awaitedOf m (setOf c milestone e)) 0) (λ w. rw (o, i, u, w)) (λ w. contra b (rw (o, i, u, w))))
+            (λ u. contra b (rw (o, i, u)))) (λ i. contra b (rw (o, i))))
+            (λ o. contra b (rw o))
+
+pub moved-by : (m : Marking) (e a b d x y z : ℕ) (n : Marking) → a ≡ x → b ≡ y → d ≡ z → n ≡ afterWith m e a b d → n ≡ afterWith m e x y z
+moved-by m e a b d x y z n p q r h = h ∙ rw (p, q, r)
+
 -- ---- the loop
 
 -- at position i with marking m: what the rest gives from here is what the whole gives from the start
@@ -96,3 +146,24 @@ module _ (c : FlatChart) (numbers : List ℕ) (start : Marking) (from end : ℕ)
   pub going-end : end ≤ i → (a : Answer) (x y : ℕ) → a ≡ granted → x ≡ 0 → y ≡ 0 → record { at = end; stop = record { answer = a; marking = m; conditions = x; milestones = y } } ≡ walking c start (recordOf numbers) from end
   unfolding walking reaching
   going-end h a x y e p q = let z : i ≡ end = (let k : i ≤ end = g .near in omega arith) in rw (e, p, q) (sym (rw (z, slice-empty end (recordOf numbers), add-zero)) ∙ g .same)
+
+-- ---- a turn of the loop, by whether the step is allowed
+
+module _ (c : FlatChart) (numbers : List ℕ) (start : Marking) (from end : ℕ) (m : Marking) (i : ℕ) (g : Going c numbers start from end m i) (b : Bool)
+    (a : b ≡ eqb (executing c m (getD numbers (i * 2) 0) (getD numbers (i * 2 + 1) 0) .answer .code) 0) where
+  code-so : not b ≡ false → eqb (executing c m (getD numbers (i * 2) 0) (getD numbers (i * 2 + 1) 0) .answer .code) 0 ≡ true
+  code-so z = sym a ∙ not-false b z
+
+  pub turn-index : not b ≡ false → getD numbers (i * 2) 0 < maxEvents
+  turn-index z = known-index c m (getD numbers (i * 2) 0) (getD numbers (i * 2 + 1) 0) (g .fits) (allowed-there c m (getD numbers (i * 2) 0) (getD numbers (i * 2 + 1) 0) (g .fits) (code-so z))
+
+  pub turn-more : end * 2 ≤ length numbers → i < end → not b ≡ false → (n : Marking)
+      → n ≡ afterWith m (getD numbers (i * 2) 0) (setOf c response (getD numbers (i * 2) 0)) (setOf c include (getD numbers (i * 2) 0)) (setOf c exclude (getD numbers (i * 2) 0))
+      → Going c numbers start from end n (i + 1)
+  turn-more l h z n q =
+      rw (allowed-moved c m (getD numbers (i * 2) 0) (getD numbers (i * 2 + 1) 0) (g .fits) (code-so z) n q)
+      (going-more c numbers start from end m i g l h (executing c m (getD numbers (i * 2) 0) (getD numbers (i * 2 + 1) 0)) refl (eqb-true _ 0 (code-so z)))
+
+  pub turn-stop : end * 2 ≤ length numbers → i < end → not b ≡ true → (s : Step) → s ≡ executing c m (getD numbers (i * 2) 0) (getD numbers (i * 2 + 1) 0)
+      → record { at = i; stop = s } ≡ walking c start (recordOf numbers) from end
+  turn-stop l h z s p = going-stop c numbers start from end m i g l h s p (λ e. contra (ap (λ (n : ℕ). eqb n 0) (ap (λ (t : Step). t .answer .code) (sym p) ∙ e)) (sym a ∙ not-true b z))

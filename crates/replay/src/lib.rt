@@ -2,19 +2,21 @@
 ghost use mathlib.Core.Path.{_≡_};
 ghost use mathlib.Core.Bool.{true};
 ghost use Prim.Native.Nat.{_≤_, _<_, _*_, _/_};
-ghost use lib.ListN.{length};
+ghost use lib.ListN.{length, getD};
 ghost use lib.Dec.{eqb};
+ghost use Rattle.paper.specs.Limits.{maxEvents};
 ghost use Rattle.sets.specs.Set.{inter};
 ghost use Rattle.wide.specs.Number.{number, rowsOf};
 ghost use Rattle.flat_chart.specs.Chart.{chartOf};
 ghost use Rattle.flat_chart.specs.Numbers.{flatOf};
 ghost use Rattle.graph.specs.Fitness.{fit};
 ghost use Rattle.graph.specs.Numbers.{marksOf, stepOf};
-ghost use Rattle.graph.specs.Steps.{executing};
+ghost use Rattle.graph.specs.Steps.{executing, afterWith};
 ghost use Rattle.replay.specs.Numbers.{replayedOf, struckOf, walkedOf};
 ghost use Rattle.replay.specs.Recorded.{recordOf};
 ghost use Rattle.replay.specs.Replaying.{walking, walkingWithout, replaying, notStruck, stoppedBy, striking};
 use flat_chart::FlatChart;
+use flat_chart::permits;
 use flat_chart::row_at;
 use graph::Marking;
 use graph::steps::Step;
@@ -88,6 +90,55 @@ fn step_in<'a>(
     marking.step(e, row, role)
 }
 
+// Whether a step is allowed, of a chart and a marking that are known to be fit: what a whole step gives is large, and most steps of a record are allowed.
+fn is_allowed<'a>(
+    marking: Marking,
+    count: u32,
+    conditions: &'a [u64; TABLE],
+    responses: &'a [u64; TABLE],
+    milestones: &'a [u64; TABLE],
+    includes: &'a [u64; TABLE],
+    excludes: &'a [u64; TABLE],
+    roles: &'a [u8; MAX_EVENTS],
+    event: u32,
+    role: u32,
+) -> bool
+    requires { ⌜ fit (chartOf count (rowsOf (now conditions)) (rowsOf (now responses)) (rowsOf (now milestones)) (rowsOf (now includes)) (rowsOf (now excludes)) (now roles)) (marksOf marking) ≡ true ⌝ }
+    ensures { λ b. ⌜ b ≡ eqb (executing (chartOf count (rowsOf (now (conditions .entry))) (rowsOf (now (responses .entry))) (rowsOf (now (milestones .entry))) (rowsOf (now (includes .entry))) (rowsOf (now (excludes .entry))) (now (roles .entry))) (marksOf marking) event role .answer .code) 0 ⌝ }
+{
+    if event >= count {
+        return false;
+    }
+    let e = event as usize;
+    if !permits(roles[e], role) {
+        return false;
+    }
+    if !wide::member(marking.included, e) {
+        return false;
+    }
+    marking.is_free(wide::row(conditions, e), wide::row(milestones, e))
+}
+
+// The marking behind an allowed step.
+fn moved<'a>(
+    marking: Marking,
+    responses: &'a [u64; TABLE],
+    includes: &'a [u64; TABLE],
+    excludes: &'a [u64; TABLE],
+    event: u32,
+) -> Marking
+    requires { ⌜ event < maxEvents ⌝ }
+    ensures { λ r. ⌜ marksOf r ≡ afterWith (marksOf marking) event (getD (rowsOf (now (responses .entry))) event 0) (getD (rowsOf (now (includes .entry))) event 0) (getD (rowsOf (now (excludes .entry))) event 0) ⌝ }
+{
+    let e = event as usize;
+    marking.after(
+        e,
+        wide::row(responses, e),
+        wide::row(includes, e),
+        wide::row(excludes, e),
+    )
+}
+
 // The steps from one position to another, each from the marking that the ones before it gave, up to the first that is not allowed.
 fn walk<'a>(
     marking: Marking,
@@ -108,7 +159,9 @@ fn walk<'a>(
     let mut reached = marking;
     let mut at = from;
     while at < end {
-        let step = step_in(
+        let event = recorded[at * 2];
+        let role = recorded[at * 2 + 1];
+        if !is_allowed(
             reached,
             count,
             conditions,
@@ -117,13 +170,24 @@ fn walk<'a>(
             includes,
             excludes,
             roles,
-            recorded[at * 2],
-            recorded[at * 2 + 1],
-        );
-        if step.answer.code != 0 {
+            event,
+            role,
+        ) {
+            let step = step_in(
+                reached,
+                count,
+                conditions,
+                responses,
+                milestones,
+                includes,
+                excludes,
+                roles,
+                event,
+                role,
+            );
             return Walked { at, stop: step };
         }
-        reached = step.marking;
+        reached = moved(reached, responses, includes, excludes, event);
         at += 1;
     }
     Walked {

@@ -3,7 +3,7 @@ use Prim.Native.Nat.{_-_}
 use Rattle.wide.specs.Number.{rowsOf}
 use Rattle.flat_chart.specs.Chart.{chartOf}
 use Rattle.graph.specs.Numbers.{marksOf}
-use Rattle.replay.proofs.Walks.{Going, going-start, going-more, going-stop, going-end}
+use Rattle.replay.proofs.Walks.{Going, going-start, going-end, turn-index, turn-more, turn-stop}
 use borrow.Author.Needs.{needs}
 use native.Mathlib.Omega.{arith}
 use Rattle.replay.proofs.walk.Statement.{statement}
@@ -25,8 +25,10 @@ walk-spec =
     (λ c. going-start _ _ _ _ _ (c .before .pre .0) (c .before .pre .1))
     (λ c. search needs) (λ c. search needs) (λ c. search needs) (λ c. search needs) (λ c. search needs) (λ c. search needs) (λ c. search needs)
     (λ c κs. search needs)
-    (λ c. going-stop _ _ _ _ _ _ _ (c .before .before .before .before .before .before .loop .inv) (omega arith) (omega arith) _ (c .before .before .step-in .ensures) (λ z. omega arith))
+    (λ c κs. search needs)
+    (λ c. turn-stop _ _ _ _ _ _ _ (c .before .before .before .before .before .before .loop .inv) _ (c .before .before .is-allowed .ensures) (omega arith) (omega arith) (c .before .if1 .taken) _ (c .step-in .ensures))
+    (λ c κs. turn-index _ _ _ _ _ _ _ (c .before .before .before .before .before .loop .inv) _ (c .before .is-allowed .ensures) (c .if1 .left))
     (λ c. search needs) (λ c. search needs)
-    (λ c. going-more _ _ _ _ _ _ _ (c .before .before .before .before .before .before .before .loop .inv) (omega arith) (omega arith) _ (c .before .before .before .step-in .ensures) (omega arith))
+    (λ c. turn-more _ _ _ _ _ _ _ (c .before .before .before .before .before .before .loop .inv) _ (c .before .before .is-allowed .ensures) (omega arith) (omega arith) (c .before .if1 .left) _ (c .moved .ensures))
     (λ c κs. search needs) (λ c κs. search needs) (λ c κs. search needs)
     (λ c. going-end _ _ _ _ _ _ _ (c .before .before .before .before .loop .inv) (omega arith) _ _ _ (c .before .before .granted .ensures) (c .before .empty .ensures) (c .empty2 .ensures)))
