@@ -18,5 +18,8 @@ pub mod ReadBack
 pub mod OneChart
 pub mod Smaller
 pub mod SmallerBooks
+pub mod Coincide
 pub mod Larger
+pub mod LargerSnapshots
+pub mod LargerCharts
 pub mod Rows

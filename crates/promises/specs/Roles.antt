@@ -98,7 +98,7 @@ permitted-so image ok e r h = (
 
 -- ---- charts stored before
 
--- what a step was before it named a role, in the words of then, which had no sets
+-- what a step was before it named a role, in the words of then, which had no sets, by the limits of now (request xiv)
 unfoldable pub fitBefore : FlatChart → Marking → Bool
 fitBefore c m =
     fitMarking (c .count) m
