@@ -43,7 +43,7 @@ rowOf c e =
     }
 
 -- "A flat chart is fit if the count is 1 to 64, no bit stands outside it, every set past it is empty", and no more by request (xii): "A fit flat chart may have a pair
--- in both tables." Request (i): "The flat chart holds a role byte per event, 0 past the count."
+-- in both tables." Request (xiv): 1 to 256. Request (i): "The flat chart holds a role byte per event, 0 past the count."
 pub record Fit (c : FlatChart) : Type 0 where
   pub some : 1 ≤ c .count
   pub few : c .count ≤ maxEvents

@@ -28,7 +28,7 @@ use Rattle.derived.specs.OneChart.{SameRelations}
 use Rattle.derived.specs.Meaning.{Says, rules-say, of-include, of-exclude, of-response, Names, text-names, of-condition, of-milestone}
 use Rattle.gathering.specs.Gathering.{completes, adds, passing, gatheredBy, namedIn, rowsBelow, gathered}
 
--- "that chart without marking or roles": its count and its five relations, a set for each of 64 events, of exclusions those that no inclusion overrules
+-- "that chart without marking or roles": its count and its five relations, a set for each of 256 events, of exclusions those that no inclusion overrules
 unfoldable pub bare : FlatChart → FlatChart
 bare c =
     record {
@@ -41,7 +41,7 @@ bare c =
       roles = replicate maxEvents 0;
     }
 
--- the tables have a set for each of 64 events, as the calls' arrays do
+-- the tables have a set for each of 256 events, as the calls' arrays do
 abbrev pub Sized : FlatChart → Type 0
 Sized c = (k : Kind) → length (table c k) ≡ maxEvents
 
