@@ -15,7 +15,7 @@
 // ozhimka_read_back hand one back by value, and a snapshot goes both ways by value. What is kept of them is best static, or the caller's own.
 //
 // Stack, at most, with the copies that the caller's code makes there of structs that go in or come back by value (ozhimka_reading takes
-// 41,336 bytes), and without what the C library and the dynamic linker take: ozhimka_read_back 160 KiB, ozhimka_check and
+// 41,336 bytes), and without what the C library and the dynamic linker take: ozhimka_read_back 176 KiB, ozhimka_check and
 // ozhimka_build_index 64 KiB, ozhimka_complete, ozhimka_complete_indexed and ozhimka_complete_list 64 KiB, ozhimka_read_chart
 // 128 KiB, ozhimka_mend 4 KiB, ozhimka_derive_smaller 16 KiB, ozhimka_matching 4 KiB, every other call 4
 // KiB. examples/header_test.c measures them.
@@ -76,6 +76,14 @@
 // A stage for which no rule counts has the offset at which its order would begin. An index is fit for a book exactly if it is, byte for byte
 // and in length, what ozhimka_build_index writes for it: one byte more or less, an order of another stage or of another book is unfit, and so
 // is an index with 16 bits a rule, which version 5 wrote, unless it lists no rule.
+//
+// What version 5 left stored. Chart images, books, lists of changes and records are as they were. The rest has another size:
+//   order        16 bits a rule: ask ozhimka_check for it anew
+//   index        16 bits a rule: build it anew; an old one that lists any rule gets 34
+//   snapshot     256 marks: the marks from 256 to 1,023 are no (0)
+//   marking      three numbers: each is the first of its set's four numbers, the upper three are 0
+//   flat chart   64 numbers a table: read its image anew
+//   table        of a smaller book, 256 places: those from 256 to 1,023 are 65,535
 #ifndef OZHIMKA_H
 #define OZHIMKA_H
 
