@@ -1,4 +1,6 @@
 // The paper's limits, formats and refusal numbers, each named once, and the answer that every call hands back.
+#![tactic(auto)]
+
 ghost use Rattle.std.specs.Prelude.{◌≡◌};
 ghost use Rattle.paper.specs.Answers.{granted, answer, place_of};
 
@@ -148,7 +150,7 @@ pub const MEND_ROOM: u32 = 37;
 pub const LONG_LIST: u32 = 38;
 
 #[repr(C)]
-#[derive(Drop)]
+#[derive(Clone, Copy)]
 pub struct Answer {
     pub code: u32,
     pub place: u32,

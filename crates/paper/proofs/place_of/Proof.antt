@@ -10,5 +10,5 @@ place_of_spec =
     tie.close
     (tie.spec
     (λ c. search rules)
-    (λ c. unfold place_of in rw (lt-ltb _ _ c.if1.true))
-    (λ c. unfold place_of in rw (le-ltb _ _ c.if1.false)))
+    (λ c. unfold place_of in rw (lt-ltb _ _ c.if-position-lt-LAST_PLACE.true))
+    (λ c. unfold place_of in rw (le-ltb _ _ c.if-position-lt-LAST_PLACE.false)))
