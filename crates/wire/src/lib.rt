@@ -1,4 +1,6 @@
 // Little-endian numbers of 16 and 32 bits in byte slices, read and written.
+#![tactic(auto)]
+
 ghost use Rattle.std.specs.Prelude.{◌≡◌, ◌+◌, ◌≤◌, ◌<◌, length};
 ghost use Rattle.wire.specs.Wire.{u16_at, u32_at, put16, put32};
 
