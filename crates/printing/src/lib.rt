@@ -1,70 +1,101 @@
-// Printing: text gathered in a buffer, which is written to standard output whenever it is full.
-ghost use Rattle.std.specs.Prelude.{◌<◌};
+// Printing: text gathered in a buffer, which is written to standard output whenever it is full. And reading into lent room.
+#![tactic(auto)]
 
-use libc::STDOUT_FILENO;
+ghost use Rattle.std.specs.Prelude.{◌<◌, IfOk};
+ghost use Rattle.std.specs.Io.{ReadsAtMost};
+
 use paper::Answer;
+use std::io::Read;
 
 pub const ROOM: usize = 4096;
 
-// Writes the bytes gathered so far.
-pub fn finish(buffer: [u8; ROOM], at: usize)
-    requires { at < 4096 }
+// Reads until the room is full or the input ends, and hands back how many bytes it put at the start of the room, or the error of a read that failed.
+pub fn read_full<R: Read>(reader: &mut R, room: &mut [u8]) -> std::io::Result<usize>
+    ensures { ReadsAtMost result room.new }
 {
-    io::write_all(STDOUT_FILENO, &buffer[..at]);
+    let mut done = 0;
+    while done < room.len() {
+        let n = reader.read(&mut room[done..])?;
+        if n == 0 {
+            break;
+        }
+        done += n;
+    }
+    Ok(done)
 }
 
-// Every writer here hands back the place behind what it wrote.
-fn byte(buffer: &mut [u8; ROOM], at: usize, b: u8) -> usize
+// Writes the bytes gathered so far.
+pub fn finish(rt: &impl Print, buffer: [u8; ROOM], at: usize) -> std::io::Result<()>
     requires { at < 4096 }
-    ensures { result < 4096 }
+{
+    rt.write_all(&buffer[..at])
+}
+
+// Every writer here hands back the place behind what it wrote, or the error of a write that failed.
+fn byte(rt: &impl Print, buffer: &mut [u8; ROOM], at: usize, b: u8) -> std::io::Result<usize>
+    requires { at < 4096 }
+    ensures { IfOk result (λ next. next < 4096) }
 {
     buffer[at] = b;
     let next = at + 1;
     if next < ROOM {
-        return next;
+        return Ok(next);
     }
-    io::write_all(STDOUT_FILENO, &buffer[..]);
-    0
+    rt.write_all(&buffer[..])?;
+    Ok(0)
 }
 
-pub fn text(buffer: &mut [u8; ROOM], at: usize, s: &[u8]) -> usize
+pub fn text(rt: &impl Print, buffer: &mut [u8; ROOM], at: usize, s: &[u8]) -> std::io::Result<usize>
     requires { at < 4096 }
-    ensures { result < 4096 }
+    ensures { IfOk result (λ next. next < 4096) }
 {
     let mut next = at;
     let mut i = 0;
     while i < s.len() {
-        next = byte(buffer, next, s[i]);
+        next = byte(rt, buffer, next, s[i])?;
         i += 1;
     }
-    next
+    Ok(next)
 }
 
 // A text, and a number in decimal behind it.
-pub fn named(buffer: &mut [u8; ROOM], at: usize, name: &[u8], n: u64) -> usize
+pub fn named(
+    rt: &impl Print,
+    buffer: &mut [u8; ROOM],
+    at: usize,
+    name: &[u8],
+    n: u64,
+) -> std::io::Result<usize>
     requires { at < 4096 }
-    ensures { result < 4096 }
+    ensures { IfOk result (λ next. next < 4096) }
 {
-    let next = text(buffer, at, name);
+    let next = text(rt, buffer, at, name)?;
     let mut digits = [0u8; 20];
     let k = io::decimal(n, &mut digits);
-    text(buffer, next, &digits[..k])
+    text(rt, buffer, next, &digits[..k])
 }
 
 // The line of an answer: a word, then code, place and other.
-pub fn answer(buffer: &mut [u8; ROOM], at: usize, word: &[u8], a: Answer) -> usize
+pub fn answer(
+    rt: &impl Print,
+    buffer: &mut [u8; ROOM],
+    at: usize,
+    word: &[u8],
+    a: Answer,
+) -> std::io::Result<usize>
     requires { at < 4096 }
-    ensures { result < 4096 }
+    ensures { IfOk result (λ next. next < 4096) }
 {
-    let b = text(buffer, at, word);
-    let c = named(buffer, b, b" ", a.code as u64);
-    let d = named(buffer, c, b" ", a.place as u64);
-    let e = named(buffer, d, b" ", a.other as u64);
-    text(buffer, e, b"\n")
+    let b = text(rt, buffer, at, word)?;
+    let c = named(rt, buffer, b, b" ", a.code as u64)?;
+    let d = named(rt, buffer, c, b" ", a.place as u64)?;
+    let e = named(rt, buffer, d, b" ", a.other as u64)?;
+    text(rt, buffer, e, b"\n")
 }
 
 // The line of a book's five counts.
 pub fn counts(
+    rt: &impl Print,
     buffer: &mut [u8; ROOM],
     at: usize,
     stages: u32,
@@ -72,14 +103,14 @@ pub fn counts(
     rules: u32,
     conditions: u32,
     words: u32,
-) -> usize
+) -> std::io::Result<usize>
     requires { at < 4096 }
-    ensures { result < 4096 }
+    ensures { IfOk result (λ next. next < 4096) }
 {
-    let a = named(buffer, at, b"stages ", stages as u64);
-    let b = named(buffer, a, b" marks ", marks as u64);
-    let c = named(buffer, b, b" rules ", rules as u64);
-    let d = named(buffer, c, b" conditions ", conditions as u64);
-    let e = named(buffer, d, b" words ", words as u64);
-    text(buffer, e, b"\n")
+    let a = named(rt, buffer, at, b"stages ", stages as u64)?;
+    let b = named(rt, buffer, a, b" marks ", marks as u64)?;
+    let c = named(rt, buffer, b, b" rules ", rules as u64)?;
+    let d = named(rt, buffer, c, b" conditions ", conditions as u64)?;
+    let e = named(rt, buffer, d, b" words ", words as u64)?;
+    text(rt, buffer, e, b"\n")
 }
