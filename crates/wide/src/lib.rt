@@ -1,4 +1,6 @@
 // Sets of events or stages, in four words of 64 digits, and tables of them.
+#![tactic(auto)]
+
 ghost use Rattle.std.specs.Prelude.{◌≡◌, ◌+◌, ◌*◌, ◌-◌, ◌<◌, ◌≤◌, min, eqb, get_or, set, length};
 ghost use Rattle.paper.specs.Limits.{max_events};
 ghost use Rattle.sets.specs.Set.{has, minus, only, union, inter, size, lowest, all_below, put_if, within};
@@ -14,7 +16,7 @@ pub const TABLE: usize = MAX_EVENTS * SET_WORDS;
 
 // The lowest word first.
 #[repr(C)]
-#[derive(Drop)]
+#[derive(Clone, Copy)]
 pub struct Set {
     pub w0: u64,
     pub w1: u64,
