@@ -1,4 +1,6 @@
 // Words of lent memory cleared; its specs have ways over links and what is within reach.
+#![tactic(auto)]
+
 ghost use Rattle.std.specs.Prelude.{◌≡◌, ◌≤◌, ◌++◌, length, drop, replicate};
 
 // The first n words made 0.

@@ -9,10 +9,10 @@ use Rattle.closure.specs.Cleared.{clear_step, clear-end}
 use Rattle.closure.proofs.clear.Statement.{statement}
 use Rattle.closure.proofs.clear.Tie as tie
 
-abbrev invariant-loop : tie.invariant-loop
+abbrev invariant-loop : tie.invariant-loop-i
 invariant-loop rows₀ n i₀ rows i = (i ≤ n) × (length rows ≡ length rows₀) × (rows ≡ replicate i 0 ++ drop i rows₀)
 
-abbrev decreases-loop : tie.decreases-loop
+abbrev decreases-loop : tie.decreases-loop-i
 decreases-loop rows₀ n i₀ rows i = n - i
 
 pub clear_spec : {M : Type 1} → statement M
@@ -23,6 +23,6 @@ clear_spec =
     decreases-loop
     (λ c. search rules)
     (λ c. search rules) (λ c. search rules) (λ c. search rules) (λ c. search rules)
-    (λ c. (omega arith, search rules, clear_step _ _ _ c.before.loop.invariant.2 (omega arith)))
+    (λ c. (omega arith, search rules, clear_step _ _ _ c.before.loop-i.invariant.2 (omega arith)))
     (λ c. search rules)
     (λ c. search clear-end))
