@@ -1,8 +1,7 @@
 -- Fit orders by index, as code that reads a slice sees them. Assumes nothing.
-use Rattle.std.specs.Prelude.{◌≡◌, refl, ◌↔◌, false, List, [], ◌∷◌, ℕ, zero, suc, ◌≤◌, ◌<◌, length, get_or}
+use Rattle.std.specs.Prelude.{◌≡◌, refl, false, List, [], ◌∷◌, ℕ, zero, suc, ◌≤◌, ◌<◌, length, get_or}
 use Rattle.std.proofs.Common.{sym, subst, inl, inr, arith}
-use Rattle.order_theory.specs.Order.{Net, Counted, counted_rules, Mem, Distinct, before, Respects, Fit}
-use Rattle.order_theory.specs.Written.{each-listed, listed-length}
+use Rattle.order_theory.specs.Order.{Net, Counted, counted_rules, Mem, Distinct, before, Respects}
 
 -- whatever would stand for an entry past the end
 pub mem-any : (l : List ℕ) (i d : ℕ) → i < length l → Mem (get_or l i d) l
@@ -35,12 +34,6 @@ module _ (N : Net) where
   abbrev pub RespectsAt : List ℕ → Type 0
   RespectsAt l = (i j : ℕ) → i ≤ j → j < length l → before N (get_or l j 0) (get_or l i 0) ≡ false
 
-  pub respects-at : (l : List ℕ) → Respects N l → RespectsAt l
-  respects-at [] x i j h k = absurd (omega arith)
-  respects-at (r ∷ l) x zero j h k = x.0 (get_or (r ∷ l) j 0) (mem-at (r ∷ l) j k)
-  respects-at (r ∷ l) x (suc i) zero h k = absurd (omega arith)
-  respects-at (r ∷ l) x (suc i) (suc j) h k = respects-at l x.1 i j (omega arith) (omega arith)
-
   pub at-respects : (l : List ℕ) → RespectsAt l → Respects N l
   at-respects [] x = tt
   at-respects (r ∷ l) x = (λ q m. let (j, h, e) = at_mem (r ∷ l) q m in rw (← e) (x zero j (omega arith) h), at-respects l (λ i j h k. x (suc i) (suc j) (omega arith) (omega arith)))
@@ -51,22 +44,3 @@ module _ (N : Net) where
     pub below : (i : ℕ) → i < length l → Counted N (get_or l i 0)
     pub distinct : DistinctAt l
     pub respects : RespectsAt l
-
-  pub fit_at : (l : List ℕ) → Fit N l ↔ FitAt l
-  fit_at l = (
-    λ x. record {
-      size = listed-length N.count N.counts l x.distinct x.below x.whole;
-      below = λ i h. x.below (get_or l i 0) (mem-at l i h);
-      distinct = distinct-at l x.distinct;
-      respects = respects-at l x.respects;
-    },
-    λ x. record {
-      below = low x;
-      whole = each-listed N.count N.counts l x.size (at-distinct l x.distinct) (low x);
-      distinct = at-distinct l x.distinct;
-      respects = at-respects l x.respects;
-    },
-  )
-    where
-      low : FitAt l → (q : ℕ) → Mem q l → Counted N q
-      low x q m = let (j, h, e) = at_mem l q m in rw (← e) (x.below j h)

@@ -1,21 +1,15 @@
 -- A loop without a table: what is reached from a mark, spread over the rules until nothing is added. A rule on a loop targets the mark exactly if
 -- some rule that targets it refers to what is reached. Assumes nothing.
-use Rattle.std.specs.Prelude.{◌≡◌, ◌⊎◌, ◌↔◌, Bool, true, ℕ}
+use Rattle.std.specs.Prelude.{◌≡◌, ◌⊎◌, Bool, true, ℕ}
 use Rattle.std.proofs.Common.{inr, ⊎_elim}
-use Rattle.closure.specs.Closure.{Way, hop, via, join}
-use Rattle.order_theory.specs.Order.{Net, Counted, OnLoop}
-use Rattle.order_theory.specs.Loops.{leads, leads-of, of-leads, loop-way}
+use Rattle.closure.specs.Closure.{Way, join}
+use Rattle.order_theory.specs.Order.{Net, Counted}
+use Rattle.order_theory.specs.Loops.{leads}
 
 module _ (N : Net) where
   -- from a one gets to b by ways, or is there
   abbrev pub Leads : ℕ → ℕ → Type 0
   Leads a b = (a ≡ b) ⊎ Way (leads N) a b
-
-  -- over one more rule
-  pub leads-on : (a x r : ℕ) → Leads a x → Counted N r → N.refers r x ≡ true → Way (leads N) a (N.target r)
-  leads-on a x r w i e =
-      let h = leads-of N r x i e in
-      ⊎_elim (λ q. hop (rw q h)) (λ v. join (leads N) v (hop h)) w
 
   pub leads-join : (a x b : ℕ) → Leads a x → Leads x b → Leads a b
   leads-join a x b v w = ⊎_elim (λ q. rw q w) (λ u. ⊎_elim (λ q. rw (← q) (inr u)) (λ t. inr (join (leads N) u t)) w) v
@@ -30,14 +24,3 @@ module _ (N : Net) where
     -- a rule that targets b refers to what is reached
     abbrev pub Back : (ℕ → Bool) → ℕ → Type 0
     Back s b = (r : ℕ) × (x : ℕ) × Counted N r × (N.target r ≡ b) × (N.refers r x ≡ true) × (s x ≡ true)
-
-    module _ {s : ℕ → Bool} (p : Spread s) where
-      last : {x b : ℕ} → s x ≡ true → Way (leads N) x b → Back s b
-      last t (hop {a = x} {b} e) = let (r, i, g, u) = of-leads N x b e in (r, x, i, u, g, t)
-      last t (via {a = x} {c} {b} e w) = let (r, i, g, u) = of-leads N x c e in last (rw u at (p.closed r x i g t)) w
-
-      pub spread-loop : OnLoop N a ↔ Back s a
-      spread-loop = (
-        λ o. last p.begun ((loop-way N a).0 o),
-        λ o. let (r, x, i, u, g, t) = o in (loop-way N a).1 (rw u at (leads-on a x r (p.sound x t) i g)),
-      )

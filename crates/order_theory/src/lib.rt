@@ -1,1 +1,2 @@
 // The theory of orders stands in specs/; it has no code.
+#![tactic(auto)]
