@@ -1,4 +1,6 @@
 // The flat chart, the test that it is fit, and one event's own sets and roles.
+#![tactic(auto)]
+
 ghost use Rattle.std.specs.Prelude.{◌≡◌, ◌-◌, ◌<◌, ◌≤◌, get_or};
 ghost use Rattle.paper.specs.Limits.{max_events};
 ghost use Rattle.wide.specs.Number.{number, rows_of};
@@ -13,7 +15,7 @@ use wide::{Set, TABLE};
 // One set for each event and kind, row e of its table. Row e of conditions and milestones is who holds e back; of the others, what e reaches; of roles, who may
 // execute e, where none means everyone.
 #[repr(C)]
-#[derive(Drop)]
+#[derive(Clone, Copy)]
 pub struct FlatChart {
     pub count: u32,
     pub conditions: [u64; TABLE],
@@ -25,7 +27,7 @@ pub struct FlatChart {
 }
 
 // One event's own sets, and the roles that it names.
-#[derive(Drop)]
+#[derive(Clone, Copy)]
 pub struct Row {
     pub conditions: Set,
     pub responses: Set,

@@ -8,10 +8,10 @@ use native.Mathlib.Omega.{arith}
 use Rattle.flat_chart.proofs.roles_past.Statement.{statement}
 use Rattle.flat_chart.proofs.roles_past.Tie as tie
 
-abbrev invariant-loop : tie.invariant-loop
+abbrev invariant-loop : tie.invariant-loop-e
 invariant-loop n roles all₀ e₀ all e = (n ≤ e) × (e ≤ max_events) × (all ≡ roles_from roles n (e - n))
 
-abbrev decreases-loop : tie.decreases-loop
+abbrev decreases-loop : tie.decreases-loop-e
 decreases-loop n roles all₀ e₀ all e = max_events - e
 
 pub roles_past_spec : {M : Type 1} → statement M

@@ -8,11 +8,11 @@ use borrow.Author.Rules.{rules}
 use Rattle.flat_chart.proofs.spill_rows.Statement.{statement}
 use Rattle.flat_chart.proofs.spill_rows.Tie as tie
 
-abbrev invariant-loop : tie.invariant-loop
+abbrev invariant-loop : tie.invariant-loop-e
 invariant-loop from end allowed conditions responses milestones includes excludes over₀ e₀ over e =
     (from ≤ e) × (e ≤ end) × (number over ≡ spill_rows (number allowed) (number over₀) from (rows_of conditions) (rows_of responses) (rows_of milestones) (rows_of includes) (rows_of excludes) (e - from))
 
-abbrev decreases-loop : tie.decreases-loop
+abbrev decreases-loop : tie.decreases-loop-e
 decreases-loop from end allowed conditions responses milestones includes excludes over₀ e₀ over e = end - e
 
 pub spill_rows_spec : {M : Type 1} → statement M
@@ -26,6 +26,6 @@ spill_rows_spec =
     (λ c. (
       omega arith,
       omega arith,
-      rows_more _ _ _ _ _ _ _ _ _ (omega arith) c.before.before.before.before.loop.invariant.2 c.before.before.row-held.ensures c.before.less.ensures c.join.ensures,
+      rows_more _ _ _ _ _ _ _ _ _ (omega arith) c.before.before.before.before.loop-e.invariant.2 c.before.before.row_held-held.ensures c.before.less.ensures c.join-over.ensures,
     ))
     (λ c. search rows_end))

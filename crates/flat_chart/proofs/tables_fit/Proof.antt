@@ -8,7 +8,7 @@ pub tables_fit_spec : {M : Type 1} → statement M
 tables_fit_spec =
     tie.close
     (tie.spec
-    (λ c. chart-few _ _ _ _ _ _ _ c.if1.true)
-    (λ c. chart-many _ _ _ _ _ _ _ c.if2.true)
+    (λ c. chart-few _ _ _ _ _ _ _ c.if-n-lt1.true)
+    (λ c. chart-many _ _ _ _ _ _ _ c.if-n-gt-MAX_EVENTS.true)
     (λ c κs. search rules) (λ c κs. search rules) (λ c κs. search rules)
-    (λ c. chart-tested _ _ _ _ _ _ _ _ _ _ (search rules) (search rules) c.before.before.spill.ensures c.before.roles-past.ensures c.is-empty.ensures))
+    (λ c. chart-tested _ _ _ _ _ _ _ _ _ _ (search rules) (search rules) c.before.before.spill-over.ensures c.before.roles_past-named.ensures c.is_empty.ensures))
