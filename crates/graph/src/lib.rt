@@ -1,4 +1,6 @@
 // The marking of a flat chart, and the test that both are fit. What a marking does is in steps.rt.
+#![tactic(auto)]
+
 pub mod steps;
 
 ghost use Rattle.std.specs.Prelude.{◌≡◌};
@@ -13,7 +15,7 @@ use wide::{Set, TABLE};
 
 // Ex, Re and In.
 #[repr(C)]
-#[derive(Drop)]
+#[derive(Clone, Copy)]
 pub struct Marking {
     pub executed: Set,
     pub pending: Set,

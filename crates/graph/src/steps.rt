@@ -14,7 +14,7 @@ use paper::{Answer, MAX_EVENTS};
 use wide::{Set, TABLE};
 
 // What holds an event back: its included conditions that are not executed, and its included milestones that are pending.
-#[derive(Drop)]
+#[derive(Clone, Copy)]
 struct Blocking {
     conditions: Set,
     milestones: Set,
@@ -22,7 +22,7 @@ struct Blocking {
 
 // What the open test gives: with 12 and 13 all that holds the event back, with every other code two empty sets.
 #[repr(C)]
-#[derive(Drop)]
+#[derive(Clone, Copy)]
 pub struct OpenTest {
     pub answer: Answer,
     pub conditions: Set,
@@ -31,7 +31,7 @@ pub struct OpenTest {
 
 // What executing an event gives: the next marking, or the old one beside the refusal; and the sets of its open test.
 #[repr(C)]
-#[derive(Drop)]
+#[derive(Clone, Copy)]
 pub struct Step {
     pub answer: Answer,
     pub marking: Marking,
@@ -41,7 +41,7 @@ pub struct Step {
 
 // How many events are open and the lowest of them, MAX_EVENTS where there is none.
 #[repr(C)]
-#[derive(Drop)]
+#[derive(Clone, Copy)]
 pub struct OpenCount {
     pub answer: Answer,
     pub count: u32,
@@ -49,7 +49,7 @@ pub struct OpenCount {
 }
 
 #[repr(C)]
-#[derive(Drop)]
+#[derive(Clone, Copy)]
 pub struct Finished {
     pub answer: Answer,
     pub yes: bool,

@@ -10,10 +10,10 @@ use borrow.Author.Rules.{rules}
 use Rattle.graph.proofs.Marking.open_among.Statement.{statement}
 use Rattle.graph.proofs.Marking.open_among.Tie as tie
 
-abbrev invariant-loop : tie.invariant-loop
+abbrev invariant-loop : tie.invariant-loop-e
 invariant-loop self n conditions milestones all₀ e₀ all e = (e ≤ n) × (number all ≡ free_among (marks_of self) (rows_of conditions) (rows_of milestones) e)
 
-abbrev decreases-loop : tie.decreases-loop
+abbrev decreases-loop : tie.decreases-loop-e
 decreases-loop self n conditions milestones all₀ e₀ all e = n - e
 
 pub open_among_spec : {M : Type 1} → statement M
@@ -23,12 +23,12 @@ open_among_spec =
     invariant-loop
     decreases-loop
     (λ c κs. search rules)
-    (λ c. (omega arith, unfold free_among collect in c.empty.ensures))
+    (λ c. (omega arith, unfold free_among collect in c.empty-all.ensures))
     (λ c κs. search rules) (λ c κs. search rules) (λ c κs. search rules) (λ c κs. search rules) (λ c. search rules) (λ c. search rules)
     (λ c. (
       omega arith,
-      free_more _ _ _ _ c.before.is_free.result c.before.before.before.before.before.loop.invariant.1 c.before.before.before.row.ensures
-          c.before.before.row2.ensures c.before.is_free.ensures c.put_if.ensures,
+      free_more _ _ _ _ c.before.is_free-free.result c.before.before.before.before.before.loop-e.invariant.1 c.before.before.before.row.ensures
+          c.before.before.row-in-loop-e.ensures c.before.is_free-free.ensures c.put_if-all.ensures,
     ))
     (λ c κs. search rules)
     (λ c. search among-end))

@@ -2,8 +2,8 @@
 use Rattle.graph.proofs.steps.handed_on.Statement.{statement}
 use Rattle.graph.proofs.steps.handed_on.Tie as tie
 
-pub handed_on-spec : {M : Type 1} → statement M
-handed_on-spec =
+pub handed_on_spec : {M : Type 1} → statement M
+handed_on_spec =
     tie.close
     (tie.spec
     (λ c. cc))
