@@ -1,4 +1,6 @@
 // The chart image's fields, and the tests of its header and of its records.
+#![tactic(auto)]
+
 ghost use Rattle.std.specs.Prelude.{◌≡◌, ◌+◌, ◌*◌, ◌≤◌, ◌<◌, length};
 ghost use Rattle.paper.specs.Limits.{max_nodes, max_relations, chart_header, node_size, flags_byte, relation_size};
 ghost use Rattle.general.specs.Below.{first};

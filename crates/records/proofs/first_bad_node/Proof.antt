@@ -6,10 +6,10 @@ use borrow.Author.Rules.{rules}
 use Rattle.records.proofs.first_bad_node.Statement.{statement}
 use Rattle.records.proofs.first_bad_node.Tie as tie
 
-abbrev invariant-loop : tie.invariant-loop
+abbrev invariant-loop : tie.invariant-loop-i
 invariant-loop image n k i₀ i = Passed n (bad_node_at image) i
 
-abbrev decreases-loop : tie.decreases-loop
+abbrev decreases-loop : tie.decreases-loop-i
 decreases-loop image n k i₀ i = n - i
 
 pub first_bad_node_spec : {M : Type 1} → statement M
