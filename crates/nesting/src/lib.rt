@@ -1,4 +1,6 @@
 // Parents, groups and events: who lies above whom, which nodes are events, and what numbers they get.
+#![tactic(auto)]
+
 ghost use Rattle.std.specs.Prelude.{◌≡◌, true, false, not, cond, ◌+◌, ◌≤◌, ◌<◌, length, set};
 ghost use Rattle.paper.specs.Limits.{max_nodes, max_events, node_size};
 ghost use Rattle.general.specs.Below.{some, first, tally};

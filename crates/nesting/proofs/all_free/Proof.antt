@@ -5,10 +5,10 @@ use borrow.Author.Rules.{rules}
 use Rattle.nesting.proofs.all_free.Statement.{statement}
 use Rattle.nesting.proofs.all_free.Tie as tie
 
-abbrev invariant-loop : tie.invariant-loop
+abbrev invariant-loop : tie.invariant-loop-start
 invariant-loop image n k stamps₀ start₀ stamps start = Stamps image n start stamps
 
-abbrev decreases-loop : tie.decreases-loop
+abbrev decreases-loop : tie.decreases-loop-start
 decreases-loop image n k stamps₀ start₀ stamps start = n - start
 
 pub all_free_spec : {M : Type 1} → statement M

@@ -9,10 +9,10 @@ use native.Mathlib.Omega.{arith}
 use Rattle.nesting.proofs.count_events.Statement.{statement}
 use Rattle.nesting.proofs.count_events.Tie as tie
 
-abbrev invariant-loop : tie.invariant-loop
+abbrev invariant-loop : tie.invariant-loop-i
 invariant-loop groups n count₀ i₀ count i = (i ≤ n) × (count ≡ tally i (is_event_in groups))
 
-abbrev decreases-loop : tie.decreases-loop
+abbrev decreases-loop : tie.decreases-loop-i
 decreases-loop groups n count₀ i₀ count i = n - i
 
 pub count_events_spec : {M : Type 1} → statement M
@@ -26,10 +26,10 @@ count_events_spec =
     (λ c. record {
       fits = omega (
         arith,
-        tally-le c.before.before.loop.i (is_event_in c.before.before.before.args.groups.now),
-        byte_le (is_event_in c.before.before.before.args.groups.now c.before.before.loop.i),
+        tally-le c.before.before.loop-i.i (is_event_in c.before.before.before.args.groups.now),
+        byte_le (is_event_in c.before.before.before.args.groups.now c.before.before.loop-i.i),
       );
     })
     (λ c. search rules) (λ c. search rules)
-    (λ c. (search rules, tally-more _ _ _ c.before.before.loop.invariant.1))
-    (λ c. tally-end _ _ _ _ c.before.loop.invariant.0 (search rules) c.before.loop.invariant.1))
+    (λ c. (search rules, tally-more _ _ _ c.before.before.loop-i.invariant.1))
+    (λ c. tally-end _ _ _ _ c.before.loop-i.invariant.0 (search rules) c.before.loop-i.invariant.1))

@@ -6,10 +6,10 @@ use borrow.Author.Rules.{rules}
 use Rattle.nesting.proofs.first_flagged_group.Statement.{statement}
 use Rattle.nesting.proofs.first_flagged_group.Tie as tie
 
-abbrev invariant-loop : tie.invariant-loop
+abbrev invariant-loop : tie.invariant-loop-i
 invariant-loop image n k groups i₀ i = Passed n (flagged_in image groups) i
 
-abbrev decreases-loop : tie.decreases-loop
+abbrev decreases-loop : tie.decreases-loop-i
 decreases-loop image n k groups i₀ i = n - i
 
 pub first_flagged_group_spec : {M : Type 1} → statement M

@@ -5,10 +5,10 @@ use borrow.Author.Rules.{rules}
 use Rattle.nesting.proofs.groups_of.Statement.{statement}
 use Rattle.nesting.proofs.groups_of.Tie as tie
 
-abbrev invariant-loop : tie.invariant-loop
+abbrev invariant-loop : tie.invariant-loop-a
 invariant-loop image n k groups₀ a₀ groups a = (a ≤ n) × Marks image n a groups
 
-abbrev decreases-loop : tie.decreases-loop
+abbrev decreases-loop : tie.decreases-loop-a
 decreases-loop image n k groups₀ a₀ groups a = n - a
 
 pub groups_of_spec : {M : Type 1} → statement M

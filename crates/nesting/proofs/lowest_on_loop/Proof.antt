@@ -7,10 +7,10 @@ use borrow.Author.Rules.{rules}
 use Rattle.nesting.proofs.lowest_on_loop.Statement.{statement}
 use Rattle.nesting.proofs.lowest_on_loop.Tie as tie
 
-abbrev invariant-loop : tie.invariant-loop
+abbrev invariant-loop : tie.invariant-loop-node
 invariant-loop image n k node₀ node = Passed n (on_loop_at image) node
 
-abbrev decreases-loop : tie.decreases-loop
+abbrev decreases-loop : tie.decreases-loop-node
 decreases-loop image n k node₀ node = n - node
 
 pub lowest_on_loop_spec : {M : Type 1} → statement M

@@ -9,5 +9,5 @@ mark_spec =
     tie.close
     (tie.spec
     (λ c. search rules)
-    (λ c. mark_on _ _ _ c.if1.true)
-    (λ c. mark-off _ _ _ c.if1.false))
+    (λ c. mark_on _ _ _ c.if-p-n.true)
+    (λ c. mark-off _ _ _ c.if-p-n.false))

@@ -5,10 +5,10 @@ use borrow.Author.Rules.{rules}
 use Rattle.nesting.proofs.returns.Statement.{statement}
 use Rattle.nesting.proofs.returns.Tie as tie
 
-abbrev invariant-loop : tie.invariant-loop
+abbrev invariant-loop : tie.invariant-loop-passed
 invariant-loop image n k a c₀ passed₀ c passed = (passed ≤ n) × Returning image n a c passed
 
-abbrev decreases-loop : tie.decreases-loop
+abbrev decreases-loop : tie.decreases-loop-passed
 decreases-loop image n k a c₀ passed₀ c passed = n - passed
 
 pub returns_spec : {M : Type 1} → statement M
