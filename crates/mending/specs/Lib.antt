@@ -10,4 +10,3 @@ pub mod Sound
 pub mod Undoing
 pub mod Listing
 pub mod Examples
-pub mod RolesStay

@@ -1,31 +1,29 @@
 -- The five steps make of an image what `OfImage` says of it, record by record. Assumes nothing.
-use Prim.Native.Nat.{ℕ, ◌+◌, ◌*◌, ◌/◌, ◌%◌, ◌≤◌, ◌<◌}
-use Rattle.std.specs.Prelude.{◌≡◌, true, ◌&&◌, List, [], eqb, ltb}
-use Rattle.std.proofs.Math.Path.{refl, ap}
-use Rattle.std.proofs.Common.{sym, ◌∙◌, append-nil, arith}
-use Rattle.std.proofs.Math.Bool.{not, cond, and-false}
+use Prim.Native.Nat.{ℕ, ◌≤◌, ◌<◌}
+use Rattle.std.specs.Prelude.{◌≡◌, true, ◌&&◌, List, eqb, ltb}
+use Rattle.std.proofs.Math.Path.{refl}
+use Rattle.std.proofs.Common.{◌∙◌, arith}
+use Rattle.std.proofs.Math.Bool.{not}
 use Rattle.std.proofs.Math.Dec.{leb}
 use Rattle.std.proofs.Math.ListN.{length}
-use borrow.Author.Tests.{ltb-true, lt-leb, leb-true, eq-eqb, ne_eqb, eqb-true, eqb-false, not-true}
-use Rattle.paper.specs.Limits.{max_nodes, no_parent, flags_byte, mend_parent, mend_flags, mend_loop, mend_group, change_size}
-use Rattle.general.specs.Cases.{cases, both, same_test}
+use borrow.Author.Tests.{ltb-true, leb-true, ne_eqb}
+use Rattle.paper.specs.Limits.{max_nodes, no_parent, change_size}
+use Rattle.general.specs.Cases.{cases, both}
 use Rattle.general.specs.Below.{some_same, tally, tally-same}
 use Rattle.general.specs.Tables.{length-tabulate, get_or-tabulate}
-use Rattle.general.specs.Lists.{flat, flat-same, packed, packed-flat}
-use Rattle.general.specs.Packing.{packed-flat-parts}
+use Rattle.general.specs.Lists.{packed}
 use Rattle.closure.specs.Closure.{Way, hop, via}
 use Rattle.wire.specs.Wire.{bytes16}
-use Rattle.records.specs.Image.{nodes, relations, node_at, relation_at, parent_of, flags_of, from_of, to_of, kind_of, bad_relation_at, Whole}
+use Rattle.records.specs.Image.{nodes, node_at, parent_of, flags_of, Whole}
 use Rattle.nesting.specs.Nesting.{parent, nested, on_loop_at, is_group, event_count, nested-so}
 use Rattle.nesting.specs.Climbing.{parent_is}
-use Rattle.mending.specs.Records.{Relation, Records, count, relation_count, node_in, relation_in, no_node, no_relation, node_from, relation_from, records_of, node_bytes, relation_bytes, chart_image}
-use Rattle.mending.specs.Mending.{Change, change_bytes, alter, differs, alteration_at, alterations, missing, parent_mended, state_flags, known_flags, flags_mended, cut_by, lowest_of_loop}
-use Rattle.mending.specs.Mending.{loop_mended, group_mended, bad_number, kept_at, dropped_at, step5, drops, parents_mended, nodes_known, loops_mended, groups_mended, mended, changes}
-use Rattle.mending.specs.Images.{image-nodes, image-length}
-use Rattle.mending.specs.Altering.{alter-node, counted1, counted2, counted3, counted4, kept-count, parents-stay, nodes-stay, parent-of, lowest-same, group-same}
+use Rattle.mending.specs.Records.{Records, count, node_in, no_node, node_from, records_of, chart_image}
+use Rattle.mending.specs.Mending.{Change, change_bytes, missing, parent_mended, known_flags, flags_mended, lowest_of_loop}
+use Rattle.mending.specs.Mending.{parents_mended, nodes_known, loops_mended, mended}
+use Rattle.mending.specs.Images.{image-nodes}
+use Rattle.mending.specs.Altering.{alter-node, counted1, counted2, counted3, parents-stay, nodes-stay, parent-of, lowest-same, group-same}
 use Rattle.mending.specs.Cutting.{parents-cut}
-use Rattle.mending.specs.OfImage.{missing_at, existing_parent, unknown_at, last_parent, group_left, flagged_at, last_flags, node, node_part, relation_part, relations_left}
-use Rattle.mending.specs.OfImage.{mended_runs, entry_at1, entry_at2, entry_at3, entry_at4, entry_at5, entries}
+use Rattle.mending.specs.OfImage.{missing_at, existing_parent, group_left, node}
 
 -- a node on a loop has a parent
 pub lowest-has : (s : List ℕ) (i : ℕ) → lowest_of_loop s i ≡ true → parent_of s i < nodes s
@@ -37,39 +35,36 @@ lowest-has s i h = go ((nested-so s i i).0 (both (nested s i i) _ h).0)
     go (via {a} {c} {b} e w) = let t = parent_is s a c e in let q = t.2 in let l = t.1 in omega arith
 
 module _ (s : List ℕ) {n k : ℕ} (w : Whole s n k) where
-  abbrev r0 : Records
+  abbrev pub r0 : Records
   r0 = records_of s
 
-  few : nodes s ≤ max_nodes
+  pub few : nodes s ≤ max_nodes
   few = let e = w.nodes in let f = w.few in omega arith
 
-  count0 : count r0 ≡ nodes s
+  pub count0 : count r0 ≡ nodes s
   unfolding records_of
   count0 = length-tabulate (nodes s) (λ i. node_from s (node_at i))
 
-  count1 : count (parents_mended r0) ≡ nodes s
+  pub count1 : count (parents_mended r0) ≡ nodes s
   count1 = counted1 r0 ∙ count0
 
-  count2 : count (nodes_known r0) ≡ nodes s
+  pub count2 : count (nodes_known r0) ≡ nodes s
   count2 = counted2 r0 ∙ count0
 
-  count3 : count (loops_mended r0) ≡ nodes s
+  pub count3 : count (loops_mended r0) ≡ nodes s
   count3 = counted3 r0 ∙ count0
 
-  count4 : count (groups_mended r0) ≡ nodes s
-  count4 = counted4 r0 ∙ count0
-
-  node0 : (i : ℕ) → i < nodes s → node_in r0 i ≡ node s (parent_of s i) (flags_of s i)
+  pub node0 : (i : ℕ) → i < nodes s → node_in r0 i ≡ node s (parent_of s i) (flags_of s i)
   unfolding records_of node_from
   node0 i h = get_or-tabulate (nodes s) (λ i. node_from s (node_at i)) i no_node h
 
-  node1 : (i : ℕ) → i < nodes s → node_in (parents_mended r0) i ≡ node s (existing_parent s i) (flags_of s i)
+  pub node1 : (i : ℕ) → i < nodes s → node_in (parents_mended r0) i ≡ node s (existing_parent s i) (flags_of s i)
   unfolding parent_mended missing existing_parent missing_at
   node1 i h =
       alter-node (parent_mended r0) r0 i (rw count0 h) ∙ rw (count0, node0 i h)
       (cases (not (eqb (parent_of s i) no_parent) && leb (nodes s) (parent_of s i)) (λ t. rw t) (λ t. rw t))
 
-  node2 : (i : ℕ) → i < nodes s → node_in (nodes_known r0) i ≡ node s (existing_parent s i) (known_flags (flags_of s i))
+  pub node2 : (i : ℕ) → i < nodes s → node_in (nodes_known r0) i ≡ node s (existing_parent s i) (known_flags (flags_of s i))
   unfolding flags_mended
   node2 i h = alter-node flags_mended (parents_mended r0) i (rw count1 h) ∙ rw (node1 i h)
 
@@ -89,14 +84,8 @@ module _ (s : List ℕ) {n k : ℕ} (w : Whole s n k) where
   nodes2 : nodes (chart_image (nodes_known r0)) ≡ nodes s
   nodes2 = image-nodes (nodes_known r0) ∙ count2
 
-  lowest2 : (i : ℕ) → lowest_of_loop (chart_image (nodes_known r0)) i ≡ lowest_of_loop s i
+  pub lowest2 : (i : ℕ) → lowest_of_loop (chart_image (nodes_known r0)) i ≡ lowest_of_loop s i
   lowest2 = lowest-same (chart_image (nodes_known r0)) s nodes2 parents2
-
-  node3 : (i : ℕ) → i < nodes s → node_in (loops_mended r0) i ≡ node s (last_parent s i) (known_flags (flags_of s i))
-  unfolding cut_by last_parent existing_parent
-  node3 i h =
-      alter-node (loop_mended (nodes_known r0)) (nodes_known r0) i (rw count2 h) ∙ rw (lowest2 i, node2 i h)
-      (cases (missing_at s i) (λ t. cases (lowest_of_loop s i) (λ u. rw (t, u)) (λ u. rw (t, u))) (λ t. cases (lowest_of_loop s i) (λ u. rw (t, u)) (λ u. rw (t, u))))
 
   -- the parents that are left
   parents3 : (a b : ℕ) → parent (chart_image (loops_mended r0)) a b ≡ (parent s a b && not (lowest_of_loop s a))
@@ -105,20 +94,11 @@ module _ (s : List ℕ) {n k : ℕ} (w : Whole s n k) where
       let e = count2 in
       parents-cut (nodes_known r0) (omega arith) (lowest_of_loop (chart_image (nodes_known r0))) a b ∙ rw (parents2 a b, lowest2 a)
 
-  group3 : (i : ℕ) → is_group (chart_image (loops_mended r0)) i ≡ group_left s i
+  pub group3 : (i : ℕ) → is_group (chart_image (loops_mended r0)) i ≡ group_left s i
   unfolding is_group group_left
   group3 i =
       rw (image-nodes (loops_mended r0), count3)
       (some_same (nodes s) (λ a. parent (chart_image (loops_mended r0)) a i) (λ a. parent s a i && not (lowest_of_loop s a)) (λ a h. parents3 a i))
-
-  state-left : (f : ℕ) → state_flags * ((f % state_flags + flags_byte * (f / flags_byte)) / state_flags) ≡ flags_byte * (f / flags_byte)
-  state-left f = omega arith
-
-  node4 : (i : ℕ) → i < nodes s → node_in (groups_mended r0) i ≡ node s (last_parent s i) (last_flags s i)
-  unfolding group_mended last_flags known_flags
-  node4 i h =
-      alter-node (group_mended (loops_mended r0)) (loops_mended r0) i (rw count3 h) ∙ rw (group3 i, node3 i h)
-      (cases (group_left s i) (λ t. rw (t, state-left (flags_of s i))) (λ t. rw t))
 
   nodes3 : nodes (chart_image (loops_mended r0)) ≡ nodes s
   nodes3 = image-nodes (loops_mended r0) ∙ count3
@@ -128,122 +108,6 @@ module _ (s : List ℕ) {n k : ℕ} (w : Whole s n k) where
   events-left =
       rw (nodes-stay r0, nodes3) (tally-same (nodes s) (λ i. not (is_group (chart_image (mended r0)) i)) (λ i. not (group_left s i))
       (λ i h. rw (group-same (chart_image (mended r0)) (chart_image (loops_mended r0)) (nodes-stay r0) (parents-stay r0) i, group3 i)))
-
-  -- ---- the relations
-
-  relations0 : relation_count r0 ≡ relations s
-  unfolding records_of
-  relations0 = length-tabulate (relations s) (λ k. relation_from s (relation_at (nodes s) k))
-
-  abbrev relation_of : ℕ → Relation
-  relation_of k = record { from = from_of s k; to = to_of s k; kind = kind_of s k }
-
-  relation4 : (k : ℕ) → k < relations s → relation_in (groups_mended r0) k ≡ relation_of k
-  unfolding records_of relation_from alter
-  relation4 k h = get_or-tabulate (relations s) (λ k. relation_from s (relation_at (nodes s) k)) k no_relation h
-
-  relations4 : relation_count (groups_mended r0) ≡ relations s
-  unfolding alter
-  relations4 = relations0
-
-  bad4 : (k : ℕ) → k < relations s → bad_number (count (groups_mended r0)) (relation_in (groups_mended r0) k) ≡ bad_relation_at s k
-  unfolding bad_number bad_relation_at
-  bad4 k h = rw (count4, relation4 k h)
-
-  -- ---- the chart
-
-  count_left : length (flat (relations s) (kept_at (groups_mended r0))) ≡ tally (relations s) (λ k. not (bad_relation_at s k))
-  count_left =
-      kept-count (groups_mended r0) (relations s)
-      ∙ tally-same (relations s) (λ k. not (bad_number (count (groups_mended r0)) (relation_in (groups_mended r0) k))) (λ k. not (bad_relation_at s k)) (λ k h. ap not (bad4 k h))
-
-  part-node : (i : ℕ) → i < nodes s → node_bytes (node_in (groups_mended r0) i) ≡ node_part s i
-  unfolding node_part
-  part-node i h = ap node_bytes (node4 i h)
-
-  part-relation : (k : ℕ) → k < relations s → packed relation_bytes (kept_at (groups_mended r0) k) ≡ relation_part s k
-  unfolding kept_at relation_part packed
-  part-relation k h =
-      rw (bad4 k h, relation4 k h) (cases (bad_relation_at s k) (λ t. rw t) (λ t. rw t (append-nil (relation_bytes (relation_of k)))))
-
-  -- the bytes of the mended chart, run by run
-  pub mended-runs : chart_image (mended r0) ≡ mended_runs s
-  unfolding chart_image mended step5 mended_runs relations_left
-  mended-runs =
-      let r4 : Records = groups_mended r0 in
-      rw (
-        count4,
-        relations4,
-        count_left,
-        packed-flat node_bytes no_node r4.nodes,
-        count4,
-        packed-flat-parts relation_bytes (relations s) (kept_at r4),
-        flat-same (nodes s) (λ i. node_bytes (node_in r4 i)) (node_part s) part-node,
-        flat-same (relations s) (λ k. packed relation_bytes (kept_at r4 k)) (relation_part s) part-relation,
-      )
-
-  -- ---- the list
-
-  said1 : (i : ℕ) → i < nodes s → alteration_at mend_parent (parent_mended r0) r0 i ≡ entry_at1 s i
-  unfolding alteration_at entry_at1 parent_mended missing missing_at differs
-  said1 i h =
-      rw (count0, node0 i h) (cases (not (eqb (parent_of s i) no_parent) && leb (nodes s) (parent_of s i))
-      (λ t. let n = eqb-false (parent_of s i) no_parent (not-true _ (both (not (eqb (parent_of s i) no_parent)) (leb (nodes s) (parent_of s i)) t).0) in
-      rw (t, ne_eqb no_parent (parent_of s i) (λ e. n (sym e))))
-      (λ t. rw (t, eq-eqb (parent_of s i) (parent_of s i) refl, eq-eqb (flags_of s i) (flags_of s i) refl)))
-
-  said2 : (i : ℕ) → i < nodes s → alteration_at mend_flags flags_mended (parents_mended r0) i ≡ entry_at2 s i
-  unfolding alteration_at entry_at2 flags_mended unknown_at differs
-  said2 i h = rw (node1 i h, eq-eqb (existing_parent s i) (existing_parent s i) refl)
-
-  said3 : (i : ℕ) → i < nodes s → alteration_at mend_loop (loop_mended (nodes_known r0)) (nodes_known r0) i ≡ entry_at3 s i
-  unfolding alteration_at entry_at3 cut_by differs existing_parent missing_at
-  said3 i h =
-      rw (lowest2 i, node2 i h) (cases (lowest_of_loop s i)
-      (λ t. let p = lowest-has s i t in let f = few in
-      rw (t, lt-leb (nodes s) (parent_of s i) p, and-false (not (eqb (parent_of s i) no_parent)), ne_eqb no_parent (parent_of s i) (λ e. omega arith)))
-      (λ t. let p : ℕ = cond (missing_at s i) no_parent (parent_of s i) in let f : ℕ = known_flags (flags_of s i) in rw (t, eq-eqb p p refl, eq-eqb f f refl)))
-
-  group-said : (f : ℕ) → eqb (state_flags * (known_flags f / state_flags)) (known_flags f) ≡ eqb (f % state_flags) 0
-  unfolding known_flags
-  group-said f =
-      let x : ℕ = known_flags f in
-      same_test (eqb (state_flags * (x / state_flags)) x) (eqb (f % state_flags) 0)
-      (λ t. let e = eqb-true (state_flags * (x / state_flags)) x t in eq-eqb (f % state_flags) 0 (omega arith))
-      (λ t. let e = eqb-true (f % state_flags) 0 t in eq-eqb (state_flags * (x / state_flags)) x (omega arith))
-
-  said4 : (i : ℕ) → i < nodes s → alteration_at mend_group (group_mended (loops_mended r0)) (loops_mended r0) i ≡ entry_at4 s i
-  unfolding alteration_at entry_at4 group_mended flagged_at differs
-  said4 i h =
-      rw (group3 i, node3 i h) (cases (group_left s i)
-      (λ t. rw (t, eq-eqb (last_parent s i) (last_parent s i) refl, group-said (flags_of s i)))
-      (λ t. rw (t, eq-eqb (last_parent s i) (last_parent s i) refl, eq-eqb (known_flags (flags_of s i)) (known_flags (flags_of s i)) refl)))
-
-  said5 : (k : ℕ) → k < relations s → dropped_at (groups_mended r0) k ≡ entry_at5 s k
-  unfolding dropped_at entry_at5
-  said5 k h = rw (bad4 k h, relation4 k h)
-
-  -- the changes, entry by entry
-  pub entries-so : changes r0 ≡ entries s
-  unfolding changes alterations drops entries
-  entries-so =
-      rw (
-        count0,
-        count1,
-        count2,
-        count3,
-        relations4,
-        flat-same (nodes s) (alteration_at mend_parent (parent_mended r0) r0) (entry_at1 s) said1,
-        flat-same (nodes s) (alteration_at mend_flags flags_mended (parents_mended r0)) (entry_at2 s) said2,
-        flat-same (nodes s) (alteration_at mend_loop (loop_mended (nodes_known r0)) (nodes_known r0)) (entry_at3 s) said3,
-        flat-same (nodes s) (alteration_at mend_group (group_mended (loops_mended r0)) (loops_mended r0)) (entry_at4 s) said4,
-        flat-same (relations s) (dropped_at (groups_mended r0)) (entry_at5 s) said5,
-      )
-
-  -- "Length is exactly 8 + 4N + 6K."
-  pub length_runs : length (mended_runs s) ≡ relation_at (nodes s) (relations_left s)
-  unfolding mended step5 relations_left
-  length_runs = ap length (sym mended-runs) ∙ image-length (mended r0) ∙ rw (count4, relations4, count_left)
 
 pub length-change : (c : Change) → length (change_bytes c) ≡ change_size
 unfolding change_bytes packed bytes16

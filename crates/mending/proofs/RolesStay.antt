@@ -1,11 +1,11 @@
 -- Mending leaves every node's roles, the upper byte of its flags, as they were. Assumes nothing.
-use Rattle.std.specs.Prelude.{ℕ, ◌+◌, ◌*◌, ◌/◌, ◌%◌, ◌<◌, ◌≡◌, refl, cond}
-use Rattle.std.proofs.Common.{sym, ap, ◌∙◌, arith}
+use Rattle.std.specs.Prelude.{ℕ, ◌/◌, ◌<◌, ◌≡◌}
+use Rattle.std.proofs.Common.{ap, ◌∙◌, arith}
 use Rattle.paper.specs.Limits.{flags_byte}
 use Rattle.general.specs.Cases.{cases}
 use Rattle.nesting.specs.Nesting.{is_group}
 use Rattle.mending.specs.Records.{Node, Records, count, node_in, chart_image}
-use Rattle.mending.specs.Mending.{alter, missing, parent_mended, step1, state_flags, known_flags, flags_mended, step2, cut_by, lowest_of_loop, loop_mended, step3, group_mended, step4, step5, mended}
+use Rattle.mending.specs.Mending.{alter, missing, parent_mended, step1, known_flags, flags_mended, step2, cut_by, lowest_of_loop, loop_mended, step3, group_mended, step5, mended}
 use Rattle.mending.specs.Altering.{alter-count, alter-node}
 
 abbrev roles_of : Node → ℕ
