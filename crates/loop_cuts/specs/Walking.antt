@@ -14,7 +14,8 @@ use Rattle.nesting.specs.Climbing.{parent_is, is-parent}
 use Rattle.nesting.specs.Loops.{loop-back, loop-on}
 use Rattle.nesting.specs.Ahead.{one_parent, first-link}
 use Rattle.mending.specs.Mending.{lowest_of_loop}
-use Rattle.mending.specs.Cutting.{start-in, LowestOfLoop, lowest-so, one-a-loop}
+use Rattle.mending.specs.Cutting.{start-in, LowestOfLoop, one-a-loop}
+use Rattle.mending.proofs.Cutting.{lowest-so}
 use Rattle.loop_cuts.specs.Round.{LowestRound}
 
 abbrev pub stamp_of : List ℕ → ℕ → ℕ

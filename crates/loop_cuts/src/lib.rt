@@ -1,4 +1,6 @@
 // The loops of parents, found by one walk over the nodes: which nodes are the lowest of their loop.
+#![tactic(auto)]
+
 ghost use Rattle.std.specs.Prelude.{◌≡◌, ◌<◌};
 ghost use Rattle.records.specs.Image.{Whole};
 ghost use Rattle.nesting.specs.Nesting.{OnLoop};

@@ -5,10 +5,10 @@ use borrow.Author.Rules.{rules}
 use Rattle.loop_cuts.proofs.climb.Statement.{statement}
 use Rattle.loop_cuts.proofs.climb.Tie as tie
 
-abbrev invariant-loop : tie.invariant-loop
+abbrev invariant-loop : tie.invariant-loop-c
 invariant-loop image n k stamps₀ a stamp c₀ stamps c = Climb image n a c stamps₀ stamps
 
-abbrev decreases-loop : tie.decreases-loop
+abbrev decreases-loop : tie.decreases-loop-c
 decreases-loop image n k stamps₀ a stamp c₀ stamps c = tally n (blank stamps)
 
 pub climb_spec : {M : Type 1} → statement M

@@ -1,16 +1,17 @@
 -- `loop_cuts::lowest_round` meets its contract: each turn is one node nearer to the node met. Assumes nothing.
 use Rattle.nesting.specs.Ahead.{ahead}
 use Rattle.loop_cuts.specs.Round.{Round, loop-room, round-start, round-on, round-more, round-less, round-end}
-use mathlib.Core.Logic.{inl, inr, ⊎_elim}
+use mathlib.Core.Logic.{inl, inr}
 use native.Mathlib.Omega.{arith}
 use borrow.Author.Rules.{rules}
 use Rattle.loop_cuts.proofs.lowest_round.Statement.{statement}
 use Rattle.loop_cuts.proofs.lowest_round.Tie as tie
+use Rattle.loop_cuts.proofs.lowest_round.Lts.{then-c-low, else-c-low}
 
-abbrev invariant-loop : tie.invariant-loop
+abbrev invariant-loop : tie.invariant-loop-c
 invariant-loop image n k met low₀ c₀ low c = Round image met low c
 
-abbrev decreases-loop : tie.decreases-loop
+abbrev decreases-loop : tie.decreases-loop-c
 decreases-loop image n k met low₀ c₀ low c = ahead image met c
 
 pub lowest_round_spec : {M : Type 1} → statement M
@@ -23,8 +24,10 @@ lowest_round_spec =
     (λ c. search round-start)
     (λ c κs. search (loop-room, round-on)) (λ c. search rules)
     (λ c. search round-less)
-    (λ c. let r = c.before.before.before.loop.invariant in
-    let d = c.before.before.loop-test.true in
-    ⊎_elim (λ w. let a = w.0.taken in let q = w.1 in round-more _ _ r d c.parent-of2.ensures (omega arith) (omega arith) (inr q))
-    (λ w. let a = w.0.left in let q = w.1 in round-more _ _ r d c.parent-of2.ensures (omega arith) (omega arith) (inl q)) c.before.if1.branch)
+    (λ c. let r = c.before.before.before.loop-c.invariant in
+    let d = c.before.before.loop-c-test.true in
+    elim c.before.if-c-low.branch [
+      | then-c-low w ↦ round-more _ _ r d c.parent_of-c-in-loop-c.ensures (omega arith) (omega arith) (inr w.low-is)
+      | else-c-low w ↦ round-more _ _ r d c.parent_of-c-in-loop-c.ensures (omega arith) (omega arith) (inl w.low-is)
+    ])
     (λ c. search round-end))
