@@ -1,4 +1,6 @@
 // What mending writes: the groups that are left after the cuts, how many entries the list has, the list, and the chart.
+#![tactic(auto)]
+
 ghost use Rattle.std.specs.Prelude.{◌≡◌, not, ◌+◌, ◌*◌, ◌<◌, ◌≤◌, length};
 ghost use Rattle.paper.specs.Limits.{max_nodes, max_relations, chart_header, node_size, relation_size, change_size, mend_group};
 ghost use Rattle.general.specs.Below.{tally};

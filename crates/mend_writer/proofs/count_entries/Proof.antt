@@ -9,4 +9,4 @@ count_entries_spec =
     tie.close
     (tie.spec
     (λ c κs. search rules) (λ c. search rules) (λ c. search rules)
-    (λ c. entries-all _ _ _ _ _ c.before.before.requires.0.whole c.count-steps.ensures.0 c.count-steps.ensures.1 c.before.before.requires.1))
+    (λ c. entries-all _ _ _ _ _ c.before.before.requires.0.whole c.count_steps.ensures.0 c.count_steps.ensures.1 c.before.before.requires.1))

@@ -11,5 +11,5 @@ put_change_spec =
     (λ c κs. search rules) (λ c. search rules) (λ c κs. search rules) (λ c. search rules) (λ c κs. search rules) (λ c. search rules)
     (λ c κs. search rules) (λ c. search rules) (λ c κs. search rules) (λ c. search rules) (λ c. search rules)
     (λ c. let d = c.before.before.before.before.before.before.before.before.before.before in
-    change-wrote _ _ _ _ _ _ d.before.before.before.before.before.before.before.before.put16.ensures d.before.before.before.before.put162.ensures
-    d.put163.ensures c.before.before.before.before.before.before.put164.ensures c.before.before.put165.ensures))
+    change-wrote _ _ _ _ _ _ d.before.before.before.before.before.before.before.before.put16.ensures d.before.before.before.before.put16-2.ensures
+    d.put16-3.ensures c.before.before.before.before.before.before.put16-4.ensures c.before.before.put16-5.ensures))

@@ -8,10 +8,10 @@ use borrow.Author.Rules.{rules}
 use Rattle.mend_writer.proofs.put_steps.Statement.{statement}
 use Rattle.mend_writer.proofs.put_steps.Tie as tie
 
-abbrev invariant-loop : tie.invariant-loop
+abbrev invariant-loop : tie.invariant-loop-done
 invariant-loop list₀ image n k cut groups next₀ done₀ list next done = Runs (λ s. flat n (entry_part image (s + 1))) mend_group list₀ 0 done next list
 
-abbrev decreases-loop : tie.decreases-loop
+abbrev decreases-loop : tie.decreases-loop-done
 decreases-loop list₀ image n k cut groups next₀ done₀ list next done = mend_group - done
 
 pub put_steps_spec : {M : Type 1} → statement M
@@ -23,7 +23,7 @@ put_steps_spec =
     (λ c. search runs-start)
     (λ c. search rules)
     (λ c κs. let d = c.before.before.before.before.before.requires in
-    (d.0, runs-fits _ _ _ _ _ _ _ c.before.before.loop.invariant c.before.loop-test.true d.1))
+    (d.0, runs-fits _ _ _ _ _ _ _ c.before.before.loop-done.invariant c.before.loop-done-test.true d.1))
     (λ c. search rules) (λ c. search rules)
     (λ c. search runs-more)
     (λ c. search runs-length)

@@ -11,10 +11,10 @@ use borrow.Author.Rules.{rules}
 use Rattle.mend_writer.proofs.relations_left.Statement.{statement}
 use Rattle.mend_writer.proofs.relations_left.Tie as tie
 
-abbrev invariant-loop : tie.invariant-loop
+abbrev invariant-loop : tie.invariant-loop-i
 invariant-loop image n k left₀ i₀ left i = (i ≤ k) × (left ≡ tally i (λ j. not (bad_relation_at image j)))
 
-abbrev decreases-loop : tie.decreases-loop
+abbrev decreases-loop : tie.decreases-loop-i
 decreases-loop image n k left₀ i₀ left i = k - i
 
 pub relations_left_spec : {M : Type 1} → statement M
@@ -26,9 +26,9 @@ relations_left_spec =
     (λ c. (search rules, tally-none _))
     (λ c κs. search rules) (λ c. search rules)
     (λ c. record {
-      fits = let e = tally-le c.before.before.loop.i (λ j. not (bad_relation_at c.before.before.before.before.args.image.now j)) in
-          let b = byte_le (not c.bad-relation-at.result) in omega arith;
+      fits = let e = tally-le c.before.before.loop-i.i (λ j. not (bad_relation_at c.before.before.before.before.args.image.now j)) in
+          let b = byte_le (not c.bad_relation_at.result) in omega arith;
     })
     (λ c. search rules) (λ c. search rules)
-    (λ c. (search rules, left-more _ _ _ _ c.before.before.loop.invariant.1 c.bad-relation-at.ensures))
-    (λ c. left-all c.before.before.before.requires c.before.loop.invariant.0 c.loop-test.false c.before.loop.invariant.1))
+    (λ c. (search rules, left-more _ _ _ _ c.before.before.loop-i.invariant.1 c.bad_relation_at.ensures))
+    (λ c. left-all c.before.before.before.requires c.before.loop-i.invariant.0 c.loop-i-test.false c.before.loop-i.invariant.1))
