@@ -1,5 +1,7 @@
 // Flattening, one kind at a time: the events at or below each node, what the relations of a kind gather at each node, and the set that each event takes from its node
 // and the groups above it; and the roles that it takes from them.
+#![tactic(auto)]
+
 ghost use Rattle.std.specs.Prelude.{◌≡◌, ℕ, ◌+◌, ◌≤◌, ◌<◌, length, get_or, replicate};
 ghost use Rattle.paper.specs.Limits.{max_nodes, max_events, kinds, node_size};
 ghost use Rattle.sets.specs.Set.{only, union};
@@ -31,7 +33,7 @@ pub const EXCLUDE: usize = 4;
 pub const NODE_TABLE: usize = MAX_NODES * SET_WORDS;
 
 // How many nodes, relations, events and groups an image has.
-#[derive(Drop)]
+#[derive(Clone, Copy)]
 pub struct Size {
     pub n: usize,
     pub k: usize,

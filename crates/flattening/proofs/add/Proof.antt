@@ -10,10 +10,10 @@ add_spec =
     tie.close
     (tie.spec
     (λ c κs. search rules) (λ c. search rules)
-    (λ c. add-other _ _ _ _ _ _ c.before.kind-of.ensures c.if1.true)
+    (λ c. add-other _ _ _ _ _ _ c.before.kind_of.ensures c.if-kind_of-kind.true)
     (λ c κs. search rules) (λ c. search rules) (λ c κs. search rules) (λ c. search rules)
     (λ c κs. search rules) (λ c κs. search rules) (λ c κs. search rules) (λ c κs. search rules)
-    (λ c. add_back _ _ _ _ _ _ c.before.before.before.before.before.before.before.before.kind-of.ensures c.before.before.before.before.before.before.before.if1.false c.before.before.before.before.before.before.from-of.ensures c.before.before.before.before.before.to-of.ensures
-    c.before.before.before.before.if2.true (omega arith) c.before.row_in.ensures c.take_in.ensures)
-    (λ c. add-on _ _ _ _ _ _ c.before.before.before.before.before.before.before.before.kind-of.ensures c.before.before.before.before.before.before.before.if1.false c.before.before.before.before.before.before.from-of.ensures c.before.before.before.before.before.to-of.ensures
-    c.before.before.before.before.if2.false (omega arith) c.before.row-in2.ensures c.take-in2.ensures))
+    (λ c. add_back _ _ _ _ _ _ c.before.before.before.before.before.before.before.before.kind_of.ensures c.before.before.before.before.before.before.before.if-kind_of-kind.false c.before.before.before.before.before.before.from_of-from.ensures c.before.before.before.before.before.to_of-to.ensures
+    c.before.before.before.before.if-kind.true (omega arith) c.before.row_in.ensures c.take_in.ensures)
+    (λ c. add-on _ _ _ _ _ _ c.before.before.before.before.before.before.before.before.kind_of.ensures c.before.before.before.before.before.before.before.if-kind_of-kind.false c.before.before.before.before.before.before.from_of-from.ensures c.before.before.before.before.before.to_of-to.ensures
+    c.before.before.before.before.if-kind.false (omega arith) c.before.row_in-else-kind.ensures c.take_in-else-kind.ensures))

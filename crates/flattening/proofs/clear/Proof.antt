@@ -6,10 +6,10 @@ use borrow.Author.Rules.{rules}
 use Rattle.flattening.proofs.clear.Statement.{statement}
 use Rattle.flattening.proofs.clear.Tie as tie
 
-abbrev invariant-loop : tie.invariant-loop
+abbrev invariant-loop : tie.invariant-loop-i
 invariant-loop table₀ n none i₀ table i = Cleared (node_rows n table) i
 
-abbrev decreases-loop : tie.decreases-loop
+abbrev decreases-loop : tie.decreases-loop-i
 decreases-loop table₀ n none i₀ table i = n - i
 
 pub clear_spec : {M : Type 1} → statement M
@@ -21,5 +21,5 @@ clear_spec =
     (λ c κs. search rules)
     (λ c. clear_none _)
     (λ c κs. search rules) (λ c. search rules) (λ c. search rules)
-    (λ c. clear-more c.before.before.before.loop.table c.before.before.before.before.empty.result c.before.before.before.loop.invariant (omega arith) (omega arith) c.before.before.before.before.empty.ensures c.put-row.ensures)
+    (λ c. clear-more c.before.before.before.loop-i.table c.before.before.before.before.empty-none.result c.before.before.before.loop-i.invariant (omega arith) (omega arith) c.before.before.before.before.empty-none.ensures c.put_row.ensures)
     (λ c. search clear-end))

@@ -10,4 +10,4 @@ enter_spec =
     (tie.spec
     (λ c κs. search rules)
     (λ c κs. search rules) (λ c κs. search rules) (λ c. search rules) (λ c κs. search rules)
-    (λ c. enter-both _ (node_rows c.before.before.before.before.before.before.before.args.n c.before.before.before.before.before.before.before.args.all.now) _ _ _ _ _ c.before.before.before.before.before.one.ensures c.before.before.before.take_in.ensures c.before.parent-of.ensures c.hand.ensures))
+    (λ c. enter-both _ (node_rows c.before.before.before.before.before.before.before.args.n c.before.before.before.before.before.before.before.args.all.now) _ _ _ _ _ c.before.before.before.before.before.one-one.ensures c.before.before.before.take_in.ensures c.before.parent_of.ensures c.hand.ensures))

@@ -6,10 +6,10 @@ use borrow.Author.Rules.{rules}
 use Rattle.flattening.proofs.first_bad_relation.Statement.{statement}
 use Rattle.flattening.proofs.first_bad_relation.Tie as tie
 
-abbrev invariant-loop : tie.invariant-loop
+abbrev invariant-loop : tie.invariant-loop-r
 invariant-loop image n k r₀ r = Passed k (bad_relation_at image) r
 
-abbrev decreases-loop : tie.decreases-loop
+abbrev decreases-loop : tie.decreases-loop-r
 decreases-loop image n k r₀ r = k - r
 
 pub first_bad_relation_spec : {M : Type 1} → statement M

@@ -9,11 +9,11 @@ use borrow.Author.Rules.{rules}
 use Rattle.flattening.proofs.flatten.Statement.{statement}
 use Rattle.flattening.proofs.flatten.Tie as tie
 
-abbrev invariant-loop : tie.invariant-loop
+abbrev invariant-loop : tie.invariant-loop-e
 invariant-loop image n k gathered nodes events table₀ e₀ table e =
     (e ≤ events) × Flat (λ x f. with_parent image n (in_row (node_rows n gathered) f (get_or nodes x 0)) (node_rows n gathered) (parent_of image (get_or nodes x 0)) f) e (rows_of table)
 
-abbrev decreases-loop : tie.decreases-loop
+abbrev decreases-loop : tie.decreases-loop-e
 decreases-loop image n k gathered nodes events table₀ e₀ table e = events - e
 
 pub flatten_spec : {M : Type 1} → statement M
@@ -26,6 +26,6 @@ flatten_spec =
     (λ c. search rules) (λ c. search rules) (λ c κs. (c.before.before.before.before.before.requires.0.whole, (c.before.before.before.before.before.requires.0.placed _ (search rules)).1)) (λ c κs. omega (arith, c.before.before.before.before.before.before.requires.0.few)) (λ c. search rules) (λ c. search rules)
     (λ c. (
       search rules,
-      flat-put _ _ c.before.before.before.before.before.loop.invariant.1 (omega (arith, c.before.before.before.before.before.before.before.requires.0.few)) (omega arith) c.before.with-parent.ensures.each c.put-row.ensures,
+      flat-put _ _ c.before.before.before.before.before.loop-e.invariant.1 (omega (arith, c.before.before.before.before.before.before.before.requires.0.few)) (omega arith) c.before.with_parent.ensures.each c.put_row.ensures,
     ))
     (λ c. search flat-end))

@@ -9,10 +9,10 @@ use borrow.Author.Rules.{rules}
 use Rattle.flattening.proofs.put_group_roles.Statement.{statement}
 use Rattle.flattening.proofs.put_group_roles.Tie as tie
 
-abbrev invariant-loop : tie.invariant-loop
+abbrev invariant-loop : tie.invariant-loop-j
 invariant-loop image n k order groups all₀ j₀ all j = (j ≤ groups) × (length all ≡ max_nodes) × Handed image order (names_role image) j all
 
-abbrev decreases-loop : tie.decreases-loop
+abbrev decreases-loop : tie.decreases-loop-j
 decreases-loop image n k order groups all₀ j₀ all j = groups - j
 
 pub put_group_roles_spec : {M : Type 1} → statement M
@@ -23,13 +23,13 @@ put_group_roles_spec =
     decreases-loop
     (λ c. (search rules, c.before.requires.2, hand-none _))
     (λ c. search rules) (λ c. search rules)
-    (λ c. record { fits = omega (arith, c.before.before.before.before.requires.0.nodes, c.before.before.before.before.requires.0.few, c.before.before.before.before.requires.1.behind.fits c.before.before.loop.j (omega arith)) })
-    (λ c κs. (c.before.before.before.before.before.requires.0, omega (arith, c.before.before.before.before.before.requires.0.nodes, c.before.before.before.before.before.requires.0.few, c.before.before.before.before.before.requires.1.behind.fits c.before.before.before.loop.j (omega arith))))
-    (λ c. omega (arith, c.before.before.before.before.before.before.requires.0.nodes, c.before.before.before.before.before.before.requires.0.few, c.before.before.before.before.before.before.requires.1.behind.fits c.before.before.before.before.loop.j (omega arith)))
+    (λ c. record { fits = omega (arith, c.before.before.before.before.requires.0.nodes, c.before.before.before.before.requires.0.few, c.before.before.before.before.requires.1.behind.fits c.before.before.loop-j.j (omega arith)) })
+    (λ c κs. (c.before.before.before.before.before.requires.0, omega (arith, c.before.before.before.before.before.requires.0.nodes, c.before.before.before.before.before.requires.0.few, c.before.before.before.before.before.requires.1.behind.fits c.before.before.before.loop-j.j (omega arith))))
+    (λ c. omega (arith, c.before.before.before.before.before.before.requires.0.nodes, c.before.before.before.before.before.before.requires.0.few, c.before.before.before.before.before.before.requires.1.behind.fits c.before.before.before.before.loop-j.j (omega arith)))
     (λ c. search rules) (λ c. search rules)
     (λ c. (
       search rules,
-      simp length-set c.before.before.before.before.loop.invariant.1,
-      roles_more c.before.before.before.before.before.before.requires.0 c.before.before.before.before.loop.invariant.2 _ c.before.before.before.before.before.before.requires.1 (omega arith) c.before.before.before.before.loop.invariant.1 c.roles-with.ensures,
+      simp length-set c.before.before.before.before.loop-j.invariant.1,
+      roles_more c.before.before.before.before.before.before.requires.0 c.before.before.before.before.loop-j.invariant.2 _ c.before.before.before.before.before.before.requires.1 (omega arith) c.before.before.before.before.loop-j.invariant.1 c.roles_with-roles.ensures,
     ))
     (λ c. search hand_end))

@@ -10,11 +10,11 @@ use borrow.Author.Rules.{rules}
 use Rattle.flattening.proofs.put_roles.Statement.{statement}
 use Rattle.flattening.proofs.put_roles.Tie as tie
 
-abbrev invariant-loop : tie.invariant-loop
+abbrev invariant-loop : tie.invariant-loop-e
 invariant-loop image size nodes order roles₀ all e₀ e-end roles e =
     (e ≤ size.events) × Flat (λ x f. with_parent image size.n (names_role image f (get_or nodes x 0)) all (parent_of image (get_or nodes x 0)) f) e roles
 
-abbrev decreases-loop : tie.decreases-loop
+abbrev decreases-loop : tie.decreases-loop-e
 decreases-loop image size nodes order roles₀ all e₀ e-end roles e = size.events - e
 
 pub put_roles_spec : {M : Type 1} → statement M
@@ -28,5 +28,5 @@ put_roles_spec =
     (λ c. search rules) (λ c. search rules)
     (λ c κs. (c.before.before.before.before.before.before.before.requires.0.whole, (c.before.before.before.before.before.before.before.requires.0.placed _ (search rules)).1))
     (λ c. search rules) (λ c. search rules) (λ c. search rules)
-    (λ c. (search rules, flat-more _ c.before.before.before.before.loop.invariant.1 (omega (arith, c.before.before.before.before.before.before.before.before.requires.0.few)) c.roles-with.ensures.each))
-    (λ c. roles-of c.before.before.before.before.before.requires.0 c.before.before.before.before.before.requires.1 c.before.before.put-group-roles.ensures (flat-end c.before.loop.invariant.0 (search rules) c.before.loop.invariant.1)))
+    (λ c. (search rules, flat-more _ c.before.before.before.before.loop-e.invariant.1 (omega (arith, c.before.before.before.before.before.before.before.before.requires.0.few)) c.roles_with.ensures.each))
+    (λ c. roles-of c.before.before.before.before.before.requires.0 c.before.before.before.before.before.requires.1 c.before.before.put_group_roles.ensures (flat-end c.before.loop-e.invariant.0 (search rules) c.before.loop-e.invariant.1)))

@@ -11,4 +11,4 @@ put_table_spec =
     (λ c κs. search rules)
     (λ c κs. search rules)
     (λ c κs. search rules)
-    (λ c. table_of c.before.before.before.before.before.before.before.before.requires.0 c.before.before.before.before.before.before.before.before.requires.2 c.before.before.before.before.before.gather.ensures c.before.before.before.before.before.before.before.before.requires.1 c.before.before.before.hand-down.ensures.0 c.before.before.before.hand-down.ensures.1 c.flatten.ensures))
+    (λ c. table_of c.requires.0 c.requires.2 c.gather.ensures c.requires.1 c.hand_down.ensures.0 c.hand_down.ensures.1 c.flatten.ensures))

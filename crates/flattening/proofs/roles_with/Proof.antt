@@ -10,5 +10,5 @@ roles_with_spec =
     tie.close
     (tie.spec
     (λ c κs. omega arith) (λ c κs. search rules) (λ c. search rules) (λ c. search rules) (λ c κs. search rules)
-    (λ c. roles-some _ c.before.before.before.before.before.before.args.all.now _ c.before.before.before.parent-of.ensures c.before.before.before.before.roles-of.ensures c.before.before.if1.true c.add-roles.ensures)
-    (λ c. roles-none _ c.before.before.before.before.args.all.now _ c.before.parent-of.ensures c.before.before.roles-of.ensures c.if1.false))
+    (λ c. roles-some _ c.before.before.before.before.before.before.args.all.now _ c.before.before.before.parent_of-p.ensures c.before.before.before.before.roles_of-own.ensures c.before.before.if-p-n.true c.add_roles.ensures)
+    (λ c. roles-none _ c.before.before.before.before.args.all.now _ c.before.parent_of-p.ensures c.before.before.roles_of-own.ensures c.if-p-n.false))

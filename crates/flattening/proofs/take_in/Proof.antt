@@ -12,4 +12,4 @@ take_in_spec =
     (λ c κs. search rules)
     (λ c κs. search rules)
     (λ c κs. search rules)
-    (λ c. rows_join _ _ _ _ _ _ _ (omega arith) (omega arith) c.before.before.before.row_in.ensures c.before.before.join.ensures c.put-row.ensures))
+    (λ c. rows_join _ _ _ _ _ _ _ (omega arith) (omega arith) c.before.before.before.row_in.ensures c.before.before.join-all.ensures c.put_row.ensures))

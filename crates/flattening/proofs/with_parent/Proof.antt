@@ -9,5 +9,5 @@ with_parent_spec =
     tie.close
     (tie.spec
     (λ c κs. search rules) (λ c κs. search rules) (λ c. search rules) (λ c κs. search rules) (λ c κs. search rules)
-    (λ c. with-some _ _ c.before.before.before.before.before.before.before.before.requires.1 c.before.before.before.before.parent-of.ensures c.before.before.before.before.before.row_in.ensures c.before.before.before.if1.true c.before.row-in2.ensures c.join.ensures)
-    (λ c. with_none _ _ c.before.before.before.before.before.requires.1 c.before.parent-of.ensures c.before.before.row_in.ensures c.if1.false))
+    (λ c. with-some _ _ c.before.before.before.before.before.before.before.before.requires.1 c.before.before.before.before.parent_of-p.ensures c.before.before.before.before.before.row_in-own.ensures c.before.before.before.if-p-n.true c.before.row_in.ensures c.join.ensures)
+    (λ c. with_none _ _ c.before.before.before.before.before.requires.1 c.before.parent_of-p.ensures c.before.before.row_in-own.ensures c.if-p-n.false))

@@ -6,10 +6,10 @@ use borrow.Author.Rules.{rules}
 use Rattle.flattening.proofs.order.append.Statement.{statement}
 use Rattle.flattening.proofs.order.append.Tie as tie
 
-abbrev invariant-loop : tie.invariant-loop
+abbrev invariant-loop : tie.invariant-loop-j
 invariant-loop order₀ m path count j₀ order j = (j ≤ count) × Appended order₀ path m count j order
 
-abbrev decreases-loop : tie.decreases-loop
+abbrev decreases-loop : tie.decreases-loop-j
 decreases-loop order₀ m path count j₀ order j = count - j
 
 pub append_spec : {M : Type 1} → statement M
@@ -20,5 +20,5 @@ append_spec =
     decreases-loop
     (λ c. (search rules, search append-none))
     (λ c. search rules) (λ c. search rules) (λ c. search rules) (λ c. search rules) (λ c. search rules) (λ c. search rules) (λ c. search rules) (λ c. search rules) (λ c. search rules)
-    (λ c. (search rules, append-more c.before.before.loop.invariant.1 (omega arith) c.before.before.before.requires.1))
+    (λ c. (search rules, append-more c.loop-j.invariant.1 (omega arith) c.requires.1))
     (λ c. search append-end))
