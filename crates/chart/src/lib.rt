@@ -1,4 +1,6 @@
 // Reading a chart image: the flat chart and the start marking, or a refusal.
+#![tactic(auto)]
+
 ghost use Rattle.std.specs.Prelude.{◌≡◌, replicate};
 ghost use Rattle.paper.specs.Limits.{max_events};
 ghost use Rattle.wide.specs.Number.{rows_of};
@@ -21,7 +23,7 @@ use paper::{
 use wide::TABLE;
 
 #[repr(C)]
-#[derive(Drop)]
+#[derive(Clone, Copy)]
 pub struct Reading {
     pub answer: Answer,
     pub chart: FlatChart,
@@ -136,7 +138,7 @@ fn start_marking(
 }
 
 // What a reading has beside its answer and its tables.
-#[derive(Drop)]
+#[derive(Clone, Copy)]
 struct Start {
     count: u32,
     marking: Marking,

@@ -9,16 +9,16 @@ judge_spec =
     tie.close
     (tie.spec
     (λ c κs. search rules)
-    (λ c. read_short _ c.refused.ensures c.before.if1.true)
+    (λ c. read_short _ c.refused.ensures c.before.if-image-lt-CHART_HEADER.true)
     (λ c κs. search rules) (λ c κs. search rules) (λ c κs. search rules) (λ c κs. search rules)
-    (λ c. read-range _ c.before.before.before.before.before.if1.false c.before.before.out_of_range.ensures c.refused2.ensures c.before.if2.true)
-    (λ c κs. let h = counts-are c.before.before.before.node-count.ensures c.before.before.relation-count.ensures c.before.out_of_range.ensures c.if2.false in
+    (λ c. read-range _ c.before.before.before.before.before.if-image-lt-CHART_HEADER.false c.before.before.out_of_range.ensures c.refused-then-out_of_range.ensures c.before.if-out_of_range.true)
+    (λ c κs. let h = counts-are c.before.before.before.node_count-n.ensures c.before.before.relation_count-k.ensures c.before.out_of_range.ensures c.if-out_of_range.false in
     (search rules, search rules, search rules, h.few, h.few_relations))
     (λ c κs. search rules)
-    (λ c. read-misplaced _ c.before.before.before.before.before.before.before.if1.false c.before.before.before.before.out_of_range.ensures
-    c.before.before.before.if2.false c.before.before.misplaced.ensures c.refused3.ensures c.before.if3.true)
+    (λ c. read-misplaced _ c.before.before.before.before.before.before.before.if-image-lt-CHART_HEADER.false c.before.before.before.before.out_of_range.ensures
+    c.before.before.before.if-out_of_range.false c.before.before.misplaced.ensures c.refused-then-misplaced.ensures c.before.if-misplaced.true)
     (λ c κs. whole_is
-    (counts-are c.before.before.before.before.before.node-count.ensures c.before.before.before.before.relation-count.ensures
-    c.before.before.before.out_of_range.ensures c.before.before.if2.false) c.before.misplaced.ensures c.if3.false)
-    (λ c. read-on _ c.before.before.before.before.before.before.before.if1.false c.before.before.before.before.out_of_range.ensures
-    c.before.before.before.if2.false c.before.before.misplaced.ensures c.before.if3.false c.judge-nodes.ensures))
+    (counts-are c.before.before.before.before.before.node_count-n.ensures c.before.before.before.before.relation_count-k.ensures
+    c.before.before.before.out_of_range.ensures c.before.before.if-out_of_range.false) c.before.misplaced.ensures c.if-misplaced.false)
+    (λ c. read-on _ c.before.before.before.before.before.before.before.if-image-lt-CHART_HEADER.false c.before.before.before.before.out_of_range.ensures
+    c.before.before.before.if-out_of_range.false c.before.before.misplaced.ensures c.before.if-misplaced.false c.judge_nodes.ensures))

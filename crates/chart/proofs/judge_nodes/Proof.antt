@@ -12,36 +12,36 @@ judge_nodes_spec =
     tie.close
     (tie.spec
     (λ c κs. search rules) (λ c. search rules) (λ c κs. search rules)
-    (λ c. nodes-bad c.before.before.before.before.requires c.before.before.first-bad-node.ensures c.refused.ensures c.before.if1.true)
+    (λ c. nodes-bad c.before.before.before.before.requires c.before.before.first_bad_node-bad.ensures c.refused.ensures c.before.if-bad-n.true)
     (λ c κs. search rules) (λ c. search rules) (λ c κs. search rules)
-    (λ c. nodes-loop c.before.before.before.before.before.before.requires c.before.before.before.before.first-bad-node.ensures c.before.before.before.if1.false
-    c.before.before.lowest-on-loop.ensures c.refused2.ensures c.before.if2.true)
+    (λ c. nodes-loop c.before.before.before.before.before.before.requires c.before.before.before.before.first_bad_node-bad.ensures c.before.before.before.if-bad-n.false
+    c.before.before.lowest_on_loop-looped.ensures c.refused-then-looped-n.ensures c.before.if-looped-n.true)
     (λ c κs. search rules) (λ c κs. search rules) (λ c. search rules) (λ c κs. search rules)
     (λ c. nodes-flags c.before.before.before.before.before.before.before.before.before.before.requires
-    c.before.before.before.before.before.before.before.before.first-bad-node.ensures c.before.before.before.before.before.before.before.if1.false
-    c.before.before.before.before.before.before.lowest-on-loop.ensures c.before.before.before.before.before.if2.false
-    c.before.before.before.before.groups_of.ensures c.before.before.first-flagged-group.ensures c.refused3.ensures c.before.if3.true)
+    c.before.before.before.before.before.before.before.before.first_bad_node-bad.ensures c.before.before.before.before.before.before.before.if-bad-n.false
+    c.before.before.before.before.before.before.lowest_on_loop-looped.ensures c.before.before.before.before.before.if-looped-n.false
+    c.before.before.before.before.groups_of-groups.ensures c.before.before.first_flagged_group-flags.ensures c.refused-then-flags-n.ensures c.before.if-flags-n.true)
     (λ c κs. search rules)
     (λ c. record {
       fits = omega (
         arith,
         tally-le c.before.before.before.before.before.before.before.before.before.before.before.before.args.n
-            (is_event_in c.before.before.before.before.before.before.groups_of.result),
+            (is_event_in c.before.before.before.before.before.before.groups_of-groups.result),
       );
     })
     (λ c κs. search rules)
     (λ c. nodes-many c.before.before.before.before.before.before.before.before.before.before.before.before.before.requires
-    c.before.before.before.before.before.before.before.before.before.before.before.first-bad-node.ensures
-    c.before.before.before.before.before.before.before.before.before.before.if1.false
-    c.before.before.before.before.before.before.before.before.before.lowest-on-loop.ensures
-    c.before.before.before.before.before.before.before.before.if2.false c.before.before.before.before.before.before.before.groups_of.ensures
-    c.before.before.before.before.before.first-flagged-group.ensures c.before.before.before.before.if3.false c.before.before.count-events.ensures
-    c.refused4.ensures c.before.if4.true)
+    c.before.before.before.before.before.before.before.before.before.before.before.first_bad_node-bad.ensures
+    c.before.before.before.before.before.before.before.before.before.before.if-bad-n.false
+    c.before.before.before.before.before.before.before.before.before.lowest_on_loop-looped.ensures
+    c.before.before.before.before.before.before.before.before.if-looped-n.false c.before.before.before.before.before.before.before.groups_of-groups.ensures
+    c.before.before.before.before.before.first_flagged_group-flags.ensures c.before.before.before.before.if-flags-n.false c.before.before.count_events-events.ensures
+    c.refused-then-events-gt-MAX_EVENTS.ensures c.before.if-events-gt-MAX_EVENTS.true)
     (λ c κs. search rules)
     (λ c. nodes-on c.before.before.before.before.before.before.before.before.before.before.before.before.before.requires
-    c.before.before.before.before.before.before.before.before.before.before.before.first-bad-node.ensures
-    c.before.before.before.before.before.before.before.before.before.before.if1.false
-    c.before.before.before.before.before.before.before.before.before.lowest-on-loop.ensures
-    c.before.before.before.before.before.before.before.before.if2.false c.before.before.before.before.before.before.before.groups_of.ensures
-    c.before.before.before.before.before.first-flagged-group.ensures c.before.before.before.before.if3.false
-    c.before.before.count-events.ensures c.before.if4.false c.judge-relations.ensures))
+    c.before.before.before.before.before.before.before.before.before.before.before.first_bad_node-bad.ensures
+    c.before.before.before.before.before.before.before.before.before.before.if-bad-n.false
+    c.before.before.before.before.before.before.before.before.before.lowest_on_loop-looped.ensures
+    c.before.before.before.before.before.before.before.before.if-looped-n.false c.before.before.before.before.before.before.before.groups_of-groups.ensures
+    c.before.before.before.before.before.first_flagged_group-flags.ensures c.before.before.before.before.if-flags-n.false
+    c.before.before.count_events-events.ensures c.before.if-events-gt-MAX_EVENTS.false c.judge_relations.ensures))

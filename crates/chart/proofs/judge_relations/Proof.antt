@@ -9,6 +9,6 @@ judge_relations_spec =
     tie.close
     (tie.spec
     (λ c κs. search rules) (λ c. search rules) (λ c κs. search rules)
-    (λ c. relations-bad c.before.before.before.before.requires c.before.before.first-bad-relation.ensures c.refused.ensures c.before.if1.true)
+    (λ c. relations-bad c.before.before.before.before.requires c.before.before.first_bad_relation-bad.ensures c.refused.ensures c.before.if-bad-k.true)
     (λ c κs. search rules)
-    (λ c. relations-on c.before.before.before.before.requires c.before.before.first-bad-relation.ensures c.granted.ensures c.before.if1.false))
+    (λ c. relations-on c.before.before.before.before.requires c.before.before.first_bad_relation-bad.ensures c.granted.ensures c.before.if-bad-k.false))

@@ -12,5 +12,5 @@ read_spec =
     tie.close
     (tie.spec
     (λ c κs. search rules)
-    (λ c κs. (ap (λ (a : Answer). a.code) c.before.before.before.before.before.before.judge.ensures, rows_none, rows_none, rows_none, rows_none, rows_none, refl))
-    (λ c. reading-is _ c.before.before.before.before.before.before.before.before.judge.ensures c.before.put-chart.ensures.0 c.before.put-chart.ensures.1))
+    (λ c κs. (ap (λ (a : Answer). a.code) c.before.before.before.before.before.before.judge-answer.ensures, rows_none, rows_none, rows_none, rows_none, rows_none, refl))
+    (λ c. reading-is _ c.before.before.before.before.before.before.before.before.judge-answer.ensures c.before.put_chart-start.ensures.0 c.before.put_chart-start.ensures.1))

@@ -11,4 +11,4 @@ start_marking_spec =
     (λ c κs. (c.before.requires.few, flags-in c.before.requires)) (λ c κs. (c.before.before.requires.few, flags-in c.before.before.requires))
     (λ c κs. (c.before.before.before.requires.few, flags-in c.before.before.before.requires))
     (λ c. let g = c.before.before.before.before.requires in
-    unfold start_marking in rw (flagged-is g 0 _ c.before.before.flagged.ensures, flagged-is g 1 _ c.before.flagged2.ensures, flagged-is g 2 _ c.flagged3.ensures)))
+    unfold start_marking in rw (flagged-is g 0 _ c.before.before.flagged.ensures, flagged-is g 1 _ c.before.flagged-2.ensures, flagged-is g 2 _ c.flagged-3.ensures)))
