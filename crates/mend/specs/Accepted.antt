@@ -1,5 +1,5 @@
 -- The reader accepts exactly the images of sound records, within its limits: so it accepts what mending writes, and mending leaves what it accepts. Assumes nothing.
-use Rattle.std.specs.Prelude.{ℕ, ◌%◌, ◌≤◌, ◌<◌, ◌≡◌, refl, Bool, true, false, List, [], ◌++◌, eqb, leb, ltb, drop}
+use Rattle.std.specs.Prelude.{ℕ, ◌%◌, ◌≤◌, ◌<◌, ◌≡◌, refl, Bool, true, false, List, [], eqb, leb, ltb}
 use Rattle.std.proofs.Math.Path.{sym, ap}
 use Rattle.std.proofs.Common.{subst, ◌∙◌, inl, inr}
 use Rattle.std.proofs.Math.Bool.{not}
@@ -9,10 +9,9 @@ use borrow.Author.Tests.{ltb-true, ltb-false, le-leb, leb-true, ne_eqb, eqb-true
 use Rattle.paper.specs.Limits.{max_nodes, max_relations, max_events, no_parent, max_flags, flags_byte}
 use Rattle.general.specs.Cases.{contra, cases, both, not_so}
 use Rattle.paper.specs.Answers.{granted}
-use Rattle.paper.specs.declared.Answer.{Answer}
 use Rattle.general.specs.Below.{tally-le}
 use Rattle.general.specs.Tables.{length-tabulate}
-use Rattle.general.specs.Lists.{All, packed}
+use Rattle.general.specs.Lists.{All}
 use Rattle.records.specs.Image.{nodes, relations, node_at, relation_at, parent_of, flags_of, state_of, from_of, to_of, kind_of, bad_relation_at}
 use Rattle.nesting.specs.Nesting.{OnLoop, on_loop_at, is_group, event_count, nested-so}
 use Rattle.chart.specs.Conditions.{Never, BadNode, FlaggedGroup, BadRelation, group-so, relation-bad, laid-right}
@@ -20,15 +19,17 @@ use Rattle.chart.specs.Reading.{reading}
 use Rattle.chart.specs.ReadingGives.{granted-right}
 use Rattle.chart.specs.Outcome.{HeaderRight, NodesRight, AllRight, fine, judged}
 use Rattle.mending.specs.Records.{Relation, Records, node_from, count, relation_count, node_in, relation_in, relation_from, records_of, chart_image}
-use Rattle.mending.specs.Mending.{missing, state_flags, known_flags, bad_number, step5, groups_mended, mended, changes, change_bytes}
+use Rattle.mending.specs.Mending.{missing, state_flags, known_flags, bad_number, step5, groups_mended, mended, changes}
 use Rattle.mending.specs.Images.{image-nodes, image-relations, image-offset, image-offset-2, image-length, image-parent, image-flags, image-relation}
 use Rattle.mending.specs.Images.{records-back, image-back, Byte}
 use Rattle.mending.specs.Cutting.{start-in}
 use Rattle.mending.specs.Altering.{counted4, relations-stay, kept-count}
-use Rattle.mending.specs.Sound.{Sound, sound-kept, sound-unlisted, mended-sound, mended-twice, mended-unlisted}
-use Rattle.mending.specs.Undoing.{undo, undone-all}
-use Rattle.mend.specs.Calling.{mended_image, changes_of, list_bytes, mend_answer, mending, mended_room, changes_room}
-use Rattle.mend.specs.Table.{Mendable, is_mended, mends-only, mend-written}
+use Rattle.mending.specs.Sound.{Sound, sound-kept, sound-unlisted}
+use Rattle.mending.proofs.Sound.{mended-sound, mended-twice, mended-unlisted}
+use Rattle.mending.specs.Undoing.{undo}
+use Rattle.mending.proofs.Undoing.{undone-all}
+use Rattle.mend.specs.Calling.{mended_image, changes_of}
+use Rattle.mend.specs.Table.{Mendable}
 
 never_both : {b : Bool} → b ≡ true → b ≡ false → ⊥
 never_both p q = contra p q
@@ -229,42 +230,3 @@ module _ (s : List ℕ) where
   -- the list undone
   pub undone-image : All Byte s → HeaderRight s → chart_image (undo (changes_of s) (mended (records_of s))) ≡ s
   undone-image b h = ap chart_image (undone-all (records_of s)) ∙ image-back s b ((laid-right s).1 h.laid)
-
--- ---- the call on an accepted chart, and on what it wrote
-
-accepted-mendable : (s : List ℕ) → All Byte s → (reading s).answer.code ≡ 0 → Mendable s
-accepted-mendable s b a =
-    let n = (granted-right s a).0.nodes_right in
-    record { header = n.header; few = rw (accepted-kept s b a) n.few }
-
--- what is sound needs no room for a list
-no-list : (s : List ℕ) → changes_of s ≡ [] → list_bytes s ≡ []
-unfolding packed
-no-list s e = ap (packed change_bytes) e
-
-module _ (s chart list : List ℕ) where
-  -- a chart that mending leaves as it is, and a room as long
-  kept-call : Mendable s → mended_image s ≡ s → changes_of s ≡ [] → length s ≤ length chart
-      → (mending s (length chart) (length list) ≡ record { answer = granted; entries = 0 })
-      × (mended_room s chart list ≡ s ++ drop (length s) chart) × (changes_room s chart list ≡ list)
-  unfolding mending
-  kept-call m e n h =
-      let z : mend_answer s (length chart) (length list) ≡ granted =
-      sym (mends-only s (length chart) (length list) (is_mended m (rw e h) (rw (no-list s n) (omega arith)))) in
-      let w = mend-written s chart list (ap (λ (a : Answer). a.code) z) in
-      (rw (z, n), w.chart_room ∙ rw e, w.list_room ∙ rw (no-list s n))
-
-  -- "An accepted chart comes out with the same bytes and an empty list"
-  pub accepted-call : All Byte s → (reading s).answer.code ≡ 0 → length s ≤ length chart
-      → (mending s (length chart) (length list) ≡ record { answer = granted; entries = 0 })
-      × (mended_room s chart list ≡ s ++ drop (length s) chart) × (changes_room s chart list ≡ list)
-  accepted-call b a = kept-call (accepted-mendable s b a) (accepted-kept s b a) (accepted-unlisted s b a)
-
--- "mending the result changes nothing"
-pub again-call : (s chart list : List ℕ) → Mendable s → length (mended_image s) ≤ length chart
-    → (mending (mended_image s) (length chart) (length list) ≡ record { answer = granted; entries = 0 })
-    × (mended_room (mended_image s) chart list ≡ mended_image s ++ drop (length (mended_image s)) chart) × (changes_room (mended_image s) chart list ≡ list)
-again-call s chart list m h =
-    let f : nodes s ≤ max_nodes = m.header.range.few in
-    kept-call (mended_image s) chart list (record { header = (mended-right s m).nodes_right.header; few = rw (twice-kept s f) m.few })
-    (twice-kept s f) (twice-unlisted s f) h

@@ -1,4 +1,6 @@
 // Request (xiii): a damaged chart is mended, and each change told.
+#![tactic(auto)]
+
 ghost use Rattle.std.specs.Prelude.{◌≡◌, length};
 ghost use Rattle.paper.specs.Answers.{answer};
 ghost use Rattle.records.specs.Image.{Whole};
@@ -14,7 +16,7 @@ use paper::{
 
 // The number of entries is 0 where the call is refused.
 #[repr(C)]
-#[derive(Drop)]
+#[derive(Clone, Copy)]
 pub struct Mended {
     pub answer: Answer,
     pub entries: u32,

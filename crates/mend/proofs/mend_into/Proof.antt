@@ -1,5 +1,6 @@
 -- `mend::mend_into` meets its contract. Assumes nothing.
-use Rattle.mend.specs.Returns.{mend-narrow, chart-fits, list-fits, mend-done}
+use Rattle.mend.specs.Returns.{chart-fits, list-fits}
+use Rattle.mend.proofs.Returns.{mend-narrow, mend-done}
 use borrow.Author.Rules.{rules}
 use Rattle.mend.proofs.mend_into.Statement.{statement}
 use Rattle.mend.proofs.mend_into.Tie as tie
@@ -12,15 +13,15 @@ mend_into_spec =
     (λ c. search rules) (λ c. search rules) (λ c κs. search rules)
     (λ c. let a = c.before.before in
     let s = a.before.before.before.before.before in
-    mend-narrow _ _ _ _ _ s.requires.0.whole a.before.relations-left.ensures.0 a.count_entries.ensures.0 s.args.chart.now s.args.list.now s.requires.1 c.before.if1.true c.refuse.ensures)
+    mend-narrow _ _ _ _ _ s.requires.0.whole a.before.relations_left-left.ensures.0 a.count_entries-entries.ensures.0 s.args.chart.now s.args.list.now s.requires.1 c.before.if-chart-chart_need.true c.refuse.ensures)
     (λ c κs. let a = c.before.before in
     let s = a.before.before.before.before.before in
-    (s.requires.0, a.before.relations-left.ensures.0, a.before.relations-left.ensures.1, chart-fits _ _ _ _ _ s.requires.0.whole a.before.relations-left.ensures.0 a.count_entries.ensures.0 s.args.chart.now s.args.list.now s.requires.1 c.before.if1.false))
+    (s.requires.0, a.before.relations_left-left.ensures.0, a.before.relations_left-left.ensures.1, chart-fits _ _ _ _ _ s.requires.0.whole a.before.relations_left-left.ensures.0 a.count_entries-entries.ensures.0 s.args.chart.now s.args.list.now s.requires.1 c.before.if-chart-chart_need.false))
     (λ c κs. let a = c.before.before.before.before.before.before in
     let s = a.before.before.before.before.before in
-    (s.requires.0, list-fits _ _ _ _ _ s.requires.0.whole a.before.relations-left.ensures.0 a.count_entries.ensures.0 s.args.chart.now s.args.list.now s.requires.1 c.before.before.before.before.before.if1.false))
+    (s.requires.0, list-fits _ _ _ _ _ s.requires.0.whole a.before.relations_left-left.ensures.0 a.count_entries-entries.ensures.0 s.args.chart.now s.args.list.now s.requires.1 c.before.before.before.before.before.if-chart-chart_need.false))
     (λ c κs. search rules) (λ c. search rules) (λ c. search rules) (λ c. search rules)
     (λ c. let a = c.before.before.before.before.before.before.before.before.before.before in
     let s = a.before.before.before.before.before in
-    mend-done _ _ _ _ _ s.requires.0.whole a.before.relations-left.ensures.0 a.count_entries.ensures.0 s.args.chart.now s.args.list.now s.requires.1 c.before.before.before.before.before.before.before.before.before.if1.false
-    _ _ _ _ _ c.before.before.before.before.before.before.before.put-chart.ensures c.before.before.before.put-list.ensures c.granted.ensures))
+    mend-done _ _ _ _ _ s.requires.0.whole a.before.relations_left-left.ensures.0 a.count_entries-entries.ensures.0 s.args.chart.now s.args.list.now s.requires.1 c.before.before.before.before.before.before.before.before.before.if-chart-chart_need.false
+    _ _ _ _ _ c.before.before.before.before.before.before.before.put_chart.ensures c.before.before.before.put_list.ensures c.granted.ensures))

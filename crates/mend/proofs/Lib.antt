@@ -1,0 +1,4 @@
+-- The root of the crate's proofs.
+pub mod Accepted
+pub mod Returns
+pub mod Table
