@@ -1,4 +1,6 @@
 // Request (vii): how far a record of steps is allowed, and whether it is allowed without one of them.
+#![tactic(auto)]
+
 ghost use Rattle.std.specs.Prelude.{◌≡◌, true, ◌≤◌, ◌<◌, ◌*◌, ◌/◌, length, get_or, eqb};
 ghost use Rattle.paper.specs.Limits.{max_events};
 ghost use Rattle.sets.specs.Set.{inter};
@@ -21,7 +23,7 @@ use wide::{Set, TABLE};
 // What a replay gives: how many steps of the record are allowed, the code of the next one, 0 where there is none, the marking there, and all that
 // blocks that step.
 #[repr(C)]
-#[derive(Drop)]
+#[derive(Clone, Copy)]
 pub struct Replayed {
     pub answer: Answer,
     pub code: u32,
@@ -34,7 +36,7 @@ pub struct Replayed {
 
 // What a strike gives: the marking of the record without the step, or the start marking beside the refusal and all that blocks the step that fails.
 #[repr(C)]
-#[derive(Drop)]
+#[derive(Clone, Copy)]
 pub struct Struck {
     pub answer: Answer,
     pub marking: Marking,
@@ -43,7 +45,7 @@ pub struct Struck {
 }
 
 // The position at which a walk over the record stopped, and what the step there gave. At the end there is none: code 0 and the marking reached.
-#[derive(Drop)]
+#[derive(Clone, Copy)]
 struct Walked {
     at: usize,
     stop: Step,

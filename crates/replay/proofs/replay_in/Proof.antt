@@ -1,5 +1,7 @@
 -- `replay::replay_in` meets its contract. Assumes nothing.
 use Rattle.replay.proofs.Calls.{fit-known, replay-unfit, replay-told}
+use Rattle.std.specs.Prelude.{not}
+use Rattle.std.proofs.Common.{ap}
 use borrow.Author.Rules.{rules}
 use native.Mathlib.Omega.{arith}
 use Rattle.replay.proofs.replay_in.Statement.{statement}
@@ -11,6 +13,6 @@ replay_in_spec =
     (tie.spec
     (λ c κs. search rules) (λ c κs. search rules) (λ c κs. search rules) (λ c κs. search rules)
     (λ c. search replay-unfit)
-    (λ c κs. (fit-known _ _ _ c.before.fits2.ensures c.if1.false, omega arith, omega arith))
+    (λ c κs. (fit-known _ _ _ c.before.fits.ensures (ap not c.if-not-fits.false), omega arith, omega arith))
     (λ c κs. search rules) (λ c κs. search rules)
-    (λ c. replay-told _ _ _ _ _ _ _ c.before.before.before.before.before.before.before.before.fits2.ensures c.before.before.before.before.before.before.before.if1.false c.before.before.before.before.before.before.walk.ensures c.before.granted.ensures c.is-finished.ensures))
+    (λ c. replay-told _ _ _ _ _ _ _ c.before.before.before.before.before.before.before.before.fits.ensures (ap not c.if-not-fits.false) c.before.before.before.before.before.before.walk-walked.ensures c.before.granted.ensures c.is_finished.ensures))

@@ -10,7 +10,7 @@ step_in_spec =
     tie.close
     (tie.spec
     (λ c κs. search rules) (λ c κs. search rules) (λ c κs. search rules)
-    (λ c. known-gone _ _ _ _ c.before.before.before.before.requires _ _ _ (omega arith) c.before.before.refused.ensures c.before.empty.ensures c.empty2.ensures)
+    (λ c. known-gone _ _ _ _ c.before.before.before.before.requires _ _ _ (omega arith) c.before.before.refused.ensures c.before.empty.ensures c.empty-then-count-event.ensures)
     (λ c κs. known-index _ _ _ c.before.args.role c.before.requires (omega arith))
     (λ c κs. known-index _ _ _ c.before.before.args.role c.before.before.requires (omega arith))
     (λ c. search known-taken))

@@ -4,16 +4,18 @@ use Rattle.wide.specs.Number.{rows_of}
 use Rattle.flat_chart.specs.Chart.{chart_of}
 use Rattle.graph.specs.Numbers.{marks_of}
 use Rattle.replay.proofs.Walks.{Going, going_start, going_end, turn-index, turn_more, turn-stop}
+use Rattle.std.specs.Prelude.{not}
+use Rattle.std.proofs.Common.{ap}
 use borrow.Author.Rules.{rules}
 use native.Mathlib.Omega.{arith}
 use Rattle.replay.proofs.walk.Statement.{statement}
 use Rattle.replay.proofs.walk.Tie as tie
 
-abbrev invariant-loop : tie.invariant-loop
+abbrev invariant-loop : tie.invariant-loop-at
 invariant-loop count conditions responses milestones includes excludes roles recorded from end reached₀ at₀ reached at =
     Going (chart_of count (rows_of conditions) (rows_of responses) (rows_of milestones) (rows_of includes) (rows_of excludes) roles) recorded (marks_of reached₀) from end (marks_of reached) at
 
-abbrev decreases-loop : tie.decreases-loop
+abbrev decreases-loop : tie.decreases-loop-at
 decreases-loop count conditions responses milestones includes excludes roles recorded from end reached₀ at₀ reached at = end - at
 
 pub walk_spec : {M : Type 1} → statement M
@@ -26,9 +28,9 @@ walk_spec =
     (λ c. search rules) (λ c. search rules) (λ c. search rules) (λ c. search rules) (λ c. search rules) (λ c. search rules) (λ c. search rules)
     (λ c κs. search rules)
     (λ c κs. search rules)
-    (λ c. turn-stop _ _ _ _ _ _ _ c.before.before.before.before.before.before.loop.invariant _ c.before.before.is-allowed.ensures (omega arith) (omega arith) c.before.if1.true _ c.step_in.ensures)
-    (λ c κs. turn-index _ _ _ _ _ _ _ c.before.before.before.before.before.loop.invariant _ c.before.is-allowed.ensures c.if1.false)
+    (λ c. turn-stop _ _ _ _ _ _ _ c.before.before.before.before.before.before.loop-at.invariant _ c.before.before.is_allowed.ensures (omega arith) (omega arith) (ap not c.if-not-is_allowed.true) _ c.step_in-step.ensures)
+    (λ c κs. turn-index _ _ _ _ _ _ _ c.before.before.before.before.before.loop-at.invariant _ c.before.is_allowed.ensures (ap not c.if-not-is_allowed.false))
     (λ c. search rules) (λ c. search rules)
-    (λ c. turn_more _ _ _ _ _ _ _ c.before.before.before.before.before.before.loop.invariant _ c.before.before.is-allowed.ensures (omega arith) (omega arith) c.before.if1.false _ c.moved.ensures)
+    (λ c. turn_more _ _ _ _ _ _ _ c.before.before.before.before.before.before.loop-at.invariant _ c.before.before.is_allowed.ensures (omega arith) (omega arith) (ap not c.if-not-is_allowed.false) _ c.moved-reached.ensures)
     (λ c κs. search rules) (λ c κs. search rules) (λ c κs. search rules)
-    (λ c. going_end _ _ _ _ _ _ _ c.before.before.before.before.loop.invariant (omega arith) _ _ _ c.before.before.granted.ensures c.before.empty.ensures c.empty2.ensures))
+    (λ c. going_end _ _ _ _ _ _ _ c.before.before.before.before.loop-at.invariant (omega arith) _ _ _ c.before.before.granted.ensures c.before.empty.ensures c.empty-2.ensures))

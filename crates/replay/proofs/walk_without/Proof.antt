@@ -12,5 +12,5 @@ walk_without_spec =
     (λ c κs. search rules)
     (λ c. without-stopped _ _ _ _ _ (search rules) (omega arith) (search rules))
     (λ c. search rules)
-    (λ c κs. (walk-fit _ _ _ _ _ _ c.before.before.before.before.requires.0 c.before.before.walk.ensures, omega arith, omega arith))
+    (λ c κs. (walk-fit _ _ _ _ _ _ c.before.before.before.before.requires.0 c.before.before.walk-before.ensures, omega arith, omega arith))
     (λ c. search without-went))
