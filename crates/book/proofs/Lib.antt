@@ -1,4 +1,2 @@
 -- The root of the crate's shared laws for proofs.
 pub mod Scans
-pub mod Marks
-pub mod Walk

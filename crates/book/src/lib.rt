@@ -1,4 +1,6 @@
 // Rule books: the header of the image, its rules and condition records, the reader, and the snapshot that rules alter.
+#![tactic(auto)]
+
 ghost use Rattle.std.specs.Prelude.{◌≡◌};
 ghost use Rattle.book.specs.Effects.{empty_snapshot};
 
@@ -9,7 +11,7 @@ pub mod reader;
 pub mod rules;
 
 // The header's five counts.
-#[derive(Drop)]
+#[derive(Clone, Copy)]
 pub struct Counts {
     pub stages: u32,
     pub marks: u32,
@@ -19,7 +21,7 @@ pub struct Counts {
 }
 
 // What a rule waits for.
-#[derive(Drop)]
+#[derive(Clone, Copy)]
 pub enum Trigger {
     None,
     Completed(u16),
@@ -28,7 +30,7 @@ pub enum Trigger {
 }
 
 // Which condition a rule asks, and in which sense.
-#[derive(Drop)]
+#[derive(Clone, Copy)]
 pub enum Sense {
     NoCondition,
     AsWritten(u16),
@@ -36,14 +38,14 @@ pub enum Sense {
 }
 
 // A condition's words: where they start, and how many.
-#[derive(Drop)]
+#[derive(Clone, Copy)]
 pub struct Span {
     pub start: u32,
     pub count: u32,
 }
 
 // A rule decoded from its ten bytes.
-#[derive(Drop)]
+#[derive(Clone, Copy)]
 pub struct Rule {
     pub trigger: Trigger,
     pub sense: Sense,
@@ -53,7 +55,7 @@ pub struct Rule {
 
 // Every mark, yes or no.
 #[repr(C)]
-#[derive(Drop)]
+#[derive(Clone, Copy)]
 pub struct Snapshot {
     pub marks: [bool; paper::MAX_MARKS],
 }

@@ -8,7 +8,7 @@ use crate::conditions::condition_at;
 use crate::rules::rule_at;
 use crate::{Counts, Rule, Span};
 
-#[derive(Drop)]
+#[derive(Clone, Copy)]
 pub struct BookReader<'a> {
     pub image: &'a [u8],
     pub counts: Counts,

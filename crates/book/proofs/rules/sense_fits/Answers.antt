@@ -1,0 +1,17 @@
+-- `book::rules::sense_fits` meets its contract: each kind of record has its own return.
+use Rattle.std.proofs.Common.{rules, tests}
+use Rattle.book.specs.Judging.{sense_fits}
+use Rattle.book.proofs.rules.sense_fits.Goals as goal
+
+pub returns-in-0 : goal.returns-in-0
+returns-in-0 c = unfold sense_fits in rw c.in-0.is
+
+pub returns-in-1 : goal.returns-in-1
+returns-in-1 c = unfold sense_fits in rw c.in-1.is
+
+pub returns-in-2 : goal.returns-in-2
+returns-in-2 c = unfold sense_fits in rw c.in-2.is
+
+pub returns-in_default : goal.returns-in_default
+unfolding sense_fits
+returns-in_default c = search (tests, rules)

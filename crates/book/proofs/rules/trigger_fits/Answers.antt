@@ -1,0 +1,20 @@
+-- `book::rules::trigger_fits` meets its contract: each kind of record has its own return.
+use Rattle.std.proofs.Common.{rules, tests}
+use Rattle.book.specs.Judging.{trigger_fits}
+use Rattle.book.proofs.rules.trigger_fits.Goals as goal
+
+pub returns-in-0 : goal.returns-in-0
+returns-in-0 c = unfold trigger_fits in rw c.in-0.is
+
+pub returns-in-1 : goal.returns-in-1
+returns-in-1 c = unfold trigger_fits in rw c.in-1.is
+
+pub returns-in-2 : goal.returns-in-2
+returns-in-2 c = unfold trigger_fits in rw c.in-2.is
+
+pub returns-in-3 : goal.returns-in-3
+returns-in-3 c = unfold trigger_fits in rw c.in-3.is
+
+pub returns-in_default : goal.returns-in_default
+unfolding trigger_fits
+returns-in_default c = search (tests, rules)

@@ -1,0 +1,17 @@
+-- `book::rules::trigger_of` meets its contract: each kind of record has its own return.
+use Rattle.std.proofs.Common.{rules, tests}
+use Rattle.book.specs.Image.{trigger_from}
+use Rattle.book.proofs.rules.trigger_of.Goals as goal
+
+pub returns-in-0 : goal.returns-in-0
+returns-in-0 c = unfold trigger_from in rw c.in-0.is
+
+pub returns-in-1 : goal.returns-in-1
+returns-in-1 c = unfold trigger_from in rw c.in-1.is
+
+pub returns-in-2 : goal.returns-in-2
+returns-in-2 c = unfold trigger_from in rw c.in-2.is
+
+pub returns-in_default : goal.returns-in_default
+unfolding trigger_from
+returns-in_default c = search (tests, rules)
