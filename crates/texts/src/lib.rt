@@ -1,4 +1,6 @@
 // Conditions and their postfix texts, judged and read.
+#![tactic(auto)]
+
 pub mod eval;
 pub mod references;
 

@@ -16,7 +16,7 @@ condition_fits_spec =
     (λ c. (search condition-past, λ e. contra e refl))
     (λ c. search rules) (λ c. search rules) (λ c κs. search rules)
     (λ c. (
-      search (condition-text, c.text-fits.ensures.0),
-      λ e. condition-names 0 0 _ _ _ _ _ c.before.before.before.before.before.u32-at.ensures c.before.before.before.before.u32-at2.ensures _ _
-          (c.text-fits.ensures.1 e),
+      search (condition-text, c.text_fits.ensures.0),
+      λ e. condition-names 0 0 _ _ _ _ _ c.before.before.before.before.before.u32_at-start.ensures c.before.before.before.before.u32_at-count.ensures _ _
+          (c.text_fits.ensures.1 e),
     )))

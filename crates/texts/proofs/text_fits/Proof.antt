@@ -8,10 +8,10 @@ use mathlib.Core.Path.{refl}
 use Rattle.texts.proofs.text_fits.Statement.{statement}
 use Rattle.texts.proofs.text_fits.Tie as tie
 
-abbrev invariant-loop : tie.invariant-loop
+abbrev invariant-loop : tie.invariant-loop-i
 invariant-loop image at count marks named₀ depth₀ i₀ named depth i = (Deep marks image at count depth i) × (Noting image at count named₀ named i)
 
-abbrev decreases-loop : tie.decreases-loop
+abbrev decreases-loop : tie.decreases-loop-i
 decreases-loop image at count marks named₀ depth₀ i₀ named depth i = count - i
 
 pub text_fits_spec : {M : Type 1} → statement M
@@ -23,16 +23,16 @@ text_fits_spec =
     (λ c. (deep-starts _ _ _ _, noting-starts _ _ _ _))
     (λ c. search rules) (λ c. search rules) (λ c κs. search rules) (λ c κs. search rules)
     (λ c. (
-      deep-refused _ _ _ _ _ _ _ _ c.before.before.before.before.loop.invariant.0 c.before.before.before.loop-test.true c.before.before.u16-at.ensures
-          c.before.next-depth.ensures c.if1.true,
+      deep-refused _ _ _ _ _ _ _ _ c.before.before.before.before.loop-i.invariant.0 c.before.before.before.loop-i-test.true c.before.before.u16_at-word.ensures
+          c.before.next_depth-depth.ensures c.if-depth-gt-MAX_STACK.true,
       λ e. contra e refl,
     ))
     (λ c κs. search rules) (λ c. search rules) (λ c. search rules)
     (λ c. (
-      deep_more _ _ _ _ _ _ _ _ c.before.before.before.before.before.before.loop.invariant.0
-          c.before.before.before.before.before.loop-test.true c.before.before.before.before.u16-at.ensures
-          c.before.before.before.next-depth.ensures c.before.before.if1.false,
-      noting-more _ _ _ _ _ _ c.before.before.before.before.before.before.loop.invariant.1 _ _
-          c.before.before.before.before.before.loop-test.true c.before.before.before.before.u16-at.ensures c.note.ensures,
+      deep_more _ _ _ _ _ _ _ _ c.before.before.before.before.before.before.loop-i.invariant.0
+          c.before.before.before.before.before.loop-i-test.true c.before.before.before.before.u16_at-word.ensures
+          c.before.before.before.next_depth-depth.ensures c.before.before.if-depth-gt-MAX_STACK.false,
+      noting-more _ _ _ _ _ _ c.before.before.before.before.before.before.loop-i.invariant.1 _ _
+          c.before.before.before.before.before.loop-i-test.true c.before.before.before.before.u16_at-word.ensures c.note.ensures,
     ))
-    (λ c. (deep-ends _ _ _ _ _ _ c.before.loop.invariant.0 c.loop-test.false, λ e. noting-ends _ _ _ _ _ _ c.before.loop.invariant.1 c.loop-test.false)))
+    (λ c. (deep-ends _ _ _ _ _ _ c.before.loop-i.invariant.0 c.loop-i-test.false, λ e. noting-ends _ _ _ _ _ _ c.before.loop-i.invariant.1 c.loop-i-test.false)))
