@@ -1,4 +1,6 @@
 // Whether a rule fires: its trigger, and its condition in the marks as they now stand.
+#![tactic(auto)]
+
 ghost use Rattle.std.specs.Prelude.{◌≡◌, true, ◌<◌};
 ghost use Rattle.paper.specs.Limits.{max_events, max_marks};
 ghost use Rattle.book.specs.Text.{holds, snap_of};

@@ -11,6 +11,6 @@ condition_holds_spec =
     (λ c κs. span-inside _ _ c.before.requires.0 _ c.before.requires.1)
     (λ c κs. search rules) (λ c. search rules) (λ c. search rules) (λ c. search rules) (λ c. search rules)
     (λ c κs. let k = c.before.before.before in
-    span-asks _ _ k.before.before.requires.0 _ k.before.before.requires.1 _ _ k.condition-in.ensures c.before.before.words-from.ensures)
+    span-asks _ _ k.before.before.requires.0 _ k.before.before.requires.1 _ _ k.condition_in-span.ensures c.before.before.words_from-from.ensures)
     (λ c. let k = c.before.before.before.before in
-    span_value _ _ k.before.before.requires.0 _ k.before.before.requires.1 _ _ k.condition-in.ensures c.before.before.before.words-from.ensures _ _ c.text-holds.ensures))
+    span_value _ _ k.before.before.requires.0 _ k.before.before.requires.1 _ _ k.condition_in-span.ensures c.before.before.before.words_from-from.ensures _ _ c.text_holds.ensures))
