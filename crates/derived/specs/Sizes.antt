@@ -1,22 +1,21 @@
 -- How many rules and words a derived book has, and how many bytes its image. Assumes nothing.
-use Rattle.std.specs.Prelude.{ℕ, zero, suc, ◌+◌, ◌*◌, ◌≤◌, ◌<◌, ◌≡◌, refl, true, List, [], ◌∷◌, eqb, get_or}
+use Rattle.std.specs.Prelude.{ℕ, ◌+◌, ◌*◌, ◌≤◌, ◌<◌, ◌≡◌, refl, true, List, [], ◌∷◌, eqb, get_or}
 use Rattle.std.proofs.Common.{sym, ◌∙◌, eq-eqb, ne_eqb, eqb-true}
 use Rattle.std.proofs.Math.Path.{ap}
 use Rattle.std.proofs.Math.Bool.{cond, or-false, or-true}
 use native.Mathlib.Omega.{arith}
 use Rattle.std.proofs.Math.ListN.{length, length-append}
-use Rattle.paper.specs.Limits.{max_events, max_rules, max_words, book_header, rule_size, condition_size, word_size}
+use Rattle.paper.specs.Limits.{max_events, max_rules, book_header, rule_size, condition_size, word_size}
 use Rattle.general.specs.Cases.{cases, either}
 use Rattle.general.specs.Below.{tally, tally-le}
 use Rattle.sets.specs.Set.{has, union, only, size, within}
 use Rattle.sets.specs.Laws.{has-union, has-only, has-empty, within-lt, lt-within}
-use Rattle.flat_chart.specs.Chart.{Kind, condition, response, milestone, include, exclude, set_of, Fit}
+use Rattle.flat_chart.specs.Chart.{Kind, response, include, exclude, set_of, Fit}
 use Rattle.flat_chart.specs.Flat.{FlatChart}
 use Rattle.general.specs.Lists.{total, total-same, total-le, total-one, flat, flat-same, length-flat, length-each}
-use Rattle.book.specs.ImageOf.{image_of, image-length}
 use Rattle.book.specs.declared.Rule.{Rule}
-use Rattle.derived.specs.Derived.{listed, executed_mark, answered_mark, on, inclusion, responding, answering, completion, clause, text_for, stage_rules, event_rules, derived_rules}
-use Rattle.derived.specs.Derived.{derived_text, derived_condition, derived_book}
+use Rattle.derived.specs.Derived.{listed, on, inclusion, responding, answering, completion, clause, stage_rules, event_rules, derived_rules}
+use Rattle.derived.specs.Derived.{derived_condition, derived_book}
 use Rattle.derived.specs.Members.{size-within, tally-more, length-listed}
 
 -- ---- one event
@@ -87,13 +86,6 @@ module _ (n e : ℕ) (h : e < n) where
 pub length-clauses : (n : ℕ) (mark : ℕ → ℕ) (s : ℕ) → within n s ≡ true → length (flat n (listed (clause n mark) s)) ≡ 5 * size s
 length-clauses n mark s h = length-listed (clause n mark) 5 n s (λ f. refl) ∙ rw (size-within n s h)
 
-pub length-text : (n e c m : ℕ) → within n c ≡ true → within n m ≡ true → length (text_for n e c m) ≡ text_size c m
-unfolding text_for text_size
-length-text n e c m h k =
-    let a : length (flat n (listed (clause n (executed_mark n)) c)) ≡ 5 * size c = length-clauses n (executed_mark n) c h in
-    let b : length (flat n (listed (clause n (answered_mark n)) m)) ≡ 5 * size m = length-clauses n (answered_mark n) m k in
-    rw (length-append (flat n (listed (clause n (executed_mark n)) c)), a, b) (omega arith)
-
 pub text-le : (n c m : ℕ) → within n c ≡ true → within n m ≡ true → text_size c m ≤ 10 * n + 1
 unfolding text_size
 text-le n c m h k =
@@ -147,21 +139,9 @@ module _ (c : FlatChart) where
               (λ e h. length-completion n e h (set_of c include e) (set_of c exclude e) (set_of c response e) (both-within e h) (set-within response e h)),
         )
 
-    pub words-length : length (derived_book c).words ≡ words_needed
-    unfolding derived_book derived_text words_needed texts_size
-    words-length =
-        length-flat n (derived_text c)
-        ∙ total-same n (λ e. length (derived_text c e)) (λ e. text_size (set_of c condition e) (set_of c milestone e))
-        (λ e h. length-text n e (set_of c condition e) (set_of c milestone e) (set-within condition e h) (set-within milestone e h))
-
     pub conditions-length : length (derived_book c).conditions ≡ c.count
     unfolding derived_book
     conditions-length = length-each n (derived_condition c)
-
-    -- the exact count of bytes
-    pub bytes-length : length (image_of (derived_book c)) ≡ bytes_needed
-    unfolding bytes_needed
-    bytes-length = image-length (derived_book c) ∙ rw (rules-length, conditions-length, words-length)
 
     -- request (xiv): "131,840 rules", "655,616 words"
     pub rules-most : length (derived_book c).rules ≤ max_rules
@@ -173,22 +153,3 @@ module _ (c : FlatChart) where
         let l : completion_size e (set_of c include e) (set_of c exclude e) (set_of c response e) ≤ 2 * n + 1 =
         completion-le n e h (set_of c include e) (set_of c exclude e) (set_of c response e) (both-within e h) (set-within response e h) in omega arith) in
         rw rules-length (omega arith)
-
-    pub words-most : length (derived_book c).words ≤ max_words
-    unfolding words_needed texts_size
-    words-most =
-        let few : n ≤ max_events = fit.few in
-        let b : total n (λ e. text_size (set_of c condition e) (set_of c milestone e)) ≤ n * (10 * max_events + 1) =
-        total-le n (10 * max_events + 1) _ (λ e h.
-        let l : text_size (set_of c condition e) (set_of c milestone e) ≤ 10 * n + 1 =
-        text-le n (set_of c condition e) (set_of c milestone e) (set-within condition e h) (set-within milestone e h) in omega arith) in
-        rw words-length (omega arith)
-
-    -- 2,631,712
-    pub bytes_most : bytes_needed ≤ book_header + rule_size * max_rules + condition_size * max_events + word_size * max_words
-    unfolding bytes_needed
-    bytes_most =
-        let few : n ≤ max_events = fit.few in
-        let r : rules_needed ≤ max_rules = rw rules-length at rules-most in
-        let w : words_needed ≤ max_words = rw words-length at words-most in
-        omega arith

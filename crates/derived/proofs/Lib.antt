@@ -1,0 +1,6 @@
+-- The root of the crate's proofs.
+pub mod Largest
+pub mod Meaning
+pub mod OneChart
+pub mod RuleBytes
+pub mod Sizes
