@@ -1,4 +1,6 @@
 // The flat chart behind a book, gathered from its rules in one pass and from its texts in another.
+#![tactic(auto)]
+
 ghost use Rattle.std.specs.Prelude.{◌≡◌, true, false, ◌+◌, ◌*◌, ◌≤◌, ◌<◌, length, get_or, set, replicate};
 ghost use Rattle.paper.specs.Limits.{max_events, word_size};
 ghost use Rattle.wide.specs.Number.{number, rows_of};
@@ -18,7 +20,7 @@ use paper::{MAX_EVENTS, WORD_SIZE};
 use wide::{Set, TABLE};
 
 // What a text says of the event that it opens.
-#[derive(Drop)]
+#[derive(Clone, Copy)]
 pub struct Named {
     pub conditions: Set,
     pub milestones: Set,

@@ -7,10 +7,10 @@ use borrow.Author.Rules.{rules}
 use Rattle.gathering.proofs.gather_texts.Statement.{statement}
 use Rattle.gathering.proofs.gather_texts.Tie as tie
 
-abbrev invariant-loop : tie.invariant-loop
+abbrev invariant-loop : tie.invariant-loop-e
 invariant-loop image counts conditions₀ milestones₀ n e₀ conditions milestones e = TextsRead image e (rows_of conditions) (rows_of milestones)
 
-abbrev decreases-loop : tie.decreases-loop
+abbrev decreases-loop : tie.decreases-loop-e
 decreases-loop image counts conditions₀ milestones₀ n e₀ conditions milestones e = counts.stages - e
 
 pub gather_texts_spec : {M : Type 1} → statement M
@@ -25,5 +25,5 @@ gather_texts_spec =
     (λ c κs. omega (arith, stages-few c.before.before.before.before.before.before.requires.0))
     (λ c κs. omega (arith, stages-few c.before.before.before.before.before.before.before.before.requires.0))
     (λ c. search rules) (λ c. search rules)
-    (λ c. texts-more c.before.before.before.before.before.before.before.before.before.requires.0 c.before.before.before.before.before.before.loop.invariant c.before.before.before.before.before.loop-test.true c.before.before.before.before.Named-by.ensures.0 c.before.before.before.before.Named-by.ensures.1 c.before.before.set-row.ensures c.set-row2.ensures)
-    (λ c. texts-all c.before.before.before.before.requires.0 c.before.loop.invariant (search rules)))
+    (λ c. texts-more c.before.before.before.before.before.before.before.before.before.requires.0 c.before.before.before.before.before.before.loop-e.invariant c.before.before.before.before.before.loop-e-test.true c.before.before.before.before.named_by-named.ensures.0 c.before.before.before.before.named_by-named.ensures.1 c.before.before.set_row.ensures c.set_row-in-loop-e.ensures)
+    (λ c. texts-all c.before.before.before.before.requires.0 c.before.loop-e.invariant (search rules)))

@@ -12,7 +12,7 @@ named_by_spec =
     (λ c κs. span-inside _ _ c.before.requires.0 _ c.before.requires.1)
     (λ c κs. search rules) (λ c. search rules) (λ c. search rules) (λ c. search rules) (λ c. search rules) (λ c. search rules)
     (λ c κs. let k = c.before.before.before.before in
-    text-asks k.before.before.requires.0 k.before.before.requires.1 k.condition-in.ensures c.before.before.before.words-from.ensures)
+    text-asks k.before.before.requires.0 k.before.before.requires.1 k.condition_in-span.ensures c.before.before.before.words_from-from.ensures)
     (λ c. let k = c.before.before.before.before.before in
-    text-named k.before.before.requires.0 k.before.before.requires.1 k.condition-in.ensures c.before.before.before.before.words-from.ensures
+    text-named k.before.before.requires.0 k.before.before.requires.1 k.condition_in-span.ensures c.before.before.before.before.words_from-from.ensures
     c.named_in.ensures.0 c.named_in.ensures.1))

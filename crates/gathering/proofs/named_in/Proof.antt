@@ -6,10 +6,10 @@ use borrow.Author.Rules.{rules}
 use Rattle.gathering.proofs.named_in.Statement.{statement}
 use Rattle.gathering.proofs.named_in.Tie as tie
 
-abbrev invariant-loop : tie.invariant-loop
+abbrev invariant-loop : tie.invariant-loop-i
 invariant-loop image at count n conditions₀ milestones₀ i₀ conditions milestones i = TextRead image at count n i (number conditions) (number milestones)
 
-abbrev decreases-loop : tie.decreases-loop
+abbrev decreases-loop : tie.decreases-loop-i
 decreases-loop image at count n conditions₀ milestones₀ i₀ conditions milestones i = count - i
 
 pub named_in_spec : {M : Type 1} → statement M
@@ -19,8 +19,8 @@ named_in_spec =
     invariant-loop
     decreases-loop
     (λ c κs. search rules) (λ c κs. search rules)
-    (λ c. read_none c.before.empty.ensures c.empty2.ensures)
+    (λ c. read_none c.before.empty-conditions.ensures c.empty-milestones.ensures)
     (λ c. search rules) (λ c. search rules) (λ c κs. search rules) (λ c κs. search rules) (λ c. search rules) (λ c κs. search rules)
     (λ c. search rules) (λ c. search rules)
     (λ c. search read_more)
-    (λ c. read_all c.before.loop.invariant (search rules)))
+    (λ c. read_all c.before.loop-i.invariant (search rules)))
