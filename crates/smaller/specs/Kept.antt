@@ -1,13 +1,12 @@
 -- The events whose executed, included and answered marks stay, as sets. Assumes nothing.
-use Rattle.std.specs.Prelude.{ℕ, zero, suc, ◌+◌, ◌<◌, ◌≡◌, List, get_or}
+use Rattle.std.specs.Prelude.{ℕ, zero, suc, ◌+◌, ◌≡◌, List, get_or}
 use Rattle.std.proofs.Common.{◌∙◌, add-one}
-use borrow.Author.Tests.{lt-ltb}
 use Rattle.general.specs.Below.{some}
 use Rattle.sets.specs.Set.{has, union, minus, all_below}
-use Rattle.sets.specs.Laws.{has-union, has-minus, has-empty, has_all}
+use Rattle.sets.specs.Laws.{has-union, has-empty}
 use Rattle.flat_chart.specs.Flat.{FlatChart}
 use Rattle.graph.specs.Flat.{Marking}
-use Rattle.smaller.specs.Staying.{named, executed_stays, included_stays, answered_stays}
+use Rattle.smaller.specs.Staying.{named, answered_stays}
 
 -- whatever is in one of the first k sets of a table
 unfoldable pub union_upto : ℕ → List ℕ → ℕ
@@ -39,23 +38,6 @@ module _ (c : FlatChart) (m : Marking) where
 
   abbrev pub answered_kept : ℕ
   answered_kept = answered_by c.count c.responses m.pending
-
-  pub has-executed : (e : ℕ) → has executed_kept e ≡ executed_stays c m e
-  unfolding executed_stays named
-  has-executed e = has-upto c.count c.conditions e
-
-  pub has-included : (e : ℕ) → e < c.count → has included_kept e ≡ included_stays c m e
-  unfolding included_by included_stays named
-  has-included e h =
-      has-union (union (union_upto c.count c.includes) (union_upto c.count c.excludes)) (minus (all_below c.count) m.included) e
-      ∙ rw (
-        has-union (union_upto c.count c.includes) (union_upto c.count c.excludes) e,
-        has-upto c.count c.includes e,
-        has-upto c.count c.excludes e,
-        has-minus (all_below c.count) m.included e,
-        has_all c.count e,
-        lt-ltb e c.count h,
-      )
 
   pub has-answered : (e : ℕ) → has answered_kept e ≡ answered_stays c m e
   unfolding answered_by answered_stays named

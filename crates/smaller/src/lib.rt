@@ -1,1 +1,2 @@
 // What a smaller book is (request xi): no code of its own.
+#![tactic(auto)]
