@@ -1,4 +1,6 @@
 // The rules of a derived book, written into lent room one record after another.
+#![tactic(auto)]
+
 ghost use Rattle.std.specs.Prelude.{◌≡◌, true, [], ◌∷◌, ◌+◌, ◌*◌, ◌<◌, ◌≤◌, length};
 ghost use Rattle.paper.specs.Limits.{max_events, max_marks, max_rules, rule_size};
 ghost use Rattle.sets.specs.Set.{union, within};

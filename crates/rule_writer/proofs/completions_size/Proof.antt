@@ -11,10 +11,10 @@ use native.Mathlib.Omega.{arith}
 use Rattle.rule_writer.proofs.completions_size.Statement.{statement}
 use Rattle.rule_writer.proofs.completions_size.Tie as tie
 
-abbrev invariant-loop : tie.invariant-loop
+abbrev invariant-loop : tie.invariant-loop-e
 invariant-loop n includes excludes responses sum₀ e₀ sum e = (e ≤ n) × (sum ≡ completions_size e (rows_of includes) (rows_of excludes) (rows_of responses)) × (sum ≤ (2 * max_events + 1) * e)
 
-abbrev decreases-loop : tie.decreases-loop
+abbrev decreases-loop : tie.decreases-loop-e
 decreases-loop n includes excludes responses sum₀ e₀ sum e = n - e
 
 pub completions_size_spec : {M : Type 1} → statement M
@@ -27,12 +27,12 @@ completions_size_spec =
     (λ c κs. search rules) (λ c κs. search rules) (λ c κs. search rules) (λ c κs. search rules)
     (λ c. let d = c.before.before.before.before in
     let p = d.before.before.requires in
-    let q = completion-rows p.1 _ c.before.before.before.row.ensures c.before.before.row2.ensures c.before.row3.ensures c.completion-size.ensures in
-    omega (arith, completion-small _ _ _ _ p.0 p.1 _ _ d.loop-test.true q))
+    let q = completion-rows p.1 _ c.before.before.before.row.ensures c.before.before.row-in-loop-e.ensures c.before.row-in-loop-e-2.ensures c.completion_size-sum.ensures in
+    omega (arith, completion-small _ _ _ _ p.0 p.1 _ _ d.loop-e-test.true q))
     (λ c. search rules) (λ c. search rules)
     (λ c. let d = c.before.before.before.before in
     let p = d.before.before.requires in
-    let q = completion-rows p.1 _ c.before.before.before.row.ensures c.before.before.row2.ensures c.before.row3.ensures c.completion-size.ensures in
-    let l = completion-small _ _ _ _ p.0 p.1 _ _ d.loop-test.true q in
-    (omega arith, completions-more _ _ _ _ p.0 p.1 _ _ d.loop-test.true q _ d.before.loop.invariant.1, omega arith))
-    (λ c. (completions-all _ _ _ _ _ _ c.before.loop.invariant.0 c.loop-test.false c.before.loop.invariant.1, omega arith)))
+    let q = completion-rows p.1 _ c.before.before.before.row.ensures c.before.before.row-in-loop-e.ensures c.before.row-in-loop-e-2.ensures c.completion_size-sum.ensures in
+    let l = completion-small _ _ _ _ p.0 p.1 _ _ d.loop-e-test.true q in
+    (omega arith, completions-more _ _ _ _ p.0 p.1 _ _ d.loop-e-test.true q _ d.before.loop-e.invariant.1, omega arith))
+    (λ c. (completions-all _ _ _ _ _ _ c.before.loop-e.invariant.0 c.loop-e-test.false c.before.loop-e.invariant.1, omega arith)))

@@ -15,7 +15,7 @@ put_answer_spec =
     (λ c κs. (
       omega arith,
       omega arith,
-      answer-fits c.before.before.before.before.args.room.now _ _ _ _ _ c.before.before.member.ensures c.before.if1.false c.before.before.before.before.requires.2,
+      answer-fits c.before.before.before.before.args.room.now _ _ _ _ _ c.before.before.member.ensures c.before.if-member.false c.before.before.before.before.requires.2,
     ))
     (λ c. search rules)
     (λ c. search answer-wrote))

@@ -9,10 +9,10 @@ use native.Mathlib.Omega.{arith}
 use Rattle.rule_writer.proofs.put_effects.Statement.{statement}
 use Rattle.rule_writer.proofs.put_effects.Tie as tie
 
-abbrev invariant-loop : tie.invariant-loop
+abbrev invariant-loop : tie.invariant-loop-i
 invariant-loop room₀ at n e raise among base next₀ i₀ room next i = Upto rule_bytes (word_effects e (words_of raise) (words_of among) base) set_words room₀ at i next room
 
-abbrev decreases-loop : tie.decreases-loop
+abbrev decreases-loop : tie.decreases-loop-i
 decreases-loop room₀ at n e raise among base next₀ i₀ room next i = set_words - i
 
 pub put_effects_spec : {M : Type 1} → statement M
@@ -26,15 +26,15 @@ put_effects_spec =
     (λ c κs. (
       omega arith,
       omega arith,
-      word-effects-fit _ _ _ _ _ _ _ c.before.word.ensures c.word2.ensures c.before.before.before.before.loop.room _
-          (upto-fits _ _ _ _ _ _ _ _ c.before.before.before.before.loop.invariant c.before.before.before.loop-test.true
+      word-effects-fit _ _ _ _ _ _ _ c.before.word.ensures c.word-in-loop-i.ensures c.before.before.before.before.loop-i.room _
+          (upto-fits _ _ _ _ _ _ _ _ c.before.before.before.before.loop-i.invariant c.before.before.before.loop-i-test.true
           (effects-fit _ _ _ _ _ c.before.before.before.before.before.before.requires.0 (search (words, rules)) (search (words, rules))
           c.before.before.before.before.before.before.requires.3 c.before.before.before.before.before.before.args.room.now _ c.before.before.before.before.before.before.requires.4)),
     ))
     (λ c. search rules) (λ c. search rules)
     (λ c. let d = c.before.before.before.before.before.before in
-    upto-more _ _ _ _ _ _ _ _ d.before.loop.invariant _ _ d.loop-test.true
-    (word-effects _ _ _ _ _ _ _ c.before.before.before.before.word.ensures c.before.before.before.word2.ensures _ _ c.before.before.put_word.ensures))
-    (λ c. upto-length _ _ _ _ _ _ _ _ c.before.loop.invariant)
+    upto-more _ _ _ _ _ _ _ _ d.before.loop-i.invariant _ _ d.loop-i-test.true
+    (word-effects _ _ _ _ _ _ _ c.before.before.before.before.word.ensures c.before.before.before.word-in-loop-i.ensures _ _ c.before.before.put_word-next.ensures))
+    (λ c. upto-length _ _ _ _ _ _ _ _ c.before.loop-i.invariant)
     (λ c. effects-wrote _ _ _ _ _ c.before.before.before.requires.0 (search (words, rules)) (search (words, rules)) c.before.before.before.requires.3 _ _
-    (upto_done _ _ _ _ _ _ _ _ c.before.loop.invariant c.loop-test.false)))
+    (upto_done _ _ _ _ _ _ _ _ c.before.loop-i.invariant c.loop-i-test.false)))

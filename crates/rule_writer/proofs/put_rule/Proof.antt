@@ -26,13 +26,13 @@ put_rule_spec =
     (λ c κs. omega (
       arith,
       simp (put16-length, length-set) at (ap length c.before.before.before.before.before.before.before.put16.ensures),
-      simp put16-length at (ap length c.before.before.before.put162.ensures),
+      simp put16-length at (ap length c.before.before.before.put16-2.ensures),
     ))
     (λ c. search rules)
     (λ c. omega (
       arith,
       simp (put16-length, length-set) at (ap length c.before.before.before.before.before.before.before.before.before.before.put16.ensures),
-      simp put16-length at (ap length c.before.before.before.before.before.before.put162.ensures),
-      simp put16-length at (ap length c.before.before.put163.ensures),
+      simp put16-length at (ap length c.before.before.before.before.before.before.put16-2.ensures),
+      simp put16-length at (ap length c.before.before.put16-3.ensures),
     ))
     (λ c. search rule-wrote))

@@ -13,10 +13,10 @@ use Rattle.rule_writer.proofs.put_word.Tie as tie
 whole : 64 ≤ 64
 whole = omega arith
 
-abbrev invariant-loop : tie.invariant-loop
+abbrev invariant-loop : tie.invariant-loop-rest
 invariant-loop room₀ at e raise among base rest₀ next₀ room rest next = Turn rule_bytes (effect e raise base) 64 among room₀ at rest next room
 
-abbrev decreases-loop : tie.decreases-loop
+abbrev decreases-loop : tie.decreases-loop-rest
 decreases-loop room₀ at e raise among base rest₀ next₀ room rest next = rest
 
 pub put_word_spec : {M : Type 1} → statement M
@@ -29,30 +29,30 @@ put_word_spec =
     (λ c κs. search rules) (λ c. search rules) (λ c κs. search rules)
     (λ c. omega (
       arith,
-      turn-lt _ _ _ _ _ _ _ _ _ whole c.before.before.before.before.loop.invariant _
-          c.before.before.before.loop-test.true c.before.before.least.ensures,
+      turn-lt _ _ _ _ _ _ _ _ _ whole c.before.before.before.before.loop-rest.invariant _
+          c.before.before.before.loop-rest-test.true c.before.before.least-f.ensures,
     ))
-    (λ c κs. let l = turn-lt _ _ _ _ _ _ _ _ _ whole c.before.before.before.before.loop.invariant _
-    c.before.before.before.loop-test.true c.before.before.least.ensures in (
+    (λ c κs. let l = turn-lt _ _ _ _ _ _ _ _ _ whole c.before.before.before.before.loop-rest.invariant _
+    c.before.before.before.loop-rest-test.true c.before.before.least-f.ensures in (
       omega arith,
       omega arith,
-      effect-fits c.before.before.before.before.loop.room _ _ _ _ _
-          (turn-fits _ _ _ _ _ _ _ _ _ whole c.before.before.before.before.loop.invariant _
-          c.before.before.before.loop-test.true c.before.before.least.ensures c.before.before.before.before.before.before.requires.2),
+      effect-fits c.before.before.before.before.loop-rest.room _ _ _ _ _
+          (turn-fits _ _ _ _ _ _ _ _ _ whole c.before.before.before.before.loop-rest.invariant _
+          c.before.before.before.loop-rest-test.true c.before.before.least-f.ensures c.before.before.before.before.before.before.requires.2),
     ))
     (λ c κs. omega (
       arith,
       turn-lt _ _ _ _ _ _ _ _ _ whole
-          c.before.before.before.before.before.before.before.loop.invariant _ c.before.before.before.before.before.before.loop-test.true
-          c.before.before.before.before.before.least.ensures,
+          c.before.before.before.before.before.before.before.loop-rest.invariant _ c.before.before.before.before.before.before.loop-rest-test.true
+          c.before.before.before.before.before.least-f.ensures,
     ))
     (λ c κs. search rules)
     (λ c. turn-falls _ _ _ _ _ _ _ _ _ whole
-    c.before.before.before.before.before.before.before.before.before.loop.invariant _ c.before.before.before.before.before.before.before.before.loop-test.true
-    c.before.before.before.before.before.before.before.least.ensures _ _ c.before.one.ensures c.less.ensures)
+    c.before.before.before.before.before.before.before.before.before.loop-rest.invariant _ c.before.before.before.before.before.before.before.before.loop-rest-test.true
+    c.before.before.before.before.before.before.before.least-f.ensures _ _ c.before.one.ensures c.less-rest.ensures)
     (λ c. turn_more _ _ _ _ _ _ _ _ _ whole
-    c.before.before.before.before.before.before.before.before.before.loop.invariant _ c.before.before.before.before.before.before.before.before.loop-test.true
-    c.before.before.before.before.before.before.before.least.ensures _ _ _ _ c.before.one.ensures c.less.ensures
-    (effect-wrote _ _ _ _ _ _ _ c.before.before.before.before.before.member.ensures c.before.before.before.before.put_on.ensures))
-    (λ c. turn-length _ _ _ _ _ _ _ _ _ whole c.before.loop.invariant)
-    (λ c. turn-done _ _ _ _ _ _ _ _ _ whole c.before.loop.invariant c.loop-test.false))
+    c.before.before.before.before.before.before.before.before.before.loop-rest.invariant _ c.before.before.before.before.before.before.before.before.loop-rest-test.true
+    c.before.before.before.before.before.before.before.least-f.ensures _ _ _ _ c.before.one.ensures c.less-rest.ensures
+    (effect-wrote _ _ _ _ _ _ _ c.before.before.before.before.before.member.ensures c.before.before.before.before.put_on-next.ensures))
+    (λ c. turn-length _ _ _ _ _ _ _ _ _ whole c.before.loop-rest.invariant)
+    (λ c. turn-done _ _ _ _ _ _ _ _ _ whole c.before.loop-rest.invariant c.loop-rest-test.false))
