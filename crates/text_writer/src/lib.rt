@@ -1,4 +1,6 @@
 // The condition records and texts of a derived book, written into lent room one after another.
+#![tactic(auto)]
+
 ghost use Rattle.std.specs.Prelude.{◌≡◌, true, [], ◌∷◌, ◌+◌, ◌*◌, ◌<◌, ◌≤◌, length};
 ghost use Rattle.paper.specs.Limits.{max_events, max_marks, max_words, condition_size, word_size, not_word, or_word, and_word};
 ghost use Rattle.sets.specs.Set.{within};

@@ -12,6 +12,6 @@ put_clause_spec =
     (λ c κs. search rules) (λ c. search rules) (λ c κs. search rules) (λ c. search rules) (λ c. search rules)
     (λ c. clause-wrote _ _ _ _ _ _
     c.before.before.before.before.before.before.before.before.before.before.before.before.before.before.before.before.before.before.put16.ensures
-    c.before.before.before.before.before.before.before.before.before.before.before.before.before.before.put162.ensures
-    c.before.before.before.before.before.before.before.before.before.before.put163.ensures c.before.before.before.before.before.before.put164.ensures
-    c.before.before.put165.ensures))
+    c.before.before.before.before.before.before.before.before.before.before.before.before.before.before.put16-2.ensures
+    c.before.before.before.before.before.before.before.before.before.before.put16-3.ensures c.before.before.before.before.before.before.put16-4.ensures
+    c.before.before.put16-5.ensures))

@@ -1,5 +1,5 @@
 -- `text_writer::put_text` meets its contract. Assumes nothing.
-use Rattle.derived.specs.RuleBytes.{text-fits-1, text-fits-2, text-fits-3, text-wrote}
+use Rattle.derived.proofs.RuleBytes.{text-fits-1, text-fits-2, text-fits-3, text-wrote}
 use borrow.Author.Rules.{rules}
 use native.Mathlib.Omega.{arith}
 use Rattle.text_writer.proofs.put_text.Statement.{statement}
@@ -24,9 +24,9 @@ put_text_spec =
       omega arith,
       c.before.before.before.before.before.before.before.before.before.before.requires.3,
       text-fits-3 _ _ _ _ _ _ c.before.before.before.before.before.before.before.before.before.before.requires.4 _
-          c.before.before.before.before.before.before.before.put16.ensures _ _ c.before.before.before.put_clauses.ensures,
+          c.before.before.before.before.before.before.before.put16.ensures _ _ c.before.before.before.put_clauses-next.ensures,
     ))
     (λ c. search rules)
     (λ c. text-wrote _ _ _ _ _ _ c.before.before.before.before.before.before.before.before.before.before.before.before.before.requires.4 _
-    c.before.before.before.before.before.before.before.before.before.before.put16.ensures _ _ c.before.before.before.before.before.before.put_clauses.ensures
-    _ _ c.before.before.put-clauses2.ensures))
+    c.before.before.before.before.before.before.before.before.before.before.put16.ensures _ _ c.before.before.before.before.before.before.put_clauses-next.ensures
+    _ _ c.before.before.put_clauses.ensures))
