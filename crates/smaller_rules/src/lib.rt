@@ -1,4 +1,6 @@
 // The rules of a smaller book, one record after another: counted, and written where the lent room holds them.
+#![tactic(auto)]
+
 ghost use Rattle.std.specs.Prelude.{◌≡◌, true, [], ◌∷◌, ◌+◌, ◌*◌, ◌<◌, ◌≤◌, length};
 ghost use Rattle.paper.specs.Limits.{max_events, max_marks, rule_size};
 ghost use Rattle.sets.specs.Set.{union, within};

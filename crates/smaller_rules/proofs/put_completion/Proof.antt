@@ -17,9 +17,9 @@ put_completion_spec =
     (λ c κs. search rules)
     (λ c κs. search rules)
     (λ c. search rules)
-    (λ c κs. let s = sets-made c.before.before.before.before.before.before.before.one.ensures
-    c.before.before.before.before.before.before.join.ensures c.before.before.before.before.before.meet.ensures
-    c.before.before.before.before.less.ensures c.before.before.before.meet2.ensures c.before.before.meet3.ensures c.before.empty.ensures in (
+    (λ c κs. let s = sets-made c.before.before.before.before.before.before.before.one-own.ensures
+    c.before.before.before.before.before.before.join.ensures c.before.before.before.before.before.meet-changed.ensures
+    c.before.before.before.before.less.ensures c.before.before.before.meet-answers.ensures c.before.before.meet-done.ensures c.before.empty-none.ensures in (
       c.before.before.before.before.before.before.before.before.before.requires.0,
       c.before.before.before.before.before.before.before.before.before.requires.1,
       omega (arith, c.before.before.before.before.before.before.before.before.before.requires.0),
@@ -28,35 +28,35 @@ put_completion_spec =
           c.before.before.before.before.before.before.before.before.before.requires.4,
     ))
     (λ c. omega (arith, c.before.before.before.before.before.before.before.before.before.before.before.before.before.requires.0))
-    (λ c κs. let s = sets-made c.before.before.before.before.before.before.before.before.before.before.before.one.ensures
+    (λ c κs. let s = sets-made c.before.before.before.before.before.before.before.before.before.before.before.one-own.ensures
     c.before.before.before.before.before.before.before.before.before.before.join.ensures
-    c.before.before.before.before.before.before.before.before.before.meet.ensures
-    c.before.before.before.before.before.before.before.before.less.ensures c.before.before.before.before.before.before.before.meet2.ensures
-    c.before.before.before.before.before.before.meet3.ensures c.before.before.before.before.before.empty.ensures in (
+    c.before.before.before.before.before.before.before.before.before.meet-changed.ensures
+    c.before.before.before.before.before.before.before.before.less.ensures c.before.before.before.before.before.before.before.meet-answers.ensures
+    c.before.before.before.before.before.before.meet-done.ensures c.before.before.before.before.before.empty-none.ensures in (
       c.before.before.before.before.before.before.before.before.before.before.before.before.before.requires.0,
       c.before.before.before.before.before.before.before.before.before.before.before.before.before.requires.1,
       omega (arith, c.before.before.before.before.before.before.before.before.before.before.before.before.before.requires.0),
       c.before.before.before.before.before.before.before.before.before.before.before.before.before.requires.3,
       completion-under-2 _ _ s _ _ c.before.before.before.before.before.before.before.before.before.before.before.before.before.requires.4
-          c.before.before.before.put-effects.ensures,
+          c.before.before.before.put_effects-a.ensures,
     ))
     (λ c. omega (arith, c.before.before.before.before.before.before.before.before.before.before.before.before.before.before.before.before.before.requires.0))
-    (λ c κs. let s = sets-made c.before.before.before.before.before.before.before.before.before.before.before.before.before.before.before.one.ensures
+    (λ c κs. let s = sets-made c.before.before.before.before.before.before.before.before.before.before.before.before.before.before.before.one-own.ensures
     c.before.before.before.before.before.before.before.before.before.before.before.before.before.before.join.ensures
-    c.before.before.before.before.before.before.before.before.before.before.before.before.before.meet.ensures
+    c.before.before.before.before.before.before.before.before.before.before.before.before.before.meet-changed.ensures
     c.before.before.before.before.before.before.before.before.before.before.before.before.less.ensures
-    c.before.before.before.before.before.before.before.before.before.before.before.meet2.ensures
-    c.before.before.before.before.before.before.before.before.before.before.meet3.ensures
-    c.before.before.before.before.before.before.before.before.before.empty.ensures in (
+    c.before.before.before.before.before.before.before.before.before.before.before.meet-answers.ensures
+    c.before.before.before.before.before.before.before.before.before.before.meet-done.ensures
+    c.before.before.before.before.before.before.before.before.before.empty-none.ensures in (
       c.before.before.before.before.before.before.before.before.before.before.before.before.before.before.before.before.before.requires.0,
       c.before.before.before.before.before.before.before.before.before.before.before.before.before.before.before.before.before.requires.1,
       omega (arith, c.before.before.before.before.before.before.before.before.before.before.before.before.before.before.before.before.before.requires.0),
       answers-within _ s c.before.before.before.before.before.before.before.before.before.before.before.before.before.before.before.before.before.requires.1,
-      completion-under-3 _ _ s _ _ c.before.before.before.before.before.before.before.before.before.before.before.before.before.before.before.before.before.requires.4 c.before.before.before.before.before.before.before.put-effects.ensures c.before.before.before.put-effects2.ensures,
+      completion-under-3 _ _ s _ _ c.before.before.before.before.before.before.before.before.before.before.before.before.before.before.before.before.before.requires.4 c.before.before.before.before.before.before.before.put_effects-a.ensures c.before.before.before.put_effects-b.ensures,
     ))
-    (λ c κs. let s = sets-made c.before.before.before.before.before.before.before.before.before.before.before.before.before.before.before.before.before.before.before.one.ensures c.before.before.before.before.before.before.before.before.before.before.before.before.before.before.before.before.before.before.join.ensures c.before.before.before.before.before.before.before.before.before.before.before.before.before.before.before.before.before.meet.ensures c.before.before.before.before.before.before.before.before.before.before.before.before.before.before.before.before.less.ensures c.before.before.before.before.before.before.before.before.before.before.before.before.before.before.before.meet2.ensures
-    c.before.before.before.before.before.before.before.before.before.before.before.before.before.before.meet3.ensures
-    c.before.before.before.before.before.before.before.before.before.before.before.before.before.empty.ensures in (
+    (λ c κs. let s = sets-made c.before.before.before.before.before.before.before.before.before.before.before.before.before.before.before.before.before.before.before.one-own.ensures c.before.before.before.before.before.before.before.before.before.before.before.before.before.before.before.before.before.before.join.ensures c.before.before.before.before.before.before.before.before.before.before.before.before.before.before.before.before.before.meet-changed.ensures c.before.before.before.before.before.before.before.before.before.before.before.before.before.before.before.before.less.ensures c.before.before.before.before.before.before.before.before.before.before.before.before.before.before.before.meet-answers.ensures
+    c.before.before.before.before.before.before.before.before.before.before.before.before.before.before.meet-done.ensures
+    c.before.before.before.before.before.before.before.before.before.before.before.before.before.empty-none.ensures in (
       c.before.before.before.before.before.before.before.before.before.before.before.before.before.before.before.before.before.before.before.before.before.requires.0,
       c.before.before.before.before.before.before.before.before.before.before.before.before.before.before.before.before.before.before.before.before.before.requires.1,
       omega (
@@ -64,12 +64,12 @@ put_completion_spec =
         c.before.before.before.before.before.before.before.before.before.before.before.before.before.before.before.before.before.before.before.before.before.requires.0,
       ),
       done-within _ s c.before.before.before.before.before.before.before.before.before.before.before.before.before.before.before.before.before.before.before.before.before.requires.1,
-      completion-under-4 _ _ s _ _ c.before.before.before.before.before.before.before.before.before.before.before.before.before.before.before.before.before.before.before.before.before.requires.4 c.before.before.before.before.before.before.before.before.before.before.before.put-effects.ensures c.before.before.before.before.before.before.before.put-effects2.ensures c.before.before.before.put-effects3.ensures,
+      completion-under-4 _ _ s _ _ c.before.before.before.before.before.before.before.before.before.before.before.before.before.before.before.before.before.before.before.before.before.requires.4 c.before.before.before.before.before.before.before.before.before.before.before.put_effects-a.ensures c.before.before.before.before.before.before.before.put_effects-b.ensures c.before.before.before.put_effects-c.ensures,
     ))
     (λ c. search rules)
-    (λ c. let s = sets-made c.before.before.before.before.before.before.before.before.before.before.before.before.before.before.before.before.before.before.before.before.before.before.one.ensures c.before.before.before.before.before.before.before.before.before.before.before.before.before.before.before.before.before.before.before.before.before.join.ensures
-    c.before.before.before.before.before.before.before.before.before.before.before.before.before.before.before.before.before.before.before.before.meet.ensures c.before.before.before.before.before.before.before.before.before.before.before.before.before.before.before.before.before.before.before.less.ensures c.before.before.before.before.before.before.before.before.before.before.before.before.before.before.before.before.before.before.meet2.ensures c.before.before.before.before.before.before.before.before.before.before.before.before.before.before.before.before.before.meet3.ensures c.before.before.before.before.before.before.before.before.before.before.before.before.before.before.before.before.empty.ensures in
+    (λ c. let s = sets-made c.before.before.before.before.before.before.before.before.before.before.before.before.before.before.before.before.before.before.before.before.before.before.one-own.ensures c.before.before.before.before.before.before.before.before.before.before.before.before.before.before.before.before.before.before.before.before.before.join.ensures
+    c.before.before.before.before.before.before.before.before.before.before.before.before.before.before.before.before.before.before.before.before.meet-changed.ensures c.before.before.before.before.before.before.before.before.before.before.before.before.before.before.before.before.before.before.before.less.ensures c.before.before.before.before.before.before.before.before.before.before.before.before.before.before.before.before.before.before.meet-answers.ensures c.before.before.before.before.before.before.before.before.before.before.before.before.before.before.before.before.before.meet-done.ensures c.before.before.before.before.before.before.before.before.before.before.before.before.before.before.before.before.empty-none.ensures in
     completion-ran _ _ s _ _ c.before.before.before.before.before.before.before.before.before.before.before.before.before.before.before.before.before.before.before.before.before.before.before.before.requires.4
-    c.before.before.before.before.before.before.before.before.before.before.before.before.before.before.put-effects.ensures
-    c.before.before.before.before.before.before.before.before.before.before.put-effects2.ensures
-    c.before.before.before.before.before.before.put-effects3.ensures c.before.before.put-effects4.ensures))
+    c.before.before.before.before.before.before.before.before.before.before.before.before.before.before.put_effects-a.ensures
+    c.before.before.before.before.before.before.before.before.before.before.put_effects-b.ensures
+    c.before.before.before.before.before.before.put_effects-c.ensures c.before.before.put_effects.ensures))
