@@ -1,4 +1,6 @@
 // The texts of a smaller book and their condition records: counted, and written where the lent room holds them.
+#![tactic(auto)]
+
 ghost use Rattle.std.specs.Prelude.{◌≡◌, true, not, cond, [], ◌∷◌, ◌++◌, ◌+◌, ◌-◌, ◌*◌, ◌<◌, ◌≤◌, eqb, length, get_or, replicate};
 ghost use Rattle.paper.specs.Limits.{max_events, max_marks, max_words, word_size};
 ghost use Rattle.sets.specs.Set.{inter, size, within};

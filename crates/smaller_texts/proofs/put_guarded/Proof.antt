@@ -11,5 +11,5 @@ put_guarded_spec =
     (λ c κs. search rules) (λ c. search rules) (λ c κs. search rules) (λ c. search rules) (λ c κs. search rules) (λ c. search rules)
     (λ c κs. search rules) (λ c. search rules) (λ c. search rules)
     (λ c. guarded-put _ _ _ c.before.before.before.before.before.before.before.before.before.before.before.before.before.before.put16.ensures
-    c.before.before.before.before.before.before.before.before.before.before.put162.ensures c.before.before.before.before.before.before.put163.ensures
-    c.before.before.put164.ensures))
+    c.before.before.before.before.before.before.before.before.before.before.put16-2.ensures c.before.before.before.before.before.before.put16-3.ensures
+    c.before.before.put16-4.ensures))

@@ -18,9 +18,9 @@ put_text_spec =
       c.before.before.before.before.before.before.requires.0,
       omega arith,
       omega arith,
-      own-within _ _ _ c.before.before.before.before.one.ensures c.before.before.before.meet.ensures c.before.before.before.before.before.before.requires.1,
-      text-under-1 _ _ _ _ _ _ _ c.before.before.before.before.one.ensures c.before.before.before.meet.ensures c.before.before.meet2.ensures
-          c.before.empty.ensures c.before.before.before.before.before.before.args.room.now _ c.before.before.before.before.before.before.requires.4,
+      own-within _ _ _ c.before.before.before.before.one.ensures c.before.before.before.meet-own.ensures c.before.before.before.before.before.before.requires.1,
+      text-under-1 _ _ _ _ _ _ _ c.before.before.before.before.one.ensures c.before.before.before.meet-own.ensures c.before.before.meet-asked.ensures
+          c.before.empty-none.ensures c.before.before.before.before.before.before.args.room.now _ c.before.before.before.before.before.before.requires.4,
     ))
     (λ c κs. (
       c.before.before.before.before.before.before.before.before.before.before.requires.0,
@@ -28,30 +28,30 @@ put_text_spec =
       omega arith,
       c.before.before.before.before.before.before.before.before.before.before.requires.2,
       text-under-2 _ _ _ _ _ _ _ c.before.before.before.before.before.before.before.before.one.ensures
-          c.before.before.before.before.before.before.before.meet.ensures c.before.before.before.before.before.before.meet2.ensures
-          c.before.before.before.before.before.empty.ensures _ _ c.before.before.before.before.before.before.before.before.before.before.requires.4
-          c.before.before.before.put_clauses.ensures,
+          c.before.before.before.before.before.before.before.meet-own.ensures c.before.before.before.before.before.before.meet-asked.ensures
+          c.before.before.before.before.before.empty-none.ensures _ _ c.before.before.before.before.before.before.before.before.before.before.requires.4
+          c.before.before.before.put_clauses-a.ensures,
     ))
     (λ c. search rules)
     (λ c κs. (
       c.before.before.before.before.before.before.before.before.before.before.before.before.before.before.requires.0,
       omega arith,
       omega arith,
-      part-within _ _ _ c.before.before.before.before.before.before.before.before.before.before.meet2.ensures
+      part-within _ _ _ c.before.before.before.before.before.before.before.before.before.before.meet-asked.ensures
           c.before.before.before.before.before.before.before.before.before.before.before.before.before.before.requires.3,
       text-under-3 _ _ _ _ _ _ _ c.before.before.before.before.before.before.before.before.before.before.before.before.one.ensures
-          c.before.before.before.before.before.before.before.before.before.before.before.meet.ensures
-          c.before.before.before.before.before.before.before.before.before.before.meet2.ensures
-          c.before.before.before.before.before.before.before.before.before.empty.ensures _ _
+          c.before.before.before.before.before.before.before.before.before.before.before.meet-own.ensures
+          c.before.before.before.before.before.before.before.before.before.before.meet-asked.ensures
+          c.before.before.before.before.before.before.before.before.before.empty-none.ensures _ _
           c.before.before.before.before.before.before.before.before.before.before.before.before.before.before.requires.4
-          c.before.before.before.before.before.before.before.put_clauses.ensures c.before.before.before.put-clauses2.ensures,
+          c.before.before.before.before.before.before.before.put_clauses-a.ensures c.before.before.before.put_clauses-b.ensures,
     ))
     (λ c. search rules)
     (λ c. text-ran _ _ _ _ _ _ _ c.before.before.before.before.before.before.before.before.before.before.before.before.before.before.before.one.ensures
-    c.before.before.before.before.before.before.before.before.before.before.before.before.before.before.meet.ensures
-    c.before.before.before.before.before.before.before.before.before.before.before.before.before.meet2.ensures
-    c.before.before.before.before.before.before.before.before.before.before.before.before.empty.ensures _ _
+    c.before.before.before.before.before.before.before.before.before.before.before.before.before.before.meet-own.ensures
+    c.before.before.before.before.before.before.before.before.before.before.before.before.before.meet-asked.ensures
+    c.before.before.before.before.before.before.before.before.before.before.before.before.empty-none.ensures _ _
     c.before.before.before.before.before.before.before.before.before.before.before.before.before.before.before.before.before.requires.4
-    c.before.before.before.before.before.before.before.before.before.before.put_clauses.ensures
-    c.before.before.before.before.before.before.put-clauses2.ensures
-    c.before.before.put-clauses3.ensures))
+    c.before.before.before.before.before.before.before.before.before.before.put_clauses-a.ensures
+    c.before.before.before.before.before.before.put_clauses-b.ensures
+    c.before.before.put_clauses.ensures))
