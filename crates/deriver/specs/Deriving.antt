@@ -18,7 +18,8 @@ use Rattle.general.specs.Lists.{flat, packed, packed-append}
 use Rattle.book.specs.Image.{condition_place, word_place}
 use Rattle.book.specs.ImageOf.{image_of, image-length, header_bytes, rule_bytes, condition_bytes}
 use Rattle.derived.specs.Derived.{stage_rules, event_rules, derived_rules, derived_text, derived_condition, derived_book}
-use Rattle.derived.specs.Sizes.{completions_size, texts_size, rules_needed, words_needed, rules-length, words-length, conditions-length, rules-most}
+use Rattle.derived.specs.Sizes.{completions_size, texts_size, rules_needed, words_needed, rules-length, conditions-length, rules-most}
+use Rattle.derived.proofs.Sizes.{words-length}
 use Rattle.derived.specs.Parts.{completion_at, CompletionsIn, completions-in, text_at, TextsIn, texts-in, condition_part}
 use Rattle.general.specs.Writing.{Fits, Wrote, then, fits-first, fits-then, wrote-whole}
 use Rattle.derived.specs.RuleBytes.{number-wrote}

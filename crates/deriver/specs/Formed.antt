@@ -30,7 +30,8 @@ use Rattle.book.specs.WellRead.{trigger_exists, sense_exists, RuleFormed}
 use Rattle.book.specs.Formed.{FormedBook, formed-image}
 use Rattle.derived.specs.Derived.{included_mark, executed_mark, answered_mark, listed, clause, on, inclusion, responding, answering, text_for, derived_rules, derived_text, derived_condition}
 use Rattle.derived.specs.Derived.{derived_book, derived-text, join}
-use Rattle.derived.specs.Sizes.{conditions-length, rules-most, words-most}
+use Rattle.derived.specs.Sizes.{conditions-length, rules-most}
+use Rattle.derived.proofs.Sizes.{words-most}
 use Rattle.deriver.specs.Deriving.{derived_image}
 
 -- ---- how deep the stack gets

@@ -1,4 +1,6 @@
 // Deriving a rule book from a flat chart, and the snapshot that matches a marking.
+#![tactic(auto)]
+
 ghost use Rattle.std.specs.Prelude.{◌≡◌, ◌*◌, ◌≤◌, length};
 ghost use Rattle.paper.specs.Limits.{max_events, max_rules, max_conditions, book_header};
 ghost use Rattle.wide.specs.Number.{rows_of};
@@ -26,7 +28,7 @@ pub mod marks;
 
 // What matching gives: the snapshot, or every mark no beside the refusal.
 #[repr(C)]
-#[derive(Drop)]
+#[derive(Clone, Copy)]
 pub struct Matched {
     pub answer: Answer,
     pub snapshot: Snapshot,

@@ -12,33 +12,33 @@ put_book_spec =
     (λ c κs. (
       c.before.before.before.before.before.before.requires.few,
       c.before.before.before.before.before.before.requires.completions,
-      book-fits-2 _ _ _ _ _ _ _ _ _ c.before.before.before.before.before.before.requires _ _ c.before.before.before.put-header.ensures,
+      book-fits-2 _ _ _ _ _ _ _ _ _ c.before.before.before.before.before.before.requires _ _ c.before.before.before.put_header-a.ensures,
     ))
     (λ c κs. (
       c.before.before.before.before.before.before.before.before.before.before.requires.few,
       book-fits-3 _ _ _ _ _ _ _ _ _ c.before.before.before.before.before.before.before.before.before.before.requires _ _
-          c.before.before.before.before.before.before.before.put-header.ensures _ _ c.before.before.before.put-completions.ensures,
+          c.before.before.before.before.before.before.before.put_header-a.ensures _ _ c.before.before.before.put_completions-b.ensures,
     ))
     (λ c κs. (
       c.before.before.before.before.before.before.before.before.before.before.before.before.before.before.requires.few,
       c.before.before.before.before.before.before.before.before.before.before.before.before.before.before.requires.texts,
       book-fits-4 _ _ _ _ _ _ _ _ _ c.before.before.before.before.before.before.before.before.before.before.before.before.before.before.requires _ _
-          c.before.before.before.before.before.before.before.before.before.before.before.put-header.ensures _ _
-          c.before.before.before.before.before.before.before.put-completions.ensures _ _ c.before.before.before.put-stages.ensures,
+          c.before.before.before.before.before.before.before.before.before.before.before.put_header-a.ensures _ _
+          c.before.before.before.before.before.before.before.put_completions-b.ensures _ _ c.before.before.before.put_stages-c.ensures,
     ))
     (λ c κs. (
       c.before.before.before.before.before.before.before.before.before.before.before.before.before.before.before.before.before.before.requires.few,
       c.before.before.before.before.before.before.before.before.before.before.before.before.before.before.before.before.before.before.requires.texts,
       book-fits-5 _ _ _ _ _ _ _ _ _
           c.before.before.before.before.before.before.before.before.before.before.before.before.before.before.before.before.before.before.requires _ _
-          c.before.before.before.before.before.before.before.before.before.before.before.before.before.before.before.put-header.ensures _ _
-          c.before.before.before.before.before.before.before.before.before.before.before.put-completions.ensures _ _
-          c.before.before.before.before.before.before.before.put-stages.ensures _ _ c.before.before.before.put-conditions.ensures,
+          c.before.before.before.before.before.before.before.before.before.before.before.before.before.before.before.put_header-a.ensures _ _
+          c.before.before.before.before.before.before.before.before.before.before.before.put_completions-b.ensures _ _
+          c.before.before.before.before.before.before.before.put_stages-c.ensures _ _ c.before.before.before.put_conditions-d.ensures,
     ))
     (λ c. search rules)
     (λ c. book-wrote _ _ _ _ _ _ _ _ _
     c.before.before.before.before.before.before.before.before.before.before.before.before.before.before.before.before.before.before.before.before.before.requires
-    _ _ c.before.before.before.before.before.before.before.before.before.before.before.before.before.before.before.before.before.before.put-header.ensures _ _
-    c.before.before.before.before.before.before.before.before.before.before.before.before.before.before.put-completions.ensures _ _
-    c.before.before.before.before.before.before.before.before.before.before.put-stages.ensures _ _
-    c.before.before.before.before.before.before.put-conditions.ensures _ _ c.before.before.put-texts.ensures))
+    _ _ c.before.before.before.before.before.before.before.before.before.before.before.before.before.before.before.before.before.before.put_header-a.ensures _ _
+    c.before.before.before.before.before.before.before.before.before.before.before.before.before.before.put_completions-b.ensures _ _
+    c.before.before.before.before.before.before.before.before.before.before.put_stages-c.ensures _ _
+    c.before.before.before.before.before.before.put_conditions-d.ensures _ _ c.before.before.put_texts.ensures))

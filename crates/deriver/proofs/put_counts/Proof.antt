@@ -13,9 +13,9 @@ put_counts_spec =
     (λ c κs. search rules) (λ c. search rules) (λ c κs. search rules) (λ c. search rules)
     (λ c. header-wrote _ _ _ _ _
     c.before.before.before.before.before.before.before.before.before.before.before.before.before.before.before.before.before.before.before.before.before.before.before.before.before.before.before.before.before.before.put32.ensures
-    c.before.before.before.before.before.before.before.before.before.before.before.before.before.before.before.before.before.before.before.before.before.before.before.before.before.before.put322.ensures
-    c.before.before.before.before.before.before.before.before.before.before.before.before.before.before.before.before.before.before.before.before.before.before.put323.ensures
-    c.before.before.before.before.before.before.before.before.before.before.before.before.before.before.before.before.before.before.put324.ensures
-    c.before.before.before.before.before.before.before.before.before.before.before.before.before.before.put325.ensures
-    c.before.before.before.before.before.before.before.before.before.before.put326.ensures c.before.before.before.before.before.before.put327.ensures
-    c.before.before.put328.ensures))
+    c.before.before.before.before.before.before.before.before.before.before.before.before.before.before.before.before.before.before.before.before.before.before.before.before.before.before.put32-2.ensures
+    c.before.before.before.before.before.before.before.before.before.before.before.before.before.before.before.before.before.before.before.before.before.before.put32-3.ensures
+    c.before.before.before.before.before.before.before.before.before.before.before.before.before.before.before.before.before.before.put32-4.ensures
+    c.before.before.before.before.before.before.before.before.before.before.before.before.before.before.put32-5.ensures
+    c.before.before.before.before.before.before.before.before.before.before.put32-6.ensures c.before.before.before.before.before.before.put32-7.ensures
+    c.before.before.put32-8.ensures))

@@ -11,10 +11,10 @@ use native.Mathlib.Omega.{arith}
 use Rattle.deriver.proofs.marks.put_marks.Statement.{statement}
 use Rattle.deriver.proofs.marks.put_marks.Tie as tie
 
-abbrev invariant-loop : tie.invariant-loop
+abbrev invariant-loop : tie.invariant-loop-e
 invariant-loop marks₀ at n set e₀ marks e = (e ≤ n) × (marks ≡ sets marks₀ at (each e (has (number set))))
 
-abbrev decreases-loop : tie.decreases-loop
+abbrev decreases-loop : tie.decreases-loop-e
 decreases-loop marks₀ at n set e₀ marks e = n - e
 
 pub put_marks_spec : {M : Type 1} → statement M
@@ -27,5 +27,5 @@ put_marks_spec =
     (λ c κs. search rules) (λ c. search rules)
     (λ c. omega arith)
     (λ c. search rules) (λ c. search rules)
-    (λ c. (omega arith, marks-more _ _ _ _ _ _ c.member.ensures c.before.before.loop.invariant.1))
-    (λ c. marks-all _ _ _ _ _ _ c.before.loop.invariant.0 c.loop-test.false c.before.loop.invariant.1))
+    (λ c. (omega arith, marks-more _ _ _ _ _ _ c.member.ensures c.before.before.loop-e.invariant.1))
+    (λ c. marks-all _ _ _ _ _ _ c.before.loop-e.invariant.0 c.loop-e-test.false c.before.loop-e.invariant.1))
