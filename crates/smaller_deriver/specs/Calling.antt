@@ -16,10 +16,11 @@ use Rattle.graph.specs.Flat.{Marking}
 use Rattle.book.specs.ImageOf.{image_of}
 use Rattle.smaller.specs.Staying.{mark_table, smaller_marks}
 use Rattle.smaller.specs.Kept.{executed_kept, included_kept, answered_kept}
-use Rattle.smaller.specs.Written.{completions_of, sizes_of, image-runs, rules-runs, records-runs, words_runs, size-at}
+use Rattle.smaller.specs.Written.{completions_of, sizes_of}
+use Rattle.smaller.proofs.Written.{image-runs, rules-runs, records-runs, words_runs, size-at}
 use Rattle.smaller.specs.Runs.{stage_by}
 use Rattle.smaller.specs.Numbering.{marks-fewer}
-use Rattle.smaller.specs.Formed.{smaller-formed, image-most}
+use Rattle.smaller.proofs.Formed.{smaller-formed, image-most}
 use Rattle.derived.specs.Parts.{completions-in, texts-in}
 use Rattle.general.specs.Lists.{flat, total, total-same, length-flat}
 use Rattle.general.specs.Cases.{cases}

@@ -17,7 +17,8 @@ use Rattle.flat_chart.specs.Flat.{FlatChart}
 use Rattle.graph.specs.Flat.{Marking}
 use Rattle.deriver.specs.Matching.{four_runs}
 use Rattle.smaller.specs.Staying.{stays, new_mark, smaller_marks, mark_table}
-use Rattle.smaller.specs.Kept.{union_upto, union-step, executed_kept, included_kept, answered_kept, has-executed, has-included, has-answered}
+use Rattle.smaller.specs.Kept.{union_upto, union-step, executed_kept, included_kept, answered_kept, has-answered}
+use Rattle.smaller.proofs.Kept.{has-executed, has-included}
 use Rattle.smaller.specs.Numbering.{stays-stage, stays-executed, stays-included, stays-answered, stays-below}
 
 -- the new number of mark e of a run, where next is the first that is free

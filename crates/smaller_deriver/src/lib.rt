@@ -1,4 +1,6 @@
 // Deriving a smaller book from a flat chart and a start marking.
+#![tactic(auto)]
+
 ghost use Rattle.std.specs.Prelude.{◌≡◌, length};
 ghost use Rattle.wide.specs.Number.{number, rows_of};
 ghost use Rattle.flat_chart.specs.Chart.{chart_of};
@@ -20,14 +22,14 @@ pub mod marks;
 
 // What deriving a smaller book gives: the new number of each mark of the full book, 65,535 for one that is dropped or absent, and throughout on a refusal.
 #[repr(C)]
-#[derive(Drop)]
+#[derive(Clone, Copy)]
 pub struct Smaller {
     pub answer: Answer,
     pub table: [u16; MAX_MARKS],
 }
 
 // Where the rules, the condition records and the words end.
-#[derive(Drop)]
+#[derive(Clone, Copy)]
 pub struct Places {
     pub rules: usize,
     pub records: usize,

@@ -13,7 +13,7 @@ use paper::{MAX_MARKS, NO_MARK};
 use wide::{Set, TABLE};
 
 // The new numbers of the marks, and how many there are.
-#[derive(Drop)]
+#[derive(Clone, Copy)]
 pub struct Numbered {
     pub table: [u16; MAX_MARKS],
     pub marks: usize,

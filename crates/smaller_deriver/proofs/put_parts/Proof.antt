@@ -11,18 +11,18 @@ put_parts_spec =
     (λ c κs. (c.before.before.requires.few, c.before.before.requires.completions, under-1 _ _ _ _ _ _ _ _ _ _ _ _ c.before.before.requires c.before.before.args.room.now))
     (λ c κs. (
       c.before.before.before.before.before.before.requires.few,
-      under-2 _ _ _ _ _ _ _ _ _ _ _ _ c.before.before.before.before.before.before.requires _ _ _ c.before.before.before.put-completions.ensures,
+      under-2 _ _ _ _ _ _ _ _ _ _ _ _ c.before.before.before.before.before.before.requires _ _ _ c.before.before.before.put_completions-a.ensures,
     ))
     (λ c κs. (
       c.before.before.before.before.before.before.before.before.before.before.requires.few,
       c.before.before.before.before.before.before.before.before.before.before.requires.words,
-      under-3 _ _ _ _ _ _ _ _ _ _ _ _ c.before.before.before.before.before.before.before.before.before.before.requires _ _ _ c.before.before.before.before.before.before.before.put-completions.ensures _ _ c.before.before.before.put-stages.ensures,
+      under-3 _ _ _ _ _ _ _ _ _ _ _ _ c.before.before.before.before.before.before.before.before.before.before.requires _ _ _ c.before.before.before.before.before.before.before.put_completions-a.ensures _ _ c.before.before.before.put_stages-rules.ensures,
     ))
     (λ c κs. (
       c.before.before.before.before.before.before.before.before.before.before.before.before.before.before.requires.few,
       c.before.before.before.before.before.before.before.before.before.before.before.before.before.before.requires.texts,
-      under-4 _ _ _ _ _ _ _ _ _ _ _ _ c.before.before.before.before.before.before.before.before.before.before.before.before.before.before.requires _ _ _ c.before.before.before.before.before.before.before.before.before.before.before.put-completions.ensures _ _ c.before.before.before.before.before.before.before.put-stages.ensures _ _ c.before.before.before.put-conditions.ensures,
+      under-4 _ _ _ _ _ _ _ _ _ _ _ _ c.before.before.before.before.before.before.before.before.before.before.before.before.before.before.requires _ _ _ c.before.before.before.before.before.before.before.before.before.before.before.put_completions-a.ensures _ _ c.before.before.before.before.before.before.before.put_stages-rules.ensures _ _ c.before.before.before.put_conditions-records.ensures,
     ))
     (λ c. search rules)
-    (λ c. parts-ran _ _ _ _ _ _ _ _ _ _ _ _ c.before.before.before.before.before.before.before.before.before.before.before.before.before.before.before.before.before.requires _ _ _ c.before.before.before.before.before.before.before.before.before.before.before.before.before.before.put-completions.ensures _ _
-    c.before.before.before.before.before.before.before.before.before.before.put-stages.ensures _ _ c.before.before.before.before.before.before.put-conditions.ensures _ _ c.before.before.put-texts.ensures))
+    (λ c. parts-ran _ _ _ _ _ _ _ _ _ _ _ _ c.before.before.before.before.before.before.before.before.before.before.before.before.before.before.before.before.before.requires _ _ _ c.before.before.before.before.before.before.before.before.before.before.before.before.before.before.put_completions-a.ensures _ _
+    c.before.before.before.before.before.before.before.before.before.before.put_stages-rules.ensures _ _ c.before.before.before.before.before.before.put_conditions-records.ensures _ _ c.before.before.put_texts-end.ensures))

@@ -10,4 +10,4 @@ answered_kept_spec =
     (tie.spec
     (λ c κs. search rules)
     (λ c κs. search rules)
-    (λ c. unfold answered_by in rw (c.join.ensures, c.before.union-upto.ensures)))
+    (λ c. unfold answered_by in rw (c.join.ensures, c.before.union_upto.ensures)))

@@ -15,10 +15,10 @@ included_kept_spec =
     (λ c κs. search rules)
     (λ c κs. search rules)
     (λ c. unfold included_by in rw (
-      c.join2.ensures,
+      c.join-2.ensures,
       c.before.join.ensures,
-      c.before.before.less.ensures,
-      c.before.before.before.all-below.ensures,
-      c.before.before.before.before.union-upto2.ensures,
-      c.before.before.before.before.before.union-upto.ensures,
+      c.before.before.less-out.ensures,
+      c.before.before.before.all_below.ensures,
+      c.before.before.before.before.union_upto-b.ensures,
+      c.before.before.before.before.before.union_upto-a.ensures,
     )))

@@ -5,4 +5,4 @@ use Rattle.smaller_deriver.proofs.marks.next_number.Statement.{statement}
 use Rattle.smaller_deriver.proofs.marks.next_number.Tie as tie
 
 pub next_number_spec : {M : Type 1} → statement M
-next_number_spec = tie.close (tie.spec (λ c. search rules) (λ c. rw c.if1.true (omega arith)) (λ c. rw c.if1.false (omega arith)))
+next_number_spec = tie.close (tie.spec (λ c. search rules) (λ c. rw c.if-stays.true (omega arith)) (λ c. rw c.if-stays.false (omega arith)))

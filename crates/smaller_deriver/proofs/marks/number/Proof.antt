@@ -11,21 +11,21 @@ number_spec =
     (tie.spec
     (λ c κs. search rules)
     (λ c κs. search rules)
-    (λ c κs. (omega arith, omega (arith, run-few _ _ _ _ 0 c.before.number-marks.ensures.0 (omega arith))))
+    (λ c κs. (omega arith, omega (arith, run-few _ _ _ _ 0 c.before.number_marks-a.ensures.0 (omega arith))))
     (λ c. search rules)
     (λ c κs. (
       omega arith,
-      omega (arith, run-few _ _ _ _ _ c.before.number-marks2.ensures.0 (run-few _ _ _ _ 0 c.before.before.before.number-marks.ensures.0 (omega arith))),
+      omega (arith, run-few _ _ _ _ _ c.before.number_marks-b.ensures.0 (run-few _ _ _ _ 0 c.before.before.before.number_marks-a.ensures.0 (omega arith))),
     ))
     (λ c. search rules)
     (λ c κs. (
       omega arith,
       omega (
         arith,
-        run-few _ _ _ _ _ c.before.number-marks3.ensures.0 (run-few _ _ _ _ _ c.before.before.before.number-marks2.ensures.0 (run-few _ _ _ _ 0
-            c.before.before.before.before.before.number-marks.ensures.0 (omega arith))),
+        run-few _ _ _ _ _ c.before.number_marks-c.ensures.0 (run-few _ _ _ _ _ c.before.before.before.number_marks-b.ensures.0 (run-few _ _ _ _ 0
+            c.before.before.before.before.before.number_marks-a.ensures.0 (omega arith))),
       ),
     ))
-    (λ c. number-done _ _ _ _ _ _ _ _ _ _ _ _ _ c.before.before.before.before.before.before.before.all-below.ensures
-    c.before.before.before.before.before.before.number-marks.ensures c.before.before.before.before.number-marks2.ensures
-    c.before.before.number-marks3.ensures c.number-marks4.ensures))
+    (λ c. number-done _ _ _ _ _ _ _ _ _ _ _ _ _ c.before.before.before.before.before.before.before.all_below.ensures
+    c.before.before.before.before.before.before.number_marks-a.ensures c.before.before.before.before.number_marks-b.ensures
+    c.before.before.number_marks-c.ensures c.number_marks-d.ensures))

@@ -12,10 +12,10 @@ use native.Mathlib.Omega.{arith}
 use Rattle.smaller_deriver.proofs.marks.number_marks.Statement.{statement}
 use Rattle.smaller_deriver.proofs.marks.number_marks.Tie as tie
 
-abbrev invariant-loop : tie.invariant-loop
+abbrev invariant-loop : tie.invariant-loop-e
 invariant-loop table₀ at n set next free₀ e₀ table free e = (e ≤ n) × (free ≡ next + tally e (has (number set))) × (table ≡ sets table₀ at (each e (numbered (number set) next)))
 
-abbrev decreases-loop : tie.decreases-loop
+abbrev decreases-loop : tie.decreases-loop-e
 decreases-loop table₀ at n set next free₀ e₀ table free e = n - e
 
 pub number_marks_spec : {M : Type 1} → statement M
@@ -26,20 +26,20 @@ number_marks_spec =
     decreases-loop
     (λ c. unfold flat tally in (omega arith, omega arith, refl))
     (λ c κs. search rules)
-    (λ c κs. omega (arith, free-few _ _ _ _ _ c.before.loop-test.true c.before.before.loop.invariant.1))
+    (λ c κs. omega (arith, free-few _ _ _ _ _ c.before.loop-e-test.true c.before.before.loop-e.invariant.1))
     (λ c. search rules)
     (λ c. omega arith)
     (λ c. omega arith)
-    (λ c κs. omega (arith, free-few _ _ _ _ _ c.before.before.loop-test.true c.before.before.before.loop.invariant.1))
+    (λ c κs. omega (arith, free-few _ _ _ _ _ c.before.before.loop-e-test.true c.before.before.before.loop-e.invariant.1))
     (λ c. search rules)
     (λ c. search rules)
     (λ c. (
       omega arith,
-      free_more _ _ _ _ _ _ c.before.before.member.ensures c.before.before.before.before.loop.invariant.1 c.next-number.ensures,
-      numbers_more _ _ _ _ _ _ _ (number-made _ _ _ _ _ _ c.before.before.member.ensures c.before.before.before.before.loop.invariant.1
-          c.before.number_of_lem.ensures) c.before.before.before.before.loop.invariant.2,
+      free_more _ _ _ _ _ _ c.before.before.member-stays.ensures c.before.before.before.before.loop-e.invariant.1 c.next_number-free.ensures,
+      numbers_more _ _ _ _ _ _ _ (number-made _ _ _ _ _ _ c.before.before.member-stays.ensures c.before.before.before.before.loop-e.invariant.1
+          c.before.number_of.ensures) c.before.before.before.before.loop-e.invariant.2,
     ))
     (λ c. (
-      free_all _ _ _ _ _ c.before.loop.invariant.0 c.loop-test.false c.before.loop.invariant.1,
-      numbers-all _ _ _ _ _ _ _ c.before.loop.invariant.0 c.loop-test.false c.before.loop.invariant.2,
+      free_all _ _ _ _ _ c.before.loop-e.invariant.0 c.loop-e-test.false c.before.loop-e.invariant.1,
+      numbers-all _ _ _ _ _ _ _ c.before.loop-e.invariant.0 c.loop-e-test.false c.before.loop-e.invariant.2,
     )))

@@ -9,10 +9,10 @@ use native.Mathlib.Omega.{arith}
 use Rattle.smaller_deriver.proofs.marks.union_upto.Statement.{statement}
 use Rattle.smaller_deriver.proofs.marks.union_upto.Tie as tie
 
-abbrev invariant-loop : tie.invariant-loop
+abbrev invariant-loop : tie.invariant-loop-e
 invariant-loop n table all₀ e₀ all e = (e ≤ n) × (number all ≡ union_upto e (rows_of table))
 
-abbrev decreases-loop : tie.decreases-loop
+abbrev decreases-loop : tie.decreases-loop-e
 decreases-loop n table all₀ e₀ all e = n - e
 
 pub union_upto_spec : {M : Type 1} → statement M
@@ -22,10 +22,10 @@ union_upto_spec =
     invariant-loop
     decreases-loop
     (λ c κs. search rules)
-    (λ c. unfold union_upto in (omega arith, c.empty.ensures))
+    (λ c. unfold union_upto in (omega arith, c.empty-all.ensures))
     (λ c κs. search rules)
     (λ c κs. search rules)
     (λ c. search rules)
     (λ c. search rules)
-    (λ c. (omega arith, union_more _ _ _ _ _ c.before.before.before.loop.invariant.1 c.before.row.ensures c.join.ensures))
-    (λ c. union-all _ _ _ _ c.before.loop.invariant.0 c.loop-test.false c.before.loop.invariant.1))
+    (λ c. (omega arith, union_more _ _ _ _ _ c.before.before.before.loop-e.invariant.1 c.before.row.ensures c.join-all.ensures))
+    (λ c. union-all _ _ _ _ c.before.loop-e.invariant.0 c.loop-e-test.false c.before.loop-e.invariant.1))
