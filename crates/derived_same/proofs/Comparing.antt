@@ -20,7 +20,8 @@ use Rattle.flat_chart.specs.Flat.{FlatChart}
 use Rattle.book.specs.ImageOf.{header_bytes, rule_bytes, condition_bytes, length-rule, length-condition}
 use Rattle.derived.specs.Parts.{completion_at, CompletionsIn, completions-in, text_at, condition_part, TextsIn, texts-in}
 use Rattle.derived.specs.Derived.{stage_rules}
-use Rattle.derived.specs.Sizes.{completion_size, completions_size, length-completion, completion-le, texts_size, length-text, text-le}
+use Rattle.derived.specs.Sizes.{completion_size, completions_size, length-completion, completion-le, texts_size, text-le}
+use Rattle.derived.proofs.Sizes.{length-text}
 use Rattle.deriver.specs.Deriving.{derived_image, book_runs, bytes-are, image-runs}
 use Rattle.derived_same.specs.Same.{part_room, runs_behind, RunsReady}
 

@@ -1,4 +1,6 @@
 // Whether given bytes are a chart's derived book, compared part by part while the deriver's own writers write it: no second book is made.
+#![tactic(auto)]
+
 ghost use Rattle.std.specs.Prelude.{◌≡◌, ◌+◌, ◌≤◌, length, take};
 ghost use Rattle.paper.specs.Limits.{max_events, book_header};
 ghost use Rattle.general.specs.Comparing.{same_bytes, stands_at};

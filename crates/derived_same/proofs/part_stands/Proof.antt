@@ -6,10 +6,10 @@ use borrow.Author.Rules.{rules}
 use Rattle.derived_same.proofs.part_stands.Statement.{statement}
 use Rattle.derived_same.proofs.part_stands.Tie as tie
 
-abbrev invariant-loop : tie.invariant-loop
+abbrev invariant-loop : tie.invariant-loop-i
 invariant-loop image at part count i₀ i = Stand (byte_of part) count image at i (at + i)
 
-abbrev decreases-loop : tie.decreases-loop
+abbrev decreases-loop : tie.decreases-loop-i
 decreases-loop image at part count i₀ i = count - i
 
 pub part_stands_spec : {M : Type 1} → statement M
