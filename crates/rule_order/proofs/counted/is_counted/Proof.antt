@@ -12,7 +12,7 @@ is_counted_spec =
     (λ c. search rules)
     (λ c. search rules)
     (λ c. search rules)
-    (λ c. counts-other _ _ _ c.before.before.before.requires.1 (λ z. omega (arith, z, c.if1.true)))
+    (λ c. counts-other _ _ _ c.before.before.before.requires.1 (λ z. omega (arith, z, c.if-image-at-ne-TRIGGER_COMPLETED.true)))
     (λ c. search rules)
     (λ c κs. search rules)
     (λ c. search rules)

@@ -26,8 +26,8 @@ mark_named_spec =
     let w = c.before in
     let v = w.before.before in
     let p = v.before.before.before.before.before in
-    named_none _ p.requires.0 _ p.requires.1 _ _ _ _ v.before.before.before.record-at.ensures v.before.before.u32-at.ensures v.before.u32-at2.ensures v.u32-at3.ensures _ _
-    p.requires.2 _ w.read-on.ensures c.if1.true)
+    named_none _ p.requires.0 _ p.requires.1 _ _ _ _ v.before.before.before.record_at-record.ensures v.before.before.u32_at-start.ensures v.before.u32_at-count.ensures v.u32_at-words.ensures _ _
+    p.requires.2 _ w.read_on-to.ensures c.if-to-count.true)
     (λ c. search rules)
     (λ c. search rules)
     (λ c. search rules)
@@ -35,12 +35,12 @@ mark_named_spec =
     let w = c.before in
     let v = w.before.before in
     let p = v.before.before.before.before.before in
-    named-inside _ p.requires.0 _ p.requires.1 _ _ _ _ v.before.before.before.record-at.ensures v.before.before.u32-at.ensures v.before.u32-at2.ensures v.u32-at3.ensures _ _
-    p.requires.2 _ w.read-on.ensures c.if1.false)
+    named-inside _ p.requires.0 _ p.requires.1 _ _ _ _ v.before.before.before.record_at-record.ensures v.before.before.u32_at-start.ensures v.before.u32_at-count.ensures v.u32_at-words.ensures _ _
+    p.requires.2 _ w.read_on-to.ensures c.if-to-count.false)
     (λ c. search rules)
     (λ c.
     let w = c.before.before in
     let v = w.before.before in
     let p = v.before.before.before.before.before in
-    named-one _ p.requires.0 _ p.requires.1 _ _ _ _ v.before.before.before.record-at.ensures v.before.before.u32-at.ensures v.before.u32-at2.ensures v.u32-at3.ensures _ _
-    p.requires.2 _ w.read-on.ensures _ c.before.if1.false c.u16-at.ensures))
+    named-one _ p.requires.0 _ p.requires.1 _ _ _ _ v.before.before.before.record_at-record.ensures v.before.before.u32_at-start.ensures v.before.u32_at-count.ensures v.u32_at-words.ensures _ _
+    p.requires.2 _ w.read_on-to.ensures _ c.before.if-to-count.false c.u16_at.ensures))

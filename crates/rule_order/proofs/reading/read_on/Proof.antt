@@ -6,10 +6,10 @@ use borrow.Author.Rules.{rules}
 use Rattle.rule_order.proofs.reading.read_on.Statement.{statement}
 use Rattle.rule_order.proofs.reading.read_on.Tie as tie
 
-abbrev invariant-loop : tie.invariant-loop
+abbrev invariant-loop : tie.invariant-loop-i
 invariant-loop image at from count set i₀ i = Clear image at from count set i
 
-abbrev decreases-loop : tie.decreases-loop
+abbrev decreases-loop : tie.decreases-loop-i
 decreases-loop image at from count set i₀ i = count - i
 
 pub read_on_spec : {M : Type 1} → statement M

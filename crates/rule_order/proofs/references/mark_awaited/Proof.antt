@@ -17,7 +17,7 @@ mark_awaited_spec =
     (λ c κs. search rules)
     (λ c. search rules)
     (λ c. search rules)
-    (λ c. omega (arith, awaited-in _ _ c.before.before.before.before.requires.0 c.before.before.before.before.requires.1 _ c.before.if1.false c.u16-at.ensures))
+    (λ c. omega (arith, awaited-in _ _ c.before.before.before.before.requires.0 c.before.before.before.before.requires.1 _ c.before.if-image-at-lt-TRIGGER_BECOME_YES.false c.u16_at-m.ensures))
     (λ c κs. search rules)
     (λ c. search awaits-mark)
     (λ c. search awaits-other))
