@@ -15,7 +15,8 @@ use Rattle.book.specs.Marks.{word_bits, mark_words, has_mark}
 use Rattle.order_theory.specs.Order.{Net, Counted, counted_rules}
 use Rattle.order_theory.specs.Written.{Written, write}
 use Rattle.order_theory.specs.Marks.{waiting, is_settled, waiting-first, waiting-less, waiting-other}
-use Rattle.order_theory.specs.Skipped.{skipped, skipped-waiting}
+use Rattle.order_theory.specs.Skipped.{skipped}
+use Rattle.order_theory.proofs.Skipped.{skipped-waiting}
 use Rattle.rule_order.specs.Freed.{Shrunk}
 use Rattle.unwritten.specs.Words.{rule_words, marked, unmarked, has-marked, has-unmarked, flagged, AllWritten}
 

@@ -14,8 +14,8 @@ count_targets_spec =
     (λ c κs. omega (arith, rules-few _ c.before.before.before.before.requires.0))
     (λ c κs. let p = c.before.before.before.before.before.before.before.before.before.requires in
     let x = p.2 in
-    (p.0, x.first, omega (arith, p.1), counting-first _ _ _ _ _ _ (p.1 ∙ sym (count-is _ _)) x _ c.before.before.before.before.write-all.ensures))
+    (p.0, x.first, omega (arith, p.1), counting-first _ _ _ _ _ _ (p.1 ∙ sym (count-is _ _)) x _ c.before.before.before.before.write_all.ensures))
     (λ c κs. let p = c.before.before.before.before.before.before.before.before.before.before.before.before.before.requires in
     let x = p.2 in
-    (p.0, x.then, omega (arith, p.1), counting-gap _ _ _ _ _ _ (p.1 ∙ sym (count-is _ _)) x _ _ _ _ c.before.before.before.count-span.ensures))
-    (λ c. let p = c.before.before.before.before.before.before.before.before.before.before.before.before.before.before.requires in (counting-last _ _ _ _ _ _ _ _ _ _ (counts_past _ _) (p.1 ∙ sym (count-is _ _)) p.2 c.count-span2.ensures, freed-first _ _)))
+    (p.0, x.then, omega (arith, p.1), counting-gap _ _ _ _ _ _ (p.1 ∙ sym (count-is _ _)) x _ _ _ _ c.before.before.before.count_span-first.ensures))
+    (λ c. let p = c.before.before.before.before.before.before.before.before.before.before.before.before.before.before.requires in (counting-last _ _ _ _ _ _ _ _ _ _ (counts_past _ _) (p.1 ∙ sym (count-is _ _)) p.2 c.count_span.ensures, freed-first _ _)))

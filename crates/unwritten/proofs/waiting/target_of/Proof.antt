@@ -13,4 +13,4 @@ target_of_spec =
     (λ c. search rules)
     (λ c κs. search rules)
     (λ c. search rules)
-    (λ c. target-says _ c.before.before.requires.0 _ _ c.before.before.requires.1 c.u16-at.ensures))
+    (λ c. target-says _ c.before.before.requires.0 _ _ c.before.before.requires.1 c.u16_at.ensures))

@@ -7,10 +7,10 @@ use borrow.Author.Rules.{rules}
 use Rattle.unwritten.proofs.written.write_all.Statement.{statement}
 use Rattle.unwritten.proofs.written.write_all.Tie as tie
 
-abbrev invariant-loop : tie.invariant-loop
+abbrev invariant-loop : tie.invariant-loop-w
 invariant-loop written₀ rules words w₀ written w = (AllWritten (word_bits * w) written) × (w ≤ words)
 
-abbrev decreases-loop : tie.decreases-loop
+abbrev decreases-loop : tie.decreases-loop-w
 decreases-loop written₀ rules words w₀ written w = words - w
 
 pub write_all_spec : {M : Type 1} → statement M
@@ -25,7 +25,7 @@ write_all_spec =
     (λ c. search rules)
     (λ c. search rules)
     (λ c. search rules)
-    (λ c. (all-word _ _ _ c.before.before.loop.invariant.0 (search rules) c.all-below.ensures, search rules))
+    (λ c. (all-word _ _ _ c.before.before.loop-w.invariant.0 (search rules) c.all_below.ensures, search rules))
     (λ c κs. search rules)
     (λ c. search rules)
     (λ c. search rules)
