@@ -14,9 +14,11 @@ use Rattle.book.specs.Marks.{word_bits}
 use Rattle.book.specs.WellFormed.{WellFormed}
 use Rattle.order_theory.specs.Order.{Counted, counted_rules}
 use Rattle.order_theory.specs.Written.{Written, none}
-use Rattle.order_theory.specs.Running.{ready, ready-is}
+use Rattle.order_theory.specs.Running.{ready}
+use Rattle.order_theory.proofs.Running.{ready-is}
 use Rattle.order_theory.specs.Pass.{fine, passes, fit_pass, passes-end, passes_on, passes-stop}
-use Rattle.order_theory.specs.Skipped.{Skips, skips-first, skips-write, skipped-passes}
+use Rattle.order_theory.specs.Skipped.{Skips, skips-first, skips-write}
+use Rattle.order_theory.proofs.Skipped.{skipped-passes}
 use Rattle.rule_order.specs.Nets.{rules_of, target-in, below-count, past-count, rules-few}
 use Rattle.unwritten.specs.Words.{rule_words, marked, flagged, flagged-set}
 use Rattle.unwritten.specs.Counters.{Counters, Begun, Struck, struck-on}

@@ -11,7 +11,8 @@ use Rattle.paper.specs.Limits.{max_marks, max_rules}
 use Rattle.book.specs.Image.{rules_in}
 use Rattle.book.specs.WellFormed.{WellFormed}
 use Rattle.order_theory.specs.Order.{NoLoop, counted_rules, counted-few}
-use Rattle.order_theory.specs.Running.{running_order, running-length}
+use Rattle.order_theory.specs.Running.{running_order}
+use Rattle.order_theory.proofs.Running.{running-length}
 use Rattle.rule_order.specs.Nets.{rules_of, targets-small, rules-few, few-count}
 use Rattle.unwritten.specs.Counters.{Begun}
 use Rattle.ordering.specs.declared.scan.Scan.{Scan}

@@ -18,7 +18,8 @@ use Rattle.book.specs.Marks.{word_bits, has_mark}
 use Rattle.book.specs.WellFormed.{WellFormed}
 use Rattle.order_theory.specs.Order.{Counted}
 use Rattle.order_theory.specs.Written.{Written, write}
-use Rattle.order_theory.specs.Running.{unwritten, unwritten-less, ready, ready-is, next, greedy, greedy-on, greedy-end, running_order}
+use Rattle.order_theory.specs.Running.{unwritten, ready, next, greedy, greedy-on, greedy-end, running_order}
+use Rattle.order_theory.proofs.Running.{unwritten-less, ready-is}
 use Rattle.order_theory.specs.Skipped.{Skips, skips-write}
 use Rattle.unwritten.specs.Words.{marked, flagged, flagged-set, has-unmarked, Onward}
 use Rattle.rule_order.specs.Nets.{rules_of, count-is, target-in, below-count, rules-few}

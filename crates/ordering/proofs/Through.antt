@@ -14,7 +14,8 @@ use Rattle.book.specs.Image.{rules_in}
 use Rattle.book.specs.WellFormed.{WellFormed}
 use Rattle.order_theory.specs.Order.{Net, NoLoop, counted_rules}
 use Rattle.order_theory.specs.Written.{Written, none, write, each-listed}
-use Rattle.order_theory.specs.Running.{next, greedy, running_order, fresh, greedy-distinct, running-whole, running-length}
+use Rattle.order_theory.specs.Running.{next, greedy, running_order}
+use Rattle.order_theory.proofs.Running.{fresh, greedy-distinct, running-whole, running-length}
 use Rattle.rule_order.specs.Nets.{rules_of, targets-small}
 use Rattle.unwritten.specs.Counters.{Begun}
 use Rattle.ordering.specs.declared.scan.Scan.{Scan}

@@ -14,7 +14,8 @@ use Rattle.order_theory.specs.Order.{Net}
 use Rattle.order_theory.specs.Written.{Written}
 use Rattle.order_theory.specs.Running.{ready}
 use Rattle.order_theory.specs.Marks.{is_settled}
-use Rattle.order_theory.specs.Skipped.{Skips, ready-skips}
+use Rattle.order_theory.specs.Skipped.{Skips}
+use Rattle.order_theory.proofs.Skipped.{ready-skips}
 use Rattle.rule_order.specs.Rules.{net_of}
 use Rattle.rule_order.specs.Nets.{rules_of, targets-small}
 use Rattle.rule_order.specs.References.{touches, Witness, witness-touches}

@@ -7,8 +7,10 @@ use Rattle.paper.specs.Limits.{max_marks}
 use Rattle.book.specs.Image.{rules_in}
 use Rattle.order_theory.specs.Order.{Net, Counted, counted_rules}
 use Rattle.order_theory.specs.Written.{Written, none}
-use Rattle.order_theory.specs.Running.{unwritten, fresh, greedy, running_order}
-use Rattle.order_theory.specs.Skipped.{skipped, Skips, skips-first, skipped-unwritten, skipped-running}
+use Rattle.order_theory.specs.Running.{unwritten, greedy, running_order}
+use Rattle.order_theory.proofs.Running.{fresh}
+use Rattle.order_theory.specs.Skipped.{skipped, Skips, skips-first}
+use Rattle.order_theory.proofs.Skipped.{skipped-unwritten, skipped-running}
 use Rattle.order_theory.specs.Index.{mem-any}
 use Rattle.unwritten.specs.Words.{rule_words, flagged}
 use Rattle.rule_order.specs.Nets.{rules_of, count-is}

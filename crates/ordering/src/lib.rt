@@ -1,4 +1,5 @@
 // The order of the rules that count for a stage: which rule may stand next, the running order, and whether a given order is fit.
+#![tactic(auto)]
 
 pub mod fit;
 pub mod ready;

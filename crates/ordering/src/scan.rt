@@ -17,7 +17,7 @@ use unwritten::written::{RULE_WORDS, is_written, mark_written, onward};
 
 // The rule that was found, and where the scan stands then. An unwritten rule below `at`, or from `until` on and below `front`, was
 // passed over: it waits for a mark, and stands in the range that is noted for that mark.
-#[derive(Drop)]
+#[derive(Clone, Copy)]
 pub struct Scan {
     pub rule: usize,
     pub at: usize,

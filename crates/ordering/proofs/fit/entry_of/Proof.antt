@@ -10,5 +10,5 @@ entry_of_spec =
     (tie.spec
     (λ c. search rules)
     (λ c. search rules)
-    (λ c. omega (arith, c.shared-slice-known.given c.before.args.j))
+    (λ c. omega (arith, c.shared_slice_known-1.given c.before.args.j))
     (λ c. search rules))

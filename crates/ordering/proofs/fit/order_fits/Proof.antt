@@ -9,11 +9,11 @@ use native.Mathlib.Omega.{arith}
 use Rattle.ordering.proofs.fit.order_fits.Statement.{statement}
 use Rattle.ordering.proofs.fit.order_fits.Tie as tie
 
-abbrev invariant-loop : tie.invariant-loop
+abbrev invariant-loop : tie.invariant-loop-j
 invariant-loop image rules stage counts₀ waits₀ written₀ free₀ order counted j₀ counts waits written free j =
     (Fitting image stage order written counts waits j) × (Freed image waits free)
 
-abbrev decreases-loop : tie.decreases-loop
+abbrev decreases-loop : tie.decreases-loop-j
 decreases-loop image rules stage counts₀ waits₀ written₀ free₀ order counted j₀ counts waits written free j = counted - j
 
 pub order_fits_spec : {M : Type 1} → statement M
@@ -23,8 +23,8 @@ order_fits_spec =
     invariant-loop
     decreases-loop
     (λ c κs. search (rules, span-all))
-    (λ c. fitting-short _ _ _ _ c.before.count-targets.ensures.0.0 c.if1.true)
-    (λ c. (fitting-first _ _ _ _ _ _ c.before.count-targets.ensures.0.1, search rules))
+    (λ c. fitting-short _ _ _ _ c.before.count_targets-counted.ensures.0.0 c.if-order-counted.true)
+    (λ c. (fitting-first _ _ _ _ _ _ c.before.count_targets-counted.ensures.0.1, search rules))
     (λ c κs. omega arith)
     (λ c. search fitting-past)
     (λ c κs. (search rules, omega arith, search rules))

@@ -8,11 +8,11 @@ use borrow.Author.Rules.{rules}
 use Rattle.ordering.proofs.running.running_order.Statement.{statement}
 use Rattle.ordering.proofs.running.running_order.Tie as tie
 
-abbrev invariant-loop : tie.invariant-loop
+abbrev invariant-loop : tie.invariant-loop-j
 invariant-loop image rules stage counts₀ waits₀ written₀ free₀ room₀ counted low₀ high₀ scan₀ j₀ counts waits written free room low high scan j =
     (Listed image stage room₀ room counted scan counts waits written low high j) × (Freed image waits free)
 
-abbrev decreases-loop : tie.decreases-loop
+abbrev decreases-loop : tie.decreases-loop-j
 decreases-loop image rules stage counts₀ waits₀ written₀ free₀ room₀ counted low₀ high₀ scan₀ j₀ counts waits written free room low high scan j = counted - j
 
 pub running_order_spec : {M : Type 1} → statement M
@@ -22,12 +22,12 @@ running_order_spec =
     invariant-loop
     decreases-loop
     (λ c κs. search (rules, span-all))
-    (λ c. (c.before.count-targets.ensures.0.0, room-short _ _ _ _ c.before.count-targets.ensures.0.0 c.if1.true))
+    (λ c. (c.before.count_targets-counted.ensures.0.0, room-short _ _ _ _ c.before.count_targets-counted.ensures.0.0 c.if-room-counted.true))
     (λ c κs. search rules)
     (λ c. (search listed-first, search rules))
     (λ c κs. search rules)
-    (λ c. record { fits = listed_small _ _ _ _ _ _ _ _ _ _ _ _ c.before.before.before.before.before.before.before.before.before.loop.invariant.0 _ _ _ _ _ _ c.before.next-rule.ensures.0 c.before.before.before.before.before.before.before.before.before.before.before.before.before.before.before.before.before.before.before.requires.0 })
-    (λ c. record { fits = omega (arith, c.before.before.before.before.before.before.before.before.before.loop.invariant.0.few) })
+    (λ c. record { fits = listed_small _ _ _ _ _ _ _ _ _ _ _ _ c.before.before.before.before.before.before.before.before.before.loop-j.invariant.0 _ _ _ _ _ _ c.before.next_rule-scan.ensures.0 c.before.before.before.before.before.before.before.before.before.before.before.before.before.before.before.before.before.before.before.requires.0 })
+    (λ c. record { fits = omega (arith, c.before.before.before.before.before.before.before.before.before.loop-j.invariant.0.few) })
     (λ c. search listed-room)
     (λ c. search rules)
     (λ c. search rules)
