@@ -6,7 +6,8 @@ use Rattle.general.specs.Lists.{total, total-same, total-scaled, flat, length-fl
 use Rattle.wire.specs.Wire.{bytes32}
 use Rattle.wire.specs.Laws.{length-bytes32}
 use Rattle.order_theory.specs.Order.{counted_rules, NoLoop}
-use Rattle.order_theory.specs.Running.{running_order, running-length}
+use Rattle.order_theory.specs.Running.{running_order}
+use Rattle.order_theory.proofs.Running.{running-length}
 use Rattle.book.specs.Book.{Book}
 use Rattle.book.specs.Image.{book_of}
 use Rattle.book.specs.WellFormed.{WellFormed}

@@ -9,7 +9,8 @@ use Rattle.general.specs.Cases.{cases}
 use Rattle.general.specs.Lists.{packed, packed-append, packed-one}
 use Rattle.wire.specs.Wire.{bytes32}
 use Rattle.order_theory.specs.Order.{Net}
-use Rattle.order_theory.specs.Rising.{Rising, upwards, running-rising}
+use Rattle.order_theory.specs.Rising.{Rising, upwards}
+use Rattle.order_theory.proofs.Rising.{running-rising}
 use Rattle.book.specs.Image.{rules_in, book_of}
 use Rattle.rule_order.specs.Nets.{rules_of, count-is}
 use Rattle.unwritten.specs.Counters.{Span}

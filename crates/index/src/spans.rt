@@ -52,7 +52,7 @@ pub fn find_spans(image: &[u8], rules: usize, low: &mut [u32; PLACES], high: &mu
 }
 
 // All rules that count for a stage are from `from` to below `to`, or from `again` to below `end`.
-#[derive(Drop)]
+#[derive(Clone, Copy)]
 pub struct Span {
     pub from: usize,
     pub to: usize,

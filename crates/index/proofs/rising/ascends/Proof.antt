@@ -1,4 +1,6 @@
 -- `index::rising::ascends` meets its contract. Assumes nothing.
+use Rattle.std.specs.Prelude.{not}
+use Rattle.std.proofs.Common.{ap}
 use mathlib.Core.Path.{refl}
 use Prim.Native.Nat.{◌-◌}
 use native.Mathlib.Omega.{arith}
@@ -9,10 +11,10 @@ use borrow.Author.Rules.{rules}
 use Rattle.index.proofs.rising.ascends.Statement.{statement}
 use Rattle.index.proofs.rising.ascends.Tie as tie
 
-abbrev invariant-loop : tie.invariant-loop
+abbrev invariant-loop : tie.invariant-loop-r
 invariant-loop image last asked rules r₀ r = Lifting image last r
 
-abbrev decreases-loop : tie.decreases-loop
+abbrev decreases-loop : tie.decreases-loop-r
 decreases-loop image last asked rules r₀ r = rules - r
 
 pub ascends_spec : {M : Type 1} → statement M
@@ -22,13 +24,13 @@ ascends_spec =
     invariant-loop
     decreases-loop
     (λ c. search rules)
-    (λ c κs. (c.before.before.before.requires.formed, opened-rules _ _ c.before.before.before.requires))
-    (λ c κs. c.before.before.before.before.before.before.requires)
+    (λ c κs. (c.requires.formed, opened-rules _ _ c.requires))
+    (λ c κs. c.requires)
     (λ c. lifting-first _ _)
-    (λ c κs. (c.before.before.before.before.before.before.before.before.before.before.requires.formed, omega (arith, opened-rules _ _ c.before.before.before.before.before.before.before.before.before.before.requires, c.before.loop-test.true)))
+    (λ c κs. (c.requires.formed, omega (arith, opened-rules _ _ c.requires, c.loop-r-test.true)))
     (λ c e. contra e refl)
-    (λ c κs. (c.before.before.before.before.before.before.before.before.before.before.before.before.before.requires.formed, omega (arith, opened-rules _ _ c.before.before.before.before.before.before.before.before.before.before.before.before.before.requires, c.before.before.before.before.loop-test.true)))
+    (λ c κs. (c.requires.formed, omega (arith, opened-rules _ _ c.requires, c.before.before.loop-r-test.true)))
     (λ c e. contra e refl)
     (λ c. search rules) (λ c. search rules)
-    (λ c. lifting-more _ _ _ c.before.before.before.before.before.before.before.before.before.before.before.before.before.before.before.requires.formed c.before.before.before.before.before.before.before.before.last-texts.ensures _ c.before.before.before.before.before.before.before.loop.invariant (c.before.before.before.before.mark-ascends.ensures (not-false _ c.before.before.before.if1.false)) (c.before.text-ascends.ensures (not-false _ c.if2.false)))
-    (λ c e. lifting-last _ _ _ c.before.before.before.before.before.before.before.before.before.requires.formed c.before.before.last-texts.ensures _ _ (opened-rules _ _ c.before.before.before.before.before.before.before.before.before.requires) c.before.before.before.before.before.last-targets.ensures c.before.loop.invariant c.loop-test.false))
+    (λ c. lifting-more _ _ _ c.requires.formed c.before.before.before.before.before.before.last_texts.ensures _ c.before.before.before.before.before.loop-r.invariant (c.before.before.before.mark_ascends.ensures (not-false _ (ap not c.before.before.if-not-mark_ascends.false))) (c.before.text_ascends.ensures (not-false _ (ap not c.if-not-text_ascends.false))))
+    (λ c e. lifting-last _ _ _ c.requires.formed c.before.before.last_texts.ensures _ _ (opened-rules _ _ c.requires) c.before.before.before.before.last_targets.ensures c.before.loop-r.invariant c.loop-r-test.false))

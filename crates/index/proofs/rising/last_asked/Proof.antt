@@ -11,5 +11,5 @@ last_asked_spec =
     (tie.spec
     (λ c κs. span-inside _ _ c.before.requires.0 _ c.before.requires.1)
     (λ c κs. search rules) (λ c. search rules) (λ c. search rules) (λ c. search rules) (λ c. search rules)
-    (λ c κs. (span-asks _ _ c.before.before.before.before.before.requires.0 _ c.before.before.before.before.before.requires.1 _ _ c.before.before.before.condition-in.ensures c.before.before.words-from.ensures).0)
-    (λ c. text-above _ _ c.before.before.before.before.before.before.requires.0 _ c.before.before.before.before.before.before.requires.1 _ _ c.before.before.before.before.condition-in.ensures c.before.before.before.words-from.ensures _ _ c.last-named.ensures))
+    (λ c κs. (span-asks _ _ c.before.before.before.before.before.requires.0 _ c.before.before.before.before.before.requires.1 _ _ c.before.before.before.condition_in-span.ensures c.before.before.words_from-from.ensures).0)
+    (λ c. text-above _ _ c.before.before.before.before.before.before.requires.0 _ c.before.before.before.before.before.before.requires.1 _ _ c.before.before.before.before.condition_in-span.ensures c.before.before.before.words_from-from.ensures _ _ c.last_named.ensures))

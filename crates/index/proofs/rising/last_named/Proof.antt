@@ -7,10 +7,10 @@ use borrow.Author.Rules.{rules}
 use Rattle.index.proofs.rising.last_named.Statement.{statement}
 use Rattle.index.proofs.rising.last_named.Tie as tie
 
-abbrev invariant-loop : tie.invariant-loop
+abbrev invariant-loop : tie.invariant-loop-i
 invariant-loop image at count last most₀ i₀ most i = Above last (words_from image at count) i most
 
-abbrev decreases-loop : tie.decreases-loop
+abbrev decreases-loop : tie.decreases-loop-i
 decreases-loop image at count last most₀ i₀ most i = count - i
 
 pub last_named_spec : {M : Type 1} → statement M
@@ -22,5 +22,5 @@ last_named_spec =
     (λ c. above-first _ _)
     (λ c. search rules) (λ c. search rules) (λ c κs. search rules) (λ c. search rules) (λ c κs. search rules) (λ c κs. search rules)
     (λ c. search rules) (λ c. search rules)
-    (λ c. above_more _ _ _ _ _ _ c.before.before.before.before.loop.invariant c.before.before.before.loop-test.true _ _ _ c.before.before.u16-at.ensures c.before.last_of.ensures (c.higher.ensures.0, c.higher.ensures.1))
-    (λ c. above-last _ _ _ _ _ _ c.before.loop.invariant c.loop-test.false))
+    (λ c. above_more _ _ _ _ _ _ c.before.before.before.before.loop-i.invariant c.before.before.before.loop-i-test.true _ _ _ c.before.before.u16_at-word.ensures c.before.last_of.ensures (c.higher-most.ensures.0, c.higher-most.ensures.1))
+    (λ c. above-last _ _ _ _ _ _ c.before.loop-i.invariant c.loop-i-test.false))

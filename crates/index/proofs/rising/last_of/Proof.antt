@@ -8,6 +8,6 @@ pub last_of_spec : {M : Type 1} → statement M
 last_of_spec =
     tie.close
     (tie.spec
-    (λ c h. absurd (omega (arith, c.if1.true)))
+    (λ c h. absurd (omega (arith, c.if-word-ge-MAX_MARKS.true)))
     (λ c. search rules) (λ c. search rules)
     (λ c h. omega arith))

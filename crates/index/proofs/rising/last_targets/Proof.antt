@@ -8,10 +8,10 @@ use borrow.Author.Rules.{rules}
 use Rattle.index.proofs.rising.last_targets.Statement.{statement}
 use Rattle.index.proofs.rising.last_targets.Tie as tie
 
-abbrev invariant-loop : tie.invariant-loop
+abbrev invariant-loop : tie.invariant-loop-r
 invariant-loop image rules last₀ r₀ last r = Targeted image r last
 
-abbrev decreases-loop : tie.decreases-loop
+abbrev decreases-loop : tie.decreases-loop-r
 decreases-loop image rules last₀ r₀ last r = rules - r
 
 pub last_targets_spec : {M : Type 1} → statement M
@@ -22,8 +22,8 @@ last_targets_spec =
     decreases-loop
     (λ c. targeted-first _)
     (λ c κs. search rules)
-    (λ c. omega (arith, rules-few _ c.before.before.before.before.before.requires.0, c.before.loop-test.true))
-    (λ c. record { fits = omega (arith, rules-few _ c.before.before.before.before.before.requires.0, c.before.loop-test.true) })
+    (λ c. omega (arith, rules-few _ c.before.before.before.before.before.requires.0, c.before.loop-r-test.true))
+    (λ c. record { fits = omega (arith, rules-few _ c.before.before.before.before.before.requires.0, c.before.loop-r-test.true) })
     (λ c. search rules)
     (λ c. search rules)
     (λ c. search rules)

@@ -14,6 +14,6 @@ text_ascends_spec =
     (λ c. search rules) (λ c. search rules) (λ c. search rules) (λ c. search rules)
     (λ c e. search reading-none)
     (λ c. search rules) (λ c κs. search rules) (λ c. search rules) (λ c. search rules)
-    (λ c. let p = c.before.before.before.before.requires in let l = p.0.headed.counted.conditions in omega (arith, asked_in _ _ p.0 p.1 _ c.before.if1.false c.u16-at.ensures))
+    (λ c. let p = c.before.before.before.before.requires in let l = p.0.headed.counted.conditions in omega (arith, asked_in _ _ p.0 p.1 _ c.before.if-image-at-lt-SENSE_AS_WRITTEN.false c.u16_at-c.ensures))
     (λ c. omega (arith, rules-few _ c.before.before.before.before.before.requires.0))
     (λ c e. search reading-text))

@@ -7,10 +7,10 @@ use borrow.Author.Rules.{rules}
 use Rattle.index.proofs.spans.find_spans.Statement.{statement}
 use Rattle.index.proofs.spans.find_spans.Tie as tie
 
-abbrev invariant-loop : tie.invariant-loop
+abbrev invariant-loop : tie.invariant-loop-r
 invariant-loop image rules low₀ high₀ none r₀ low high r = Spans image rules r low high
 
-abbrev decreases-loop : tie.decreases-loop
+abbrev decreases-loop : tie.decreases-loop-r
 decreases-loop image rules low₀ high₀ none r₀ low high r = rules - r
 
 pub find_spans_spec : {M : Type 1} → statement M
@@ -35,5 +35,5 @@ find_spans_spec =
     (λ c. search rules)
     (λ c. search rules)
     (λ c. let p = c.before.before.before.before.before.before.before.before.requires in
-    spans-more _ _ p.0 p.1 _ _ _ c.before.before.before.before.loop.invariant c.before.before.before.loop-test.true _ _ c.before.before.place_of.ensures.0 c.before.before.place_of.ensures.1 c.lower.ensures.0 c.lower.ensures.1)
+    spans-more _ _ p.0 p.1 _ _ _ c.before.before.before.before.loop-r.invariant c.before.before.before.loop-r-test.true _ _ c.before.before.place_of-p.ensures.0 c.before.before.place_of-p.ensures.1 c.lower.ensures.0 c.lower.ensures.1)
     (λ c. search spans-last))

@@ -23,10 +23,10 @@ span_of_spec =
     (λ c κs. search rules)
     (λ c. search rules)
     (λ c. let p = c.before.before.before.before.before.before.before.requires.1 in
-    covers-apart _ _ _ _ _ _ _ c.before.before.if1.true c.before.lower.ensures c.higher.ensures (p.from max_events (omega arith)) (p.to max_events (omega arith)))
+    covers-apart _ _ _ _ _ _ _ c.before.before.if-last-common.true c.before.lower.ensures c.higher.ensures (p.from max_events (omega arith)) (p.to max_events (omega arith)))
     (λ c κs. search rules)
     (λ c. search rules)
     (λ c κs. search rules)
     (λ c. search rules)
     (λ c. let p = c.before.before.before.before.before.before.before.requires in
-    covers-joined _ _ _ _ _ _ _ c.before.before.if1.false c.before.lower2.ensures c.higher2.ensures (p.1.to c.before.before.before.before.before.before.before.args.stage (omega (arith, p.0))) (p.1.to max_events (omega arith))))
+    covers-joined _ _ _ _ _ _ _ c.before.before.if-last-common.false c.before.lower-2.ensures c.higher-2.ensures (p.1.to c.before.before.before.before.before.before.before.args.stage (omega (arith, p.0))) (p.1.to max_events (omega arith))))

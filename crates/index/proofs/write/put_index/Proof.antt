@@ -11,12 +11,12 @@ put_index_spec =
     (tie.spec
     (λ c κs. let p = c.before.before.before.requires in index-fits-1 _ _ _ _ c.before.before.before.args.room.now p.0 p.1)
     (λ c. search rules)
-    (λ c κs. let p = c.before.before.before.before.before.before.before.before.requires in (ready-sized _ _ _ _ p.0, index-fits-2 _ _ _ _ _ p.0 p.1 _ _ c.before.before.before.before.put-pair.ensures))
+    (λ c κs. let p = c.before.before.before.before.before.before.before.before.requires in (ready-sized _ _ _ _ p.0, index-fits-2 _ _ _ _ _ p.0 p.1 _ _ c.before.before.before.before.put_pair-a.ensures))
     (λ c κs. let p = c.before.before.before.before.before.before.before.before.before.before.before.before.before.before.before.before.requires in (
       p.0.opened,
       (ready-sized _ _ _ _ p.0).few,
       ready-acyclic _ _ _ _ p.0,
-      index-fits-3 _ _ _ _ _ p.0 p.1 _ _ c.before.before.before.before.before.before.before.before.before.before.before.before.put-pair.ensures _ _ c.before.before.before.before.before.before.before.put_entries.ensures,
+      index-fits-3 _ _ _ _ _ p.0 p.1 _ _ c.before.before.before.before.before.before.before.before.before.before.before.before.put_pair-a.ensures _ _ c.before.before.before.before.before.before.before.put_entries-b.ensures,
     ))
     (λ c. search rules)
-    (λ c. let p = c.before.before.before.before.before.before.before.before.before.before.before.before.before.before.before.before.before.before.before.requires in index-wrote _ _ _ _ _ p.0 p.1 _ _ c.before.before.before.before.before.before.before.before.before.before.before.before.before.before.before.put-pair.ensures _ _ c.before.before.before.before.before.before.before.before.before.before.put_entries.ensures _ _ c.before.before.put-orders.ensures))
+    (λ c. let p = c.before.before.before.before.before.before.before.before.before.before.before.before.before.before.before.before.before.before.before.requires in index-wrote _ _ _ _ _ p.0 p.1 _ _ c.before.before.before.before.before.before.before.before.before.before.before.before.before.before.before.put_pair-a.ensures _ _ c.before.before.before.before.before.before.before.before.before.before.put_entries-b.ensures _ _ c.before.before.put_orders.ensures))

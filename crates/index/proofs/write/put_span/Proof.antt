@@ -5,10 +5,10 @@ use borrow.Author.Rules.{rules}
 use Rattle.index.proofs.write.put_span.Statement.{statement}
 use Rattle.index.proofs.write.put_span.Tie as tie
 
-abbrev invariant-loop : tie.invariant-loop
+abbrev invariant-loop : tie.invariant-loop-r
 invariant-loop image stage from to room₀ at next₀ r₀ room next r = Listing image stage from to room₀ at r next room
 
-abbrev decreases-loop : tie.decreases-loop
+abbrev decreases-loop : tie.decreases-loop-r
 decreases-loop image stage from to room₀ at next₀ r₀ room next r = to - r
 
 pub put_span_spec : {M : Type 1} → statement M
