@@ -14,7 +14,8 @@ use Rattle.wire.specs.Wire.{u32_at, bytes32}
 use Rattle.wire.specs.Laws.{length-bytes32}
 use Rattle.order_theory.specs.Order.{counted_rules}
 use Rattle.order_theory.specs.Running.{running_order}
-use Rattle.order_theory.specs.Rising.{Rising, rises, order-rises}
+use Rattle.order_theory.specs.Rising.{Rising, rises}
+use Rattle.order_theory.proofs.Rising.{order-rises}
 use Rattle.book.specs.Image.{book_of}
 use Rattle.rule_order.specs.Nets.{rules_of}
 use Rattle.index.specs.Index.{order_bytes}

@@ -1,4 +1,6 @@
 // Whether given bytes are the index image, compared run by run while the orders are made, or entry by entry where orders rise: no copy of the image is kept.
+#![tactic(auto)]
+
 pub mod rising;
 
 ghost use Rattle.std.specs.Prelude.{◌≡◌, true, ◌++◌, ◌+◌, ◌≤◌, length};

@@ -6,10 +6,10 @@ use borrow.Author.Rules.{rules}
 use Rattle.index_fit.proofs.entries_same.Statement.{statement}
 use Rattle.index_fit.proofs.entries_same.Tie as tie
 
-abbrev invariant-loop : tie.invariant-loop
+abbrev invariant-loop : tie.invariant-loop-s
 invariant-loop stages common table index at next₀ offset₀ s₀ next offset s = Entering stages table common index at s next offset
 
-abbrev decreases-loop : tie.decreases-loop
+abbrev decreases-loop : tie.decreases-loop-s
 decreases-loop stages common table index at next₀ offset₀ s₀ next offset s = stages - s
 
 pub entries_same_spec : {M : Type 1} → statement M
@@ -20,33 +20,33 @@ entries_same_spec =
     decreases-loop
     (λ c. search rules) (λ c. search rules)
     (λ c. search entering-first)
-    (λ c κs. let z = c.before.before.before.requires.0 in let l = z.few in (omega (arith, c.loop-test.true), z.each _ c.loop-test.true))
-    (λ c. omega (arith, entering-small _ _ _ _ _ _ _ _ c.before.before.loop.invariant c.before.before.before.before.requires.0))
-    (λ c. omega (arith, c.before.before.before.before.requires.0.each _ c.before.loop-test.true, c.order-size.ensures))
+    (λ c κs. let z = c.before.before.before.requires.0 in let l = z.few in (omega (arith, c.loop-s-test.true), z.each _ c.loop-s-test.true))
+    (λ c. omega (arith, entering-small _ _ _ _ _ _ _ _ c.before.before.loop-s.invariant c.before.before.before.before.requires.0))
+    (λ c. omega (arith, c.before.before.before.before.requires.0.each _ c.before.loop-s-test.true, c.order_size-size.ensures))
     (λ c κs. search entering-fits)
     (λ c. search entering-not)
     (λ c. record {
       fits = omega (
         arith,
-        entering-fits _ _ _ _ _ _ _ _ c.before.before.before.before.loop.invariant c.before.before.before.before.before.before.requires.1
-            c.before.before.before.loop-test.true,
-        c.before.before.before.before.before.before.well-formed,
+        entering-fits _ _ _ _ _ _ _ _ c.before.before.before.before.loop-s.invariant c.before.before.before.before.before.before.requires.1
+            c.before.before.before.loop-s-test.true,
+        c.before.before.before.before.before.before.well_formed,
       );
     })
     (λ c. record {
       fits = omega (
         arith,
         c.before.before.before.before.before.before.requires.0.each _
-            c.before.before.before.loop-test.true,
-        c.before.before.order-size.ensures,
+            c.before.before.before.loop-s-test.true,
+        c.before.before.order_size-size.ensures,
       );
     })
     (λ c. record {
       fits = omega (
         arith,
-        c.before.before.before.before.before.before.requires.0.each _ c.before.before.before.loop-test.true,
-        c.before.before.order-size.ensures,
-        entering-small _ _ _ _ _ _ _ _ c.before.before.before.before.loop.invariant c.before.before.before.before.before.before.requires.0,
+        c.before.before.before.before.before.before.requires.0.each _ c.before.before.before.loop-s-test.true,
+        c.before.before.order_size-size.ensures,
+        entering-small _ _ _ _ _ _ _ _ c.before.before.before.before.loop-s.invariant c.before.before.before.before.before.before.requires.0,
       );
     })
     (λ c. search rules) (λ c. search rules)

@@ -8,4 +8,4 @@ pub pair_same_spec : {M : Type 1} → statement M
 pair_same_spec =
     tie.close
     (tie.spec (λ c κs. search rules) (λ c. search rules) (λ c κs. search rules)
-    (λ c. pair_same _ (λ i. (c.before.before.shared-slice-known.given i).fits) _ _ _ _ _ c.before.u32-at.ensures c.u32-at2.ensures))
+    (λ c. pair_same _ (λ i. (c.before.before.shared_slice_known-1.given i).fits) _ _ _ _ _ c.before.u32_at.ensures c.u32_at-2.ensures))

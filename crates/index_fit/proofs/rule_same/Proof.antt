@@ -5,4 +5,4 @@ use Rattle.index_fit.proofs.rule_same.Statement.{statement}
 use Rattle.index_fit.proofs.rule_same.Tie as tie
 
 pub rule_same_spec : {M : Type 1} → statement M
-rule_same_spec = tie.close (tie.spec (λ c κs. search rules) (λ c. rule-same _ (λ i. (c.before.shared-slice-known.given i).fits) _ _ _ c.u32-at.ensures))
+rule_same_spec = tie.close (tie.spec (λ c κs. search rules) (λ c. rule-same _ (λ i. (c.before.shared_slice_known-1.given i).fits) _ _ _ c.u32_at.ensures))

@@ -9,6 +9,6 @@ stage_same_spec =
     tie.close
     (tie.spec
     (λ c κs. let p = c.before.before.before.requires in (p.0, p.1, entries_fit _ _ p.0 p.2 _ p.3 c.before.before.before.args.index.now _ p.5))
-    (λ c. let p = c.before.before.before.before.requires in entries-same _ _ p.0 p.2 _ p.3 _ _ (λ i. (c.before.before.shared-slice-known2.given i).fits) (p.4 c.before.if1.true) _ c.entries-rise.ensures)
+    (λ c. let p = c.before.before.before.before.requires in entries-same _ _ p.0 p.2 _ p.3 _ _ (λ i. (c.before.before.shared_slice_known-2-1.given i).fits) (p.4 c.before.if-rising.true) _ c.entries_rise.ensures)
     (λ c κs. search rules)
     (λ c. search rules))

@@ -6,10 +6,10 @@ use borrow.Author.Rules.{rules}
 use Rattle.index_fit.proofs.rising.entries_rise.Statement.{statement}
 use Rattle.index_fit.proofs.rising.entries_rise.Tie as tie
 
-abbrev invariant-loop : tie.invariant-loop
+abbrev invariant-loop : tie.invariant-loop-j
 invariant-loop image rules stage counted index at next₀ from₀ j₀ next from j = Climbing image stage index at counted j next from
 
-abbrev decreases-loop : tie.decreases-loop
+abbrev decreases-loop : tie.decreases-loop-j
 decreases-loop image rules stage counted index at next₀ from₀ j₀ next from j = counted - j
 
 pub entries_rise_spec : {M : Type 1} → statement M
@@ -25,7 +25,7 @@ entries_rise_spec =
     (λ c. search climbing-not)
     (λ c. search rules)
     (λ c. let b = c.before.before.before.before in
-    record { fits = omega (arith, climbing-fits _ _ _ _ _ _ _ _ b.loop.invariant b.before.before.before.requires.2 c.before.before.before.loop-test.true, b.before.before.before.well-formed) })
+    record { fits = omega (arith, climbing-fits _ _ _ _ _ _ _ _ b.loop-j.invariant b.before.before.before.requires.2 c.before.before.before.loop-j-test.true, b.before.before.before.well_formed) })
     (λ c. search rules)
     (λ c. search rules)
     (λ c. search climbing-more)
