@@ -1,4 +1,6 @@
 // The numbers that a rule is summed up by: its target and effect, the stage whose completion it waits for, its sense; and the senses of a group of rules.
+#![tactic(auto)]
+
 ghost use Rattle.std.specs.Prelude.{◌≡◌, ◌+◌, ◌*◌, ◌≤◌, ◌<◌};
 ghost use Rattle.paper.specs.Limits.{max_marks, max_events};
 ghost use Rattle.wide.specs.Number.{number};

@@ -10,5 +10,5 @@ side_spec =
     tie.close
     (tie.spec
     (λ c. search rules) (λ c. search rules) (λ c. search rules)
-    (λ c. (unfold side in rw c.if1.true, omega arith))
-    (λ c. (unfold side in rw c.if1.false (omega arith), omega arith)))
+    (λ c. (unfold side in rw c.if-set.true, omega arith))
+    (λ c. (unfold side in rw c.if-set.false (omega arith), omega arith)))

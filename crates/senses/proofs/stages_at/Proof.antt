@@ -10,6 +10,6 @@ stages_at_spec =
     tie.close
     (tie.spec
     (λ c κs. search rules)
-    (λ c. unfold stages_at in rw (lt-ltb _ _ c.before.if1.true) c.one.ensures)
+    (λ c. unfold stages_at in rw (lt-ltb _ _ c.before.if-turn-lt-MAX_EVENTS.true) c.one.ensures)
     (λ c κs. search rules)
-    (λ c. unfold stages_at in rw (le-ltb _ _ c.before.if1.false) c.all-below.ensures))
+    (λ c. unfold stages_at in rw (le-ltb _ _ c.before.if-turn-lt-MAX_EVENTS.false) c.all_below.ensures))

@@ -9,4 +9,4 @@ target_of_spec =
     tie.close
     (tie.spec
     (λ c. search rules) (λ c. search rules) (λ c. search rules) (λ c κs. search rules) (λ c. search rules)
-    (λ c. target-read _ _ c.before.before.requires.0 c.before.before.requires.1 _ c.u16-at.ensures))
+    (λ c. target-read _ _ c.before.before.requires.0 c.before.before.requires.1 _ c.u16_at.ensures))

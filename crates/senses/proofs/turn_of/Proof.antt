@@ -9,5 +9,5 @@ turn_of_spec =
     tie.close
     (tie.spec
     (λ c. search rules) (λ c. search rules) (λ c. search rules) (λ c. search rules) (λ c κs. search rules) (λ c. search rules)
-    (λ c. turn-completed _ _ c.before.before.before.before.requires.0 c.before.before.before.before.requires.1 _ c.before.if1.true c.u16-at.ensures)
-    (λ c. turn-none _ _ c.before.before.before.requires.0 c.before.before.before.requires.1 c.if1.false))
+    (λ c. turn-completed _ _ c.before.before.before.before.requires.0 c.before.before.before.before.requires.1 _ c.before.if-image-at-eq-TRIGGER_COMPLETED.true c.u16_at.ensures)
+    (λ c. turn-none _ _ c.before.before.before.requires.0 c.before.before.before.requires.1 c.if-image-at-eq-TRIGGER_COMPLETED.false))

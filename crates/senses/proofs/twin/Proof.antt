@@ -10,5 +10,5 @@ twin_spec =
     tie.close
     (tie.spec
     (λ c. search rules) (λ c. search rules)
-    (λ c. unfold twin in rw (eq-eqb _ _ c.if1.true))
-    (λ c. unfold twin in rw (ne_eqb _ _ c.if1.false)))
+    (λ c. unfold twin in rw (eq-eqb _ _ c.if-n-eq0.true))
+    (λ c. unfold twin in rw (ne_eqb _ _ c.if-n-eq0.false)))

@@ -8,6 +8,6 @@ pub with_sense_spec : {M : Type 1} → statement M
 with_sense_spec =
     tie.close
     (tie.spec
-    (λ c. unfold with_sense in rw (eq-eqb _ _ c.if1.true))
-    (λ c. unfold with_sense in rw (ne_eqb _ _ c.before.if1.false, eq-eqb _ _ c.if2.true))
-    (λ c. unfold with_sense in rw (ne_eqb _ _ c.before.if1.false, ne_eqb _ _ c.if2.false)))
+    (λ c. unfold with_sense in rw (eq-eqb _ _ c.if-senses-eq0.true))
+    (λ c. unfold with_sense in rw (ne_eqb _ _ c.before.if-senses-eq0.false, eq-eqb _ _ c.if-senses-sense.true))
+    (λ c. unfold with_sense in rw (ne_eqb _ _ c.before.if-senses-eq0.false, ne_eqb _ _ c.if-senses-sense.false)))
