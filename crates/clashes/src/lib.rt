@@ -3,6 +3,8 @@
 // The marks are taken in rounds. In a round, rules of one mark that set and clear it are summed up by effect, so that most marks are told to have
 // no clash from ten words. For each mark that is left the rules are summed up by stage too, and its lowest rule that clashes is the first that has
 // another sense than just the opposite of those that may fire beside it. The lowest of these rules begins the lowest pair.
+#![tactic(auto)]
+
 ghost use Rattle.std.specs.Prelude.{◌≡◌, ◌&&◌, ◌+◌, ◌*◌, ◌≤◌, ◌<◌, eqb, length, replicate};
 ghost use Rattle.paper.specs.Limits.{max_marks};
 ghost use Rattle.general.specs.Below.{first};

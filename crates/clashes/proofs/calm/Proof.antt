@@ -14,4 +14,4 @@ calm_spec =
     (λ c.
     let e = c.before.before.before in
     let m = e.before in
-    calm-told _ _ _ _ _ _ m.before.before.row_in.ensures m.before.row-in2.ensures m.meet.ensures _ e.is-empty.ensures _ c.before.twin.ensures))
+    calm-told _ _ _ _ _ _ m.before.before.row_in.ensures m.before.row_in-2.ensures m.meet-shared.ensures _ e.is_empty.ensures _ c.before.twin.ensures))

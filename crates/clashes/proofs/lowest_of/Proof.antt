@@ -8,10 +8,10 @@ use native.Mathlib.Omega.{arith}
 use Rattle.clashes.proofs.lowest_of.Statement.{statement}
 use Rattle.clashes.proofs.lowest_of.Tie as tie
 
-abbrev invariant-loop : tie.invariant-loop
+abbrev invariant-loop : tie.invariant-loop-p
 invariant-loop image rules m low clearing setting by p₀ p = (p ≤ low) × (Scanned (book_of image) m p)
 
-abbrev decreases-loop : tie.decreases-loop
+abbrev decreases-loop : tie.decreases-loop-p
 decreases-loop image rules m low clearing setting by p₀ p = low - p
 
 pub lowest_of_spec : {M : Type 1} → statement M
@@ -23,7 +23,7 @@ lowest_of_spec =
     (λ c κs. search rules)
     (λ c. (omega arith, scan-start _ _))
     (λ c κs. (search rules, omega arith, search sides_all, search stage-all))
-    (λ c. scan-found _ _ _ c.before.before.before.before.loop.invariant.1 _ _ c.before.clashes-in.ensures c.if1.true c.before.before.before.loop-test.true)
+    (λ c. scan-found _ _ _ c.before.before.before.before.loop-p.invariant.1 _ _ c.before.clashes_in.ensures c.if-clashes_in.true c.before.before.before.loop-p-test.true)
     (λ c. search rules) (λ c. search rules)
     (λ c. (omega arith, search scan-on))
-    (λ c. scan-end _ _ _ c.before.loop.invariant.1 _ c.loop-test.false))
+    (λ c. scan-end _ _ _ c.before.loop-p.invariant.1 _ c.loop-p-test.false))

@@ -19,5 +19,5 @@ sum_rule_spec =
     let d = t.before.before in
     let o = d.before.before in
     let m = o.before.before in
-    sum_more _ _ _ _ _ _ m.target-of.ensures.0 d.before.sets_it.ensures t.turn-of.ensures.0 g.sense-of.ensures _ _ _ m.before.before.before.requires.3
-    o.before.if1.false o.if2.false _ d.side.ensures.0 _ g.before.stages-at.ensures _ c.before.before.add.ensures))
+    sum_more _ _ _ _ _ _ m.target_of-target.ensures.0 d.before.sets_it.ensures t.turn_of.ensures.0 g.sense_of.ensures _ _ _ m.before.before.before.requires.3
+    o.before.if-target-from.false o.if-n-target.false _ d.side-d.ensures.0 _ g.before.stages_at.ensures _ c.before.before.add.ensures))

@@ -10,10 +10,10 @@ use native.Mathlib.Omega.{arith}
 use Rattle.clashes.proofs.sum_up.Statement.{statement}
 use Rattle.clashes.proofs.sum_up.Tie as tie
 
-abbrev invariant-loop : tie.invariant-loop
+abbrev invariant-loop : tie.invariant-loop-r
 invariant-loop image rules from n work₀ r₀ work r = (r ≤ rules) × (Summed (book_of image) from n r work) × (length work ≡ length work₀)
 
-abbrev decreases-loop : tie.decreases-loop
+abbrev decreases-loop : tie.decreases-loop-r
 decreases-loop image rules from n work₀ r₀ work r = rules - r
 
 pub sum_up_spec : {M : Type 1} → statement M
