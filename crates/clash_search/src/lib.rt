@@ -1,4 +1,6 @@
 // The lowest pair of rules that clash: the lowest rule that clashes with some rule, and the lowest of those that it clashes with.
+#![tactic(auto)]
+
 ghost use Rattle.std.specs.Prelude.{◌≡◌, ◌-◌, ◌≤◌, ◌<◌, min, length};
 ghost use Rattle.book.specs.Book.{rule_of};
 ghost use Rattle.book.specs.Image.{rules_in, marks_in, book_of};
@@ -12,7 +14,7 @@ use paper::MAX_EVENTS;
 use senses::{sense_of, sets_it, side, target_of, turn_of, twin};
 
 // Two rules, the lower one first. Where no rules clash both are the number of rules.
-#[derive(Drop)]
+#[derive(Clone, Copy)]
 pub struct Pair {
     pub first: usize,
     pub second: usize,

@@ -10,10 +10,10 @@ use native.Mathlib.Omega.{arith}
 use Rattle.clash_search.proofs.lowest_of_all.Statement.{statement}
 use Rattle.clash_search.proofs.lowest_of_all.Tie as tie
 
-abbrev invariant-loop : tie.invariant-loop
+abbrev invariant-loop : tie.invariant-loop-from
 invariant-loop image rules marks work₀ low₀ from₀ work low from = (from ≤ marks) × (Found (book_of image) from low) × (length work ≡ length work₀)
 
-abbrev decreases-loop : tie.decreases-loop
+abbrev decreases-loop : tie.decreases-loop-from
 decreases-loop image rules marks work₀ low₀ from₀ work low from = marks - from
 
 pub lowest_of_all_spec : {M : Type 1} → statement M

@@ -7,10 +7,10 @@ use borrow.Author.Rules.{rules}
 use Rattle.clash_search.proofs.search.Statement.{statement}
 use Rattle.clash_search.proofs.search.Tie as tie
 
-abbrev invariant-loop : tie.invariant-loop
+abbrev invariant-loop : tie.invariant-loop-q
 invariant-loop image rules low p q₀ q = Seeking (book_of image) rules p q
 
-abbrev decreases-loop : tie.decreases-loop
+abbrev decreases-loop : tie.decreases-loop-q
 decreases-loop image rules low p q₀ q = rules - q
 
 abbrev invariant-search : tie.invariant-search
@@ -37,4 +37,4 @@ search_spec =
     (λ c. search-end _ _ _ _ c.before.search.invariant c.search-test.false)
     (λ c.
     let d = c.before.before.before in
-    seek_found _ _ _ _ _ _ d.before.before.search.invariant d.loop.invariant c.before.before.loop-test.true c.before.clash.ensures c.if1.true))
+    seek_found _ _ _ _ _ _ d.before.before.search.invariant d.loop-q.invariant c.before.before.loop-q-test.true c.before.clash.ensures c.if-clash.true))
