@@ -17,7 +17,8 @@ use Rattle.general.specs.Below.{find}
 use Rattle.sets.specs.Set.{has, union, minus}
 use Rattle.sets.specs.Laws.{has-union, has-minus, none-zero, minus-none}
 use Rattle.order_theory.specs.Order.{Counted}
-use Rattle.order_theory.specs.Spread.{Leads, leads-on, leads-join}
+use Rattle.order_theory.specs.Spread.{Leads, leads-join}
+use Rattle.order_theory.proofs.Spread.{leads-on}
 use Rattle.book.specs.Image.{rules_in}
 use Rattle.book.specs.Marks.{word_bits}
 use Rattle.book.specs.WellFormed.{WellFormed}

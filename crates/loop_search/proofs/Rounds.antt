@@ -15,8 +15,10 @@ use Rattle.sets.specs.Set.{has, only, put_if, lowest}
 use Rattle.sets.specs.Laws.{has-union, has-only, has-empty, lowest-least, lowest-has}
 use Rattle.closure.specs.Closure.{within}
 use Rattle.order_theory.specs.Order.{OnLoop, NoLoop}
-use Rattle.order_theory.specs.Loops.{leads, loop-found}
-use Rattle.order_theory.specs.Spread.{Spread, Back, spread-loop}
+use Rattle.order_theory.specs.Loops.{leads}
+use Rattle.order_theory.proofs.Loops.{loop-found}
+use Rattle.order_theory.specs.Spread.{Spread, Back}
+use Rattle.order_theory.proofs.Spread.{spread-loop}
 use Rattle.book.specs.Image.{rules_in, marks_in, book_of}
 use Rattle.book.specs.Marks.{word_bits}
 use Rattle.book.specs.WellFormed.{WellFormed}

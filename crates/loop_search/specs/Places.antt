@@ -9,7 +9,8 @@ use Rattle.general.specs.Cases.{cases, lt-suc}
 use Rattle.general.specs.Below.{first-is}
 use Rattle.closure.specs.Closure.{within}
 use Rattle.order_theory.specs.Order.{OnLoop, NoLoop}
-use Rattle.order_theory.specs.Loops.{leads, loop_mark, loop-mark}
+use Rattle.order_theory.specs.Loops.{leads, loop_mark}
+use Rattle.order_theory.proofs.Loops.{loop-mark}
 use Rattle.book.specs.Book.{Book, rule_of}
 use Rattle.rule_order.specs.Rules.{net_of}
 

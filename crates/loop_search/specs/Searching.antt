@@ -12,7 +12,8 @@ use Rattle.general.specs.Below.{some, some_of, some_at, first, find}
 use Rattle.sets.specs.Set.{has, collect}
 use Rattle.sets.specs.Laws.{has-collect, has-empty, none-zero}
 use Rattle.closure.specs.Closure.{within}
-use Rattle.order_theory.specs.Fewer.{Fewer, RefersToNothing, fewer-marks, nothing-leads}
+use Rattle.order_theory.specs.Fewer.{Fewer, RefersToNothing}
+use Rattle.order_theory.proofs.Fewer.{fewer-marks, nothing-leads}
 use Rattle.book.specs.Book.{Book, no_rule, rule_of, text_of}
 use Rattle.book.specs.Firing.{awaits, reads, refers}
 use Rattle.book.specs.Image.{book_of}

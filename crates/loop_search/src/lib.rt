@@ -1,4 +1,6 @@
 // The search among the rules that count for one stage.
+#![tactic(auto)]
+
 pub mod asking;
 pub mod spread;
 

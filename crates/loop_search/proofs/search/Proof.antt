@@ -5,10 +5,10 @@ use borrow.Author.Rules.{rules}
 use Rattle.loop_search.proofs.search.Statement.{statement}
 use Rattle.loop_search.proofs.search.Tie as tie
 
-abbrev invariant-loop : tie.invariant-loop
+abbrev invariant-loop : tie.invariant-loop-base
 invariant-loop image counts stage reached₀ asked₀ marks base₀ reached asked base = Searched image counts stage base
 
-abbrev decreases-loop : tie.decreases-loop
+abbrev decreases-loop : tie.decreases-loop-base
 decreases-loop image counts stage reached₀ asked₀ marks base₀ reached asked base = marks - base
 
 pub search_spec : {M : Type 1} → statement M

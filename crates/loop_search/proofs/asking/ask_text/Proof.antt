@@ -12,5 +12,5 @@ ask_text_spec =
     (λ c κs. span-inside _ _ c.before.requires.0 _ c.before.requires.1)
     (λ c κs. search rules) (λ c. search rules) (λ c. search rules) (λ c. search rules) (λ c. search rules)
     (λ c κs. let k = c.before.before.before in
-    ((span-asks _ _ k.before.before.requires.0 _ k.before.before.requires.1 _ _ k.condition-at.ensures c.before.before.words-from.ensures).0, k.before.before.requires.2))
+    ((span-asks _ _ k.before.before.requires.0 _ k.before.before.requires.1 _ _ k.condition_at-span.ensures c.before.before.words_from-from.ensures).0, k.before.before.requires.2))
     (λ c. search asked-text))

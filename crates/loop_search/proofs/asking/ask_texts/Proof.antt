@@ -5,10 +5,10 @@ use borrow.Author.Rules.{rules}
 use Rattle.loop_search.proofs.asking.ask_texts.Statement.{statement}
 use Rattle.loop_search.proofs.asking.ask_texts.Tie as tie
 
-abbrev invariant-loop : tie.invariant-loop
+abbrev invariant-loop : tie.invariant-loop-c
 invariant-loop image counts reached asked₀ conditions c₀ asked c = AskedUpto image reached asked c
 
-abbrev decreases-loop : tie.decreases-loop
+abbrev decreases-loop : tie.decreases-loop-c
 decreases-loop image counts reached asked₀ conditions c₀ asked c = conditions - c
 
 pub ask_texts_spec : {M : Type 1} → statement M

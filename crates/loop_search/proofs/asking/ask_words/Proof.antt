@@ -5,10 +5,10 @@ use borrow.Author.Rules.{rules}
 use Rattle.loop_search.proofs.asking.ask_words.Statement.{statement}
 use Rattle.loop_search.proofs.asking.ask_words.Tie as tie
 
-abbrev invariant-loop : tie.invariant-loop
+abbrev invariant-loop : tie.invariant-loop-i
 invariant-loop image at count reached all₀ i₀ all i = Asking image at count reached all i
 
-abbrev decreases-loop : tie.decreases-loop
+abbrev decreases-loop : tie.decreases-loop-i
 decreases-loop image at count reached all₀ i₀ all i = count - i
 
 pub ask_words_spec : {M : Type 1} → statement M

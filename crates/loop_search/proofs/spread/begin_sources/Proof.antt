@@ -5,10 +5,10 @@ use borrow.Author.Rules.{rules}
 use Rattle.loop_search.proofs.spread.begin_sources.Statement.{statement}
 use Rattle.loop_search.proofs.spread.begin_sources.Tie as tie
 
-abbrev invariant-loop : tie.invariant-loop
+abbrev invariant-loop : tie.invariant-loop-i
 invariant-loop base reached₀ i₀ reached i = Beginning base reached i
 
-abbrev decreases-loop : tie.decreases-loop
+abbrev decreases-loop : tie.decreases-loop-i
 decreases-loop base reached₀ i₀ reached i = 64 - i
 
 pub begin_sources_spec : {M : Type 1} → statement M

@@ -8,10 +8,10 @@ use borrow.Author.Rules.{rules}
 use Rattle.loop_search.proofs.spread.spread.Statement.{statement}
 use Rattle.loop_search.proofs.spread.spread.Tie as tie
 
-abbrev invariant-loop : tie.invariant-loop
+abbrev invariant-loop : tie.invariant-loop-more
 invariant-loop image counts stage reached₀ asked₀ more₀ reached asked more = Spreading image counts stage reached₀ reached asked more
 
-abbrev decreases-loop : tie.decreases-loop
+abbrev decreases-loop : tie.decreases-loop-more
 decreases-loop image counts stage reached₀ asked₀ more₀ reached asked more = missing reached + bool_byte more
 
 pub spread_spec : {M : Type 1} → statement M
@@ -25,4 +25,4 @@ spread_spec =
     (λ c κs. search (rules, rules-many))
     (λ c. search spreading-less)
     (λ c. search spreading-more)
-    (λ c. spreading-last _ _ _ _ _ _ _ c.before.loop.invariant c.loop-test.false))
+    (λ c. spreading-last _ _ _ _ _ _ _ c.before.loop-more.invariant c.loop-more-test.false))
