@@ -1,5 +1,7 @@
 // Whether a loop is possible at all: whether some mark is both drawn, that is targeted by a rule that waits for a mark or has a condition, and
 // named by a trigger or a text.
+#![tactic(auto)]
+
 ghost use Rattle.std.specs.Prelude.{◌≡◌, ◌<◌, length, replicate};
 ghost use Rattle.book.specs.Image.{rules_in, book_of};
 ghost use Rattle.book.specs.Marks.{mark_words};

@@ -9,5 +9,5 @@ draw_target_spec =
     tie.close
     (tie.spec
     (λ c. search rules) (λ c. search rules) (λ c. search rules) (λ c. search rules) (λ c. search rules) (λ c. search rules) (λ c κs. search rules) (λ c κs. search rules)
-    (λ c. target-drawn _ _ _ c.before.before.before.before.before.before.before.requires.1 _ _ c.before.before.before.if1.true c.before.before.u16-at.ensures c.note.ensures)
-    (λ c. target_left _ _ _ c.before.before.before.before.requires.1 c.if1.false))
+    (λ c. target-drawn _ _ _ c.before.before.before.before.before.before.before.requires.1 _ _ c.before.before.before.if-image-at.true c.before.before.u16_at-target.ensures c.note.ensures)
+    (λ c. target_left _ _ _ c.before.before.before.before.requires.1 c.if-image-at.false))

@@ -9,5 +9,5 @@ name_awaited_spec =
     tie.close
     (tie.spec
     (λ c. search rules) (λ c. search rules) (λ c. search rules) (λ c. search rules) (λ c κs. search rules) (λ c κs. search rules)
-    (λ c. mark-awaited _ _ _ c.before.before.before.before.before.before.requires.1 _ _ _ (search rules) c.before.before.before.if1.true c.before.before.u16-at.ensures c.note.ensures)
-    (λ c. none-awaited _ _ _ c.before.before.before.requires.1 c.if1.false))
+    (λ c. mark-awaited _ _ _ c.before.before.before.before.before.before.requires.1 _ _ _ (search rules) c.before.before.before.if-image-at-ge-TRIGGER_BECOME_YES.true c.before.before.u16_at-mark.ensures c.note.ensures)
+    (λ c. none-awaited _ _ _ c.before.before.before.requires.1 c.if-image-at-ge-TRIGGER_BECOME_YES.false))

@@ -6,10 +6,10 @@ use borrow.Author.Rules.{rules}
 use Rattle.loop_chances.proofs.sets_meet.Statement.{statement}
 use Rattle.loop_chances.proofs.sets_meet.Tie as tie
 
-abbrev invariant-loop : tie.invariant-loop
+abbrev invariant-loop : tie.invariant-loop-k
 invariant-loop drawn waited named k₀ k = Apart drawn waited named k
 
-abbrev decreases-loop : tie.decreases-loop
+abbrev decreases-loop : tie.decreases-loop-k
 decreases-loop drawn waited named k₀ k = mark_words - k
 
 pub sets_meet_spec : {M : Type 1} → statement M

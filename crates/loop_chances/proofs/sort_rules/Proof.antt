@@ -5,10 +5,10 @@ use borrow.Author.Rules.{rules}
 use Rattle.loop_chances.proofs.sort_rules.Statement.{statement}
 use Rattle.loop_chances.proofs.sort_rules.Tie as tie
 
-abbrev invariant-loop : tie.invariant-loop
+abbrev invariant-loop : tie.invariant-loop-r
 invariant-loop image rules drawn₀ waited₀ r₀ drawn waited r = Sorting image rules drawn waited r
 
-abbrev decreases-loop : tie.decreases-loop
+abbrev decreases-loop : tie.decreases-loop-r
 decreases-loop image rules drawn₀ waited₀ r₀ drawn waited r = rules - r
 
 pub sort_rules_spec : {M : Type 1} → statement M
