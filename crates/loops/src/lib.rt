@@ -1,4 +1,6 @@
 // The lowest mark targeted by a rule on a loop among the rules that count for some stage.
+#![tactic(auto)]
+
 ghost use Rattle.std.specs.Prelude.{◌≡◌, ◌<◌};
 ghost use Rattle.wide.specs.Number.{number};
 ghost use Rattle.book.specs.Image.{rules_in, book_of};

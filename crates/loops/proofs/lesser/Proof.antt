@@ -8,5 +8,5 @@ pub lesser_spec : {M : Type 1} → statement M
 lesser_spec =
     tie.close
     (tie.spec
-    (λ c. unfold lesser in rw (le-leb _ _ c.if1.true))
-    (λ c. unfold lesser in rw (lt-leb _ _ c.if1.false)))
+    (λ c. unfold lesser in rw (le-leb _ _ c.if-x-y.true))
+    (λ c. unfold lesser in rw (lt-leb _ _ c.if-x-y.false)))

@@ -6,10 +6,10 @@ use borrow.Author.Rules.{rules}
 use Rattle.loops.proofs.searching.Statement.{statement}
 use Rattle.loops.proofs.searching.Tie as tie
 
-abbrev invariant-loop : tie.invariant-loop
+abbrev invariant-loop : tie.invariant-loop-r
 invariant-loop image rules set₀ r₀ set r = Gathered image (number set) r
 
-abbrev decreases-loop : tie.decreases-loop
+abbrev decreases-loop : tie.decreases-loop-r
 decreases-loop image rules set₀ r₀ set r = rules - r
 
 pub searching_spec : {M : Type 1} → statement M
