@@ -24,7 +24,8 @@ use Rattle.ordering.specs.Scanning.{ordered_room}
 use Rattle.loop_search.specs.Places.{loop_place, loop-fits}
 use Rattle.clashes.specs.Pairs.{clash_first, clash_second}
 use Rattle.judge.specs.Head.{head_answer, head-refused, head_passed, passed-body, Begun}
-use Rattle.judge.specs.Checking.{rules_answer, book_answer, stage_answer, checking, checked_room, marks-many, acyclic-at, book-answer, book-passes, granted-room, refused-room}
+use Rattle.judge.specs.Checking.{rules_answer, book_answer, stage_answer, checking, checked_room, marks-many, acyclic-at, book-answer, refused-room}
+use Rattle.judge.proofs.Checking.{book-passes, granted-room}
 
 -- ---- 20 to 22
 

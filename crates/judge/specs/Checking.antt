@@ -1,26 +1,27 @@
 -- The check's answer and the room that it leaves, in the paper's order of refusals, and that they are exactly what the paper's table says. Assumes nothing.
-use Rattle.std.specs.Prelude.{◌≡◌, ◌↔◌, cond, List, ◌++◌, ℕ, ◌≤◌, ◌<◌, eqb, ltb, length, drop}
-use Rattle.std.proofs.Math.Path.{refl, sym, subst}
-use Rattle.std.proofs.Common.{ap, ◌∙◌}
+use Rattle.std.specs.Prelude.{◌≡◌, cond, List, ◌++◌, ℕ, ◌≤◌, ◌<◌, eqb, ltb, length, drop}
+use Rattle.std.proofs.Math.Path.{refl}
+use Rattle.std.proofs.Common.{◌∙◌}
 use native.Mathlib.Omega.{arith}
-use borrow.Author.Tests.{eqb-true, eqb-false, eq-eqb, ne_eqb, ltb-true, ltb-false, lt-ltb, le-ltb}
-use Rattle.paper.specs.Limits.{bad_condition, loop_found, clash, no_such_stage, order_room}
+use borrow.Author.Tests.{eqb-true, ne_eqb, ltb-true, ltb-false, lt-ltb, le-ltb}
+use Rattle.paper.specs.Limits.{loop_found, clash, no_such_stage, order_room}
 use Rattle.paper.specs.Answers.{answer, granted, refusal}
 use Rattle.paper.specs.declared.Answer.{Answer}
-use Rattle.general.specs.Cases.{contra, cases, coincide}
-use Rattle.order_theory.specs.Order.{Counted, counted_rules, Fit, Loop, OnLoop, NoLoop}
-use Rattle.order_theory.specs.Running.{running_order, running-fit, running-length}
+use Rattle.general.specs.Cases.{cases, coincide}
+use Rattle.order_theory.specs.Order.{Counted, counted_rules, Fit, OnLoop, NoLoop}
+use Rattle.order_theory.specs.Running.{running_order}
+use Rattle.order_theory.proofs.Running.{running-fit}
 use Rattle.book.specs.Book.{Book, rule_of}
 use Rattle.book.specs.Image.{stages_in, marks_in, book_of}
 use Rattle.book.specs.Read.{rules-count}
 use Rattle.book.specs.Judging.{image_answer}
-use Rattle.book.specs.WellFormed.{WellFormed, Judged, short, count, layout, rule, condition, accepted, judged, judged-is, well-granted, granted-well}
+use Rattle.book.specs.WellFormed.{WellFormed, Judged, judged-is, well-granted}
 use Rattle.book.specs.WellRead.{rule-exists}
 use Rattle.rule_order.specs.Rules.{net_of}
 use Rattle.rule_order.specs.Nets.{rules_of}
-use Rattle.clashes.specs.Clash.{NoClash, Clashes, clashes-so}
-use Rattle.clashes.specs.Pairs.{clash_first, clash_second, LowestClash, clash-fits, lowest-clash, clash-found, no-clash}
-use Rattle.loop_search.specs.Places.{loop_place, loop-fits, loop-place}
+use Rattle.clashes.specs.Clash.{NoClash, Clashes}
+use Rattle.clashes.specs.Pairs.{clash_first, clash_second, LowestClash, clash-found, no-clash}
+use Rattle.loop_search.specs.Places.{loop_place, loop-place}
 
 -- ---- the answer
 
@@ -108,9 +109,6 @@ module _ (s : List ℕ) where
     pub order-fit : (stage : ℕ) → NoLoop (rules_of s stage) → Fit (rules_of s stage) (running_order (rules_of s stage))
     order-fit stage = running-fit (rules_of s stage) (book_of s).marks (targets-in stage)
 
-    lowest-loop : loop_place (book_of s) < (book_of s).marks → LowestLoop (book_of s) (loop_place (book_of s))
-    lowest-loop h = let t = loop-place (book_of s) targets in record { on = t.0.0 h; lowest = t.0.1 }
-
     loop-is : (m : ℕ) → LowestLoop (book_of s) m → (loop_place (book_of s) ≡ m) × (m < (book_of s).marks)
     loop-is m l =
         let t = loop-place (book_of s) targets in
@@ -127,7 +125,7 @@ module _ (s : List ℕ) where
     unfolding book_answer
     book-answer = rw (← well-granted s w)
 
-    answer-looped : (m : ℕ) → LowestLoop (book_of s) m → book_answer s ≡ answer loop_found m 0
+    pub answer-looped : (m : ℕ) → LowestLoop (book_of s) m → book_answer s ≡ answer loop_found m 0
     unfolding rules_answer
     answer-looped m l = let (e, h) = loop-is m l in book-answer ∙ rw (e, lt-ltb m (book_of s).marks h)
 
@@ -136,7 +134,7 @@ module _ (s : List ℕ) where
       unfolding rules_answer
       answer-calm = book-answer ∙ rw ((loop-place (book_of s) targets).1.0 n, le-ltb (book_of s).marks (book_of s).marks (omega arith))
 
-      answer-clashed : (p q : ℕ) → LowestClash (book_of s) p q → book_answer s ≡ answer clash p q
+      pub answer-clashed : (p q : ℕ) → LowestClash (book_of s) p q → book_answer s ≡ answer clash p q
       answer-clashed p q l =
           let (e, f) = clash-found (book_of s) p q l in
           answer-calm ∙ rw (← e, ← f, lt-ltb p (length (book_of s).rules) (let i = l.rising in let j = l.inside in omega arith))
@@ -144,77 +142,14 @@ module _ (s : List ℕ) where
       answer-passed : NoClash (book_of s) → book_answer s ≡ granted
       answer-passed c = answer-calm ∙ rw ((no-clash (book_of s)).0 c, le-ltb (length (book_of s).rules) (length (book_of s).rules) (omega arith))
 
-  answer-refused : (a : Answer) → Judged s a → (a.code ≡ 0 → ⊥) → book_answer s ≡ a
+  pub answer-refused : (a : Answer) → Judged s a → (a.code ≡ 0 → ⊥) → book_answer s ≡ a
   unfolding book_answer
   answer-refused a j n = rw (← judged-is s a j, ne_eqb a.code 0 n)
 
   pub passes-granted : BookPasses s → book_answer s ≡ granted
   passes-granted p = answer-passed p.formed p.acyclic p.calm
 
-  judged-low : (a : Answer) → Judged s a → a.code ≤ bad_condition
-  judged-low a (short l) = omega arith
-  judged-low a (count l n) = omega arith
-  judged-low a (layout l c n) = omega arith
-  judged-low a (rule g r h n l) = omega arith
-  judged-low a (condition g rs c h n l) = omega arith
-  judged-low a (accepted w) = omega arith
-
   module _ (stage room : ℕ) where
-    then : BookPasses s → checking s stage room ≡ stage_answer s stage room
-    unfolding checking
-    then p = rw (passes-granted p)
-
-    -- at most one row holds
-    pub checked-is : (a : Answer) → Checked s stage room a → a ≡ checking s stage room
-    unfolding checking stage_answer
-    checked-is a (refused b j n) = rw (answer-refused a j n, ne_eqb a.code 0 n)
-    checked-is a (looped w m l) = rw (answer-looped w m l)
-    checked-is a (clashed w n p q l) = rw (answer-clashed w n p q l)
-    checked-is a (nowhere p h) = sym (then p ∙ rw (le-ltb stage (stages_in s) h))
-    checked-is a (narrow p h l) = sym (then p ∙ rw (lt-ltb stage (stages_in s) h, lt-ltb room (counted_rules (rules_of s stage)) l))
-    checked-is a (passed p h l) = sym (then p ∙ rw (lt-ltb stage (stages_in s) h, le-ltb room (counted_rules (rules_of s stage)) l))
-
-    -- some row holds
-    row-passing : BookPasses s → (a : Answer) × Checked s stage room a
-    row-passing p =
-        cases (ltb stage (stages_in s))
-        (λ e. let h = ltb-true stage (stages_in s) e in
-        cases (ltb room (counted_rules (rules_of s stage)))
-        (λ g. (answer order_room (counted_rules (rules_of s stage)) 0, narrow p h (ltb-true room (counted_rules (rules_of s stage)) g)))
-        (λ g. (granted, passed p h (ltb-false room (counted_rules (rules_of s stage)) g))))
-        (λ e. (refusal no_such_stage, nowhere p (ltb-false stage (stages_in s) e)))
-
-    row-clashed : WellFormed s → Acyclic (book_of s) → clash_first (book_of s) < length (book_of s).rules
-        → Checked s stage room (answer clash (clash_first (book_of s)) (clash_second (book_of s) (clash_first (book_of s))))
-    row-clashed w n h = clashed w n (clash_first (book_of s)) (clash_second (book_of s) (clash_first (book_of s))) (lowest-clash (book_of s) h)
-
-    row-formed : WellFormed s → (a : Answer) × Checked s stage room a
-    row-formed w =
-        cases (ltb (loop_place (book_of s)) (book_of s).marks)
-        (λ e. (answer loop_found (loop_place (book_of s)) 0, looped w (loop_place (book_of s)) (lowest-loop w (ltb-true (loop_place (book_of s)) (book_of s).marks e))))
-        (λ e. let t = loop-place (book_of s) (targets w) in
-        let i = loop-fits (book_of s) in
-        let n : Acyclic (book_of s) = t.1.1 (omega (arith, ltb-false (loop_place (book_of s)) (book_of s).marks e)) in
-        cases (ltb (clash_first (book_of s)) (length (book_of s).rules))
-        (λ f. (answer clash (clash_first (book_of s)) (clash_second (book_of s) (clash_first (book_of s))), row-clashed w n (ltb-true (clash_first (book_of s)) (length (book_of s).rules) f)))
-        (λ f. let j = clash-fits (book_of s) in
-        let c : NoClash (book_of s) = (no-clash (book_of s)).1 (omega (arith, ltb-false (clash_first (book_of s)) (length (book_of s).rules) f)) in
-        row-passing (record { formed = w; acyclic = n; calm = c })))
-
-    row : (a : Answer) × Checked s stage room a
-    row =
-        cases (eqb (image_answer s).code 0) (λ e. row-formed (granted-well s (image_answer s) refl (eqb-true (image_answer s).code 0 e)))
-        (λ e. (image_answer s, refused (image_answer s) (judged s) (eqb-false (image_answer s).code 0 e)))
-
-    -- the answer's row holds: with `checked-is`, every answer of the check is given exactly as the table says
-    pub checked : Checked s stage room (checking s stage room)
-    checked = let t = row in subst (λ (a : Answer). Checked s stage room a) (checked-is t.0 t.1) t.1
-
-    -- ---- what each code says
-
-    code_of : (a : Answer) → Checked s stage room a → (checking s stage room).code ≡ a.code
-    code_of a c = ap (λ (x : Answer). x.code) (sym (checked-is a c))
-
     -- 20 to 26 are of the book alone
     pub book-is : (a : Answer) → Checked s stage room a → (a.code ≡ 0 → ⊥) → a.code ≤ clash → book_answer s ≡ a
     book-is a (refused b j n) z l = answer-refused a j n
@@ -224,116 +159,9 @@ module _ (s : List ℕ) where
     book-is a (narrow p h i) z l = absurd (omega arith)
     book-is a (passed p h i) z l = absurd (omega arith)
 
-    pub is-book : ((book_answer s).code ≡ 0 → ⊥) → Checked s stage room (book_answer s) × ((book_answer s).code ≤ clash)
-    unfolding checking
-    is-book n =
-        let z : checking s stage room ≡ book_answer s = rw (ne_eqb (book_answer s).code 0 n) in
-        let c = subst (λ (a : Answer). Checked s stage room a) z checked in
-        (c, go (book_answer s) c n (λ p. n (ap (λ (a : Answer). a.code) (passes-granted p))))
-      where
-        go : (a : Answer) → Checked s stage room a → (a.code ≡ 0 → ⊥) → (BookPasses s → ⊥) → a.code ≤ clash
-        go a (refused b j n) z m = omega (arith, judged-low a j)
-        go a (looped w m o) z x = omega arith
-        go a (clashed w n p q o) z x = omega arith
-        go a (nowhere p h) z x = absurd (x p)
-        go a (narrow p h i) z x = absurd (x p)
-        go a (passed p h i) z x = absurd (x p)
-
-    -- 25, and its place is the lowest mark targeted by a rule on a loop, over all stages
-    pub loop-named : (checking s stage room).code ≡ loop_found → LowestLoop (book_of s) (checking s stage room).place
-    loop-named = go (checking s stage room) checked
-      where
-        go : (a : Answer) → Checked s stage room a → a.code ≡ loop_found → LowestLoop (book_of s) a.place
-        go a (refused b j n) e = absurd (omega (arith, judged-low a j))
-        go a (looped w m l) e = l
-        go a (clashed w n p q l) e = absurd (omega arith)
-        go a (nowhere p h) e = absurd (omega arith)
-        go a (narrow p h l) e = absurd (omega arith)
-        go a (passed p h l) e = absurd (omega arith)
-
-    -- 26, and its places are the lowest pair
-    pub clash-named : (checking s stage room).code ≡ clash → Acyclic (book_of s) × LowestClash (book_of s) (checking s stage room).place (checking s stage room).other
-    clash-named = go (checking s stage room) checked
-      where
-        go : (a : Answer) → Checked s stage room a → a.code ≡ clash → Acyclic (book_of s) × LowestClash (book_of s) a.place a.other
-        go a (refused b j n) e = absurd (omega (arith, judged-low a j))
-        go a (looped w m l) e = absurd (omega arith)
-        go a (clashed w n p q l) e = (n, l)
-        go a (nowhere p h) e = absurd (omega arith)
-        go a (narrow p h l) e = absurd (omega arith)
-        go a (passed p h l) e = absurd (omega arith)
-
-    pub passed_is : (checking s stage room).code ≡ 0 → CheckPasses s stage room
-    passed_is = go (checking s stage room) checked
-      where
-        go : (a : Answer) → Checked s stage room a → a.code ≡ 0 → CheckPasses s stage room
-        go a (refused b j n) e = absurd (n e)
-        go a (looped w m l) e = absurd (omega arith)
-        go a (clashed w n p q l) e = absurd (omega arith)
-        go a (nowhere p h) e = absurd (omega arith)
-        go a (narrow p h l) e = absurd (omega arith)
-        go a (passed p h l) e = record { formed = p.formed; acyclic = p.acyclic; calm = p.calm; known = h; wide = l }
-
-    -- nothing else is refused
-    pub is-passed : CheckPasses s stage room → checking s stage room ≡ granted
-    is-passed p = sym (checked-is granted (passed (record { formed = p.formed; acyclic = p.acyclic; calm = p.calm }) p.known p.wide))
-
-    -- ---- on a well-formed book
-
-    module _ (w : WellFormed s) where
-      -- 25 exactly if some stage of the book has a loop, whichever is asked for
-      pub loop-exactly : ((t : ℕ) × (t < stages_in s) × (r : ℕ) × Counted (rules_of s t) r × Loop (rules_of s t) r) ↔ ((checking s stage room).code ≡ loop_found)
-      loop-exactly =
-          let p = loop-place (book_of s) (targets w) in (
-            λ l. cases (ltb (loop_place (book_of s)) (book_of s).marks)
-                (λ e. code_of (answer loop_found (loop_place (book_of s)) 0) (looped w (loop_place (book_of s)) (lowest-loop w (ltb-true (loop_place (book_of s)) (book_of s).marks e))))
-                (λ e. let i = loop-fits (book_of s) in
-                let n : Acyclic (book_of s) = p.1.1 (omega (arith, ltb-false (loop_place (book_of s)) (book_of s).marks e)) in
-                absurd (acyclic-at l.0 n l.1 l.2 l.3 l.4)),
-            λ e. let (t, h, o) = (loop-named e).on in (t, rw stages-many at h, o.0, o.1, o.3),
-          )
-
-      -- 26 exactly if there is no loop and two opposed rules are not apart
-      pub clash-exactly : (Acyclic (book_of s) × Clashing (book_of s)) ↔ ((checking s stage room).code ≡ clash)
-      clash-exactly = (
-        λ l. let (p, q, i, j, c) = l.1 in
-            cases (ltb (clash_first (book_of s)) (length (book_of s).rules))
-            (λ e. code_of (answer clash (clash_first (book_of s)) (clash_second (book_of s) (clash_first (book_of s))))
-            (row-clashed w l.0 (ltb-true (clash_first (book_of s)) (length (book_of s).rules) e)))
-            (λ e. let f = clash-fits (book_of s) in
-            let none : NoClash (book_of s) = (no-clash (book_of s)).1 (omega (arith, ltb-false (clash_first (book_of s)) (length (book_of s).rules) e)) in
-            contra ((clashes-so (rule_of (book_of s) p) (rule_of (book_of s) q)).1 c) (none p q i j)),
-        λ e. let (n, l) = clash-named e in (n, ((checking s stage room).place, (checking s stage room).other, l.rising, l.inside, l.clashes)),
-      )
-
--- 20 to 26 are ruled out exactly if the book passes; the check is granted only then
-pub book-passes : (s : List ℕ) → (book_answer s).code ≡ 0 → BookPasses s
-book-passes s e = go (checking s 0 0) (checked s 0 0)
-  where
-    zero-code : (a : Answer) → book_answer s ≡ a → a.code ≡ 0
-    zero-code a z = ap (λ (x : Answer). x.code) (sym z) ∙ e
-
-    go : (a : Answer) → Checked s 0 0 a → BookPasses s
-    go a (refused b j n) = absurd (n (zero-code a (answer-refused s a j n)))
-    go a (looped w m l) = absurd (omega (arith, zero-code a (answer-looped s w m l)))
-    go a (clashed w n p q l) = absurd (omega (arith, zero-code a (answer-clashed s w n p q l)))
-    go a (nowhere p h) = p
-    go a (narrow p h l) = p
-    go a (passed p h l) = p
-
 pub passes-book : (s : List ℕ) (stage room : ℕ) → (checking s stage room).code ≡ 0 → (book_answer s).code ≡ 0
 unfolding checking
 passes-book s stage room e = cases (eqb (book_answer s).code 0) (λ x. eqb-true (book_answer s).code 0 x) (λ x. rw x at e)
-
--- what a granted check leaves in the room: a fit order of the stage, and behind it the room as it was
-pub granted-room : (s : List ℕ) (stage : ℕ) (room : List ℕ) → (checking s stage (length room)).code ≡ 0
-    → (checked_room s stage room ≡ running_order (rules_of s stage) ++ drop (counted_rules (rules_of s stage)) room) × Fit (rules_of s stage) (running_order (rules_of s stage))
-    × (length (running_order (rules_of s stage)) ≡ counted_rules (rules_of s stage))
-unfolding checked_room
-granted-room s stage room e =
-    let p = passed_is s stage (length room) e in
-    let n = acyclic-at s stage p.acyclic p.known in
-    (rw (eq-eqb (checking s stage (length room)).code 0 e), order-fit s p.formed stage n, running-length (rules_of s stage) (book_of s).marks (targets-in s p.formed stage) n)
 
 -- a refusal writes nothing
 pub refused-room : (s : List ℕ) (stage : ℕ) (room : List ℕ) → ((checking s stage (length room)).code ≡ 0 → ⊥) → checked_room s stage room ≡ room

@@ -1,4 +1,6 @@
 // The check of a book for a stage: loops, clashes and the stage's running order.
+#![tactic(auto)]
+
 pub mod image;
 pub mod rules;
 

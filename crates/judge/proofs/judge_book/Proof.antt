@@ -9,6 +9,6 @@ judge_book_spec =
     tie.close
     (tie.spec
     (λ c κs. search rules)
-    (λ c. book-refused _ _ c.before.before.judge-body.ensures.0 c.if1.true)
-    (λ c κs. let j = c.before.before.before.before.before.before.before.judge-body.ensures in (book-opened _ _ j.0 c.before.before.before.before.before.if1.false _ c.before.before.before.before.before.before.before.before.before.before.requires.counts, j.1 c.before.before.before.before.before.if1.false))
-    (λ c. book-judged _ _ c.before.before.before.before.before.before.before.before.judge-body.ensures.0 c.before.before.before.before.before.before.if1.false _ c.judge-rules.ensures))
+    (λ c. book-refused _ _ c.before.before.judge_body-answer.ensures.0 c.if-answer-ne0.true)
+    (λ c κs. let j = c.before.before.before.before.before.before.before.judge_body-answer.ensures in (book-opened _ _ j.0 c.before.before.before.before.before.if-answer-ne0.false _ c.before.before.before.before.before.before.before.before.before.before.requires.counts, j.1 c.before.before.before.before.before.if-answer-ne0.false))
+    (λ c. book-judged _ _ c.before.before.before.before.before.before.before.before.judge_body-answer.ensures.0 c.before.before.before.before.before.before.if-answer-ne0.false _ c.judge_rules.ensures))

@@ -11,9 +11,9 @@ judge_body_spec =
     (tie.spec
     (λ c κs. rules-inside _ _ c.before.requires)
     (λ c κs. search rules)
-    (λ c. unfold first_bad_rule in body-rule _ _ c.before.before.before.before.before.requires _ _ _ c.before.before.before.first-bad-rule.ensures c.before.if1.true c.refused.ensures)
+    (λ c. unfold first_bad_rule in body-rule _ _ c.before.before.before.before.before.requires _ _ _ c.before.before.before.first_bad_rule-r.ensures c.before.if-r-counts.true c.refused.ensures)
     (λ c κs. words_inside _ _ c.before.before.before.before.before.requires)
     (λ c κs. search rules)
-    (λ c. unfold first_bad_rule first_bad_condition in body-condition _ _ c.before.before.before.before.before.before.before.before.before.requires _ _ _ c.before.before.before.before.before.before.before.first-bad-rule.ensures c.before.before.before.before.before.if1.false _ c.before.before.before.first-bad-condition.ensures.0 c.before.if2.true c.refused2.ensures)
+    (λ c. unfold first_bad_rule first_bad_condition in body-condition _ _ c.before.before.before.before.before.before.before.before.before.requires _ _ _ c.before.before.before.before.before.before.before.first_bad_rule-r.ensures c.before.before.before.before.before.if-r-counts.false _ c.before.before.before.first_bad_condition-c.ensures.0 c.before.if-c-counts.true c.refused-then-c-counts.ensures)
     (λ c κs. search rules)
-    (λ c. unfold first_bad_rule first_bad_condition in body-granted _ _ c.before.before.before.before.before.before.before.before.before.requires _ _ _ c.before.before.before.before.before.before.before.first-bad-rule.ensures c.before.before.before.before.before.if1.false _ c.before.before.before.first-bad-condition.ensures.0 c.before.if2.false c.granted.ensures c.before.before.before.first-bad-condition.ensures.1))
+    (λ c. unfold first_bad_rule first_bad_condition in body-granted _ _ c.before.before.before.before.before.before.before.before.before.requires _ _ _ c.before.before.before.before.before.before.before.first_bad_rule-r.ensures c.before.before.before.before.before.if-r-counts.false _ c.before.before.before.first_bad_condition-c.ensures.0 c.before.if-c-counts.false c.granted.ensures c.before.before.before.first_bad_condition-c.ensures.1))
