@@ -25,7 +25,8 @@ use Rattle.book.specs.declared.Counts.{Counts}
 use Rattle.derived.specs.Derived.{derived_book}
 use Rattle.derived.specs.Sizes.{conditions-length}
 use Rattle.deriver.specs.Deriving.{derived_image, found-fit}
-use Rattle.judge.specs.Checking.{book_answer, BookPasses, book-passes, passes-granted}
+use Rattle.judge.specs.Checking.{book_answer, BookPasses, passes-granted}
+use Rattle.judge.proofs.Checking.{book-passes}
 use Rattle.judge.specs.Head.{head_answer, head-refused}
 use Rattle.judge.proofs.Returns.{book-refused}
 use Rattle.derived_same.specs.Same.{roleless}

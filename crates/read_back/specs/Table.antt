@@ -14,11 +14,13 @@ use Rattle.flat_chart.specs.Fitness.{tested-fit, fit-tested}
 use Rattle.flat_chart.specs.Flat.{FlatChart}
 use Rattle.book.specs.Image.{rules_in, book_of}
 use Rattle.book.specs.ImageOf.{image_of, book-of-image}
-use Rattle.judge.specs.Checking.{book_answer, BookPasses, Checked, passes-granted, book-passes, book-is, is-book}
+use Rattle.judge.specs.Checking.{book_answer, BookPasses, Checked, passes-granted, book-is}
+use Rattle.judge.proofs.Checking.{book-passes, is-book}
 use Rattle.derived.specs.Derived.{derived_book}
 use Rattle.deriver.specs.Deriving.{derived_image}
 use Rattle.gathering.specs.Gathering.{gathered}
-use Rattle.gathering.specs.Behind.{bare, bare-roles, fit-bare, derived-bare, gathered-derived}
+use Rattle.gathering.specs.Behind.{bare, bare-roles}
+use Rattle.gathering.proofs.Behind.{fit-bare, derived-bare, gathered-derived}
 use Rattle.read_back.specs.ReadingBack.{chart_behind, from_chart, read_back_answer, reading_back}
 use Rattle.read_back.specs.Flat.{ReadBack}
 

@@ -1,4 +1,6 @@
 // Reading a book back: the flat chart behind a derived book, or a refusal.
+#![tactic(auto)]
+
 pub mod judging;
 
 ghost use Rattle.std.specs.Prelude.{◌≡◌, replicate};
@@ -15,7 +17,7 @@ use paper::{Answer, MAX_EVENTS, NOT_DERIVED};
 use wide::TABLE;
 
 #[repr(C)]
-#[derive(Drop)]
+#[derive(Clone, Copy)]
 pub struct ReadBack {
     pub answer: Answer,
     pub chart: FlatChart,

@@ -1,4 +1,6 @@
 -- `read_back::written_for` meets its contract. Assumes nothing.
+use Rattle.std.specs.Prelude.{not}
+use Rattle.std.proofs.Common.{ap}
 use Rattle.read_back.proofs.Returns.{written-unfit, written-fit, written_same}
 use borrow.Author.Rules.{rules}
 use Rattle.read_back.proofs.written_for.Statement.{statement}
@@ -10,5 +12,5 @@ written_for_spec =
     (tie.spec
     (λ c κs. search rules)
     (λ c. search written-unfit)
-    (λ c κs. written-fit _ _ _ _ _ _ _ c.before.before.before.args.book.now _ c.before.tables-fit.ensures c.before.before.before.requires c.if1.false)
+    (λ c κs. written-fit _ _ _ _ _ _ _ c.before.before.before.args.book.now _ c.before.tables_fit.ensures c.before.before.before.requires (ap not c.if-not-tables_fit.false))
     (λ c. search written_same))
