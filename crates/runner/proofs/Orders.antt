@@ -15,7 +15,8 @@ use Rattle.book.specs.WellFormed.{WellFormed}
 use Rattle.book.specs.declared.Counts.{Counts}
 use Rattle.rule_order.specs.Nets.{rules_of}
 use Rattle.judge.specs.Head.{head_answer, head-refused}
-use Rattle.judge.specs.Checking.{book_answer, book-passes}
+use Rattle.judge.specs.Checking.{book_answer}
+use Rattle.judge.proofs.Checking.{book-passes}
 use Rattle.judge.proofs.Returns.{book-refused}
 use Rattle.runner.specs.Completing.{fitted, order_answer}
 use Rattle.runner.specs.Ordered.{fitted-refused}

@@ -9,7 +9,8 @@ use Rattle.paper.specs.declared.Answer.{Answer}
 use Rattle.general.specs.Cases.{coincide}
 use Rattle.order_theory.specs.Order.{counted_rules, Fit}
 use Rattle.order_theory.specs.Running.{running_order}
-use Rattle.order_theory.specs.Settle.{Calm, Settled, run, run_settled, settled-unique, confluence, toggle-once}
+use Rattle.order_theory.specs.Settle.{Calm, Settled, run}
+use Rattle.order_theory.proofs.Settle.{run_settled, settled-unique, confluence, toggle-once}
 use Rattle.order_theory.specs.Snapshots.{at_same, length-run_l, at-run_l}
 use Rattle.book.specs.Text.{Snap, snap_of}
 use Rattle.book.specs.Image.{stages_in, book_of}
@@ -17,7 +18,8 @@ use Rattle.book.specs.declared.Snapshot.{Snapshot}
 use Rattle.rule_order.specs.Rules.{acts_of}
 use Rattle.rule_order.specs.Nets.{rules_of, targets-small}
 use Rattle.clashes.specs.Clash.{calm}
-use Rattle.judge.specs.Checking.{checking, checked_room, granted-room, marks-many, targets-in}
+use Rattle.judge.specs.Checking.{checking, checked_room, marks-many, targets-in}
+use Rattle.judge.proofs.Checking.{granted-room}
 use Rattle.runner.specs.Completing.{completion_answer, through, completing}
 use Rattle.runner.specs.Walks.{Goes, turns, turns-run, goes-run}
 use Rattle.runner.specs.Table.{Passes, Belongs, Answered, refused, nowhere, unfit, above, closed, completed, answered, answered-is}

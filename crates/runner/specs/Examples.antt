@@ -10,7 +10,7 @@ use Rattle.closure.specs.Closure.{within}
 use Rattle.order_theory.specs.Loops.{leads}
 use Rattle.order_theory.specs.Running.{ready}
 use Rattle.order_theory.specs.Pass.{fine, passes, fit_pass}
-use Rattle.order_theory.specs.Index.{fit_at}
+use Rattle.order_theory.proofs.Index.{fit_at}
 use Rattle.order_theory.specs.Snapshots.{step_l, run_l}
 use Rattle.book.specs.Text.{elem, push, eval, top, holds}
 use Rattle.book.specs.GoodTexts.{takes, is_operator, depth_after, follows, good_from, good, next_depth}

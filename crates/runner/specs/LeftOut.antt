@@ -6,7 +6,8 @@ use mathlib.Core.List.{List, [], ◌∷◌}
 use Rattle.general.specs.Cases.{contra}
 use Rattle.order_theory.specs.Order.{Net, Fit}
 use Rattle.order_theory.specs.Settle.{Acts, step, run}
-use Rattle.order_theory.specs.Fewer.{all_counted, fewer-all, LeavesOut, left_out, counted_of, fewer-fit}
+use Rattle.order_theory.specs.Fewer.{all_counted, LeavesOut, counted_of}
+use Rattle.order_theory.proofs.Fewer.{fewer-all, left_out, fewer-fit}
 use Rattle.book.specs.Text.{Snap, snap_of}
 use Rattle.book.specs.Book.{Book, rule_of, text_of}
 use Rattle.book.specs.Image.{book_of}

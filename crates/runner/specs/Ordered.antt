@@ -10,13 +10,15 @@ use Rattle.paper.specs.declared.Answer.{Answer}
 use Rattle.general.specs.Cases.{cases}
 use Rattle.general.specs.Below.{some_of, some-none}
 use Rattle.order_theory.specs.Order.{Fit}
-use Rattle.order_theory.specs.Pass.{fit_pass, fit-pass}
-use Rattle.order_theory.specs.Index.{fit_at}
+use Rattle.order_theory.specs.Pass.{fit_pass}
+use Rattle.order_theory.proofs.Pass.{fit-pass}
+use Rattle.order_theory.proofs.Index.{fit_at}
 use Rattle.book.specs.Text.{snap_of}
 use Rattle.book.specs.Image.{stages_in, marks_in, rules_in}
 use Rattle.book.specs.declared.Snapshot.{Snapshot}
 use Rattle.rule_order.specs.Nets.{rules_of, count-is}
-use Rattle.judge.specs.Checking.{book_answer, BookPasses, book-passes}
+use Rattle.judge.specs.Checking.{book_answer, BookPasses}
+use Rattle.judge.proofs.Checking.{book-passes}
 use Rattle.runner.specs.Completing.{fitted, order_answer, any_from, snapshot_answer, completion_answer, through, completing}
 
 -- ---- the book and the order

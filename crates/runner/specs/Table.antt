@@ -10,11 +10,13 @@ use Rattle.paper.specs.declared.Answer.{Answer}
 use Rattle.general.specs.Cases.{contra, cases, both, not_so}
 use Rattle.general.specs.Below.{some_of, some_at, some-none}
 use Rattle.order_theory.specs.Order.{Fit}
-use Rattle.order_theory.specs.Pass.{fit_pass, fit-pass}
+use Rattle.order_theory.specs.Pass.{fit_pass}
+use Rattle.order_theory.proofs.Pass.{fit-pass}
 use Rattle.book.specs.Text.{snap_of}
 use Rattle.book.specs.Image.{stages_in, marks_in, rules_in}
 use Rattle.rule_order.specs.Nets.{rules_of}
-use Rattle.judge.specs.Checking.{book_answer, BookPasses, Checked, passes-granted, book-passes, book-is, is-book}
+use Rattle.judge.specs.Checking.{book_answer, BookPasses, Checked, passes-granted, book-is}
+use Rattle.judge.proofs.Checking.{book-passes, is-book}
 use Rattle.runner.specs.Completing.{fitted, order_answer, any_from, snapshot_answer, completion_answer}
 use Rattle.runner.specs.Ordered.{fitted-refused}
 

@@ -1,4 +1,6 @@
 // The runner: completes a stage along a given order of the rules that count for it.
+#![tactic(auto)]
+
 ghost use Rattle.std.specs.Prelude.{◌≡◌};
 ghost use Rattle.runner.specs.Completing.{completing};
 
@@ -11,7 +13,7 @@ pub mod running;
 
 // What completing a stage gives.
 #[repr(C)]
-#[derive(Drop)]
+#[derive(Clone, Copy)]
 pub struct Completion {
     pub answer: Answer,
     pub snapshot: Snapshot,

@@ -9,13 +9,13 @@ judge_order_in_spec =
     tie.close
     (tie.spec
     (λ c κs. search rules)
-    (λ c. order-book _ _ _ _ c.before.before.judge-book.ensures c.if1.true)
+    (λ c. order-book _ _ _ _ c.before.before.judge_book-answer.ensures c.if-answer-ne0.true)
     (λ c κs. search rules)
-    (λ c. order-nowhere _ _ _ _ c.before.before.before.before.before.judge-book.ensures c.before.before.before.if1.false _ c.before.before.before.before.before.before.before.before.before.before.before.before.requires.counts _
-    c.before.if2.true c.refused.ensures)
+    (λ c. order-nowhere _ _ _ _ c.before.before.before.before.before.judge_book-answer.ensures c.before.before.before.if-answer-ne0.false _ c.before.before.before.before.before.before.before.before.before.before.before.before.requires.counts _
+    c.before.if-counts-stage.true c.refused.ensures)
     (λ c. search rules)
-    (λ c κs. fit-asks _ _ c.before.before.before.before.before.before.before.before.before.judge-book.ensures c.before.before.before.before.before.before.before.if1.false _ c.before.before.before.before.before.before.before.before.before.before.before.before.before.before.before.before.requires.counts)
+    (λ c κs. fit-asks _ _ c.before.before.before.before.before.before.before.before.before.judge_book-answer.ensures c.before.before.before.before.before.before.before.if-answer-ne0.false _ c.before.before.before.before.before.before.before.before.before.before.before.before.before.before.before.before.requires.counts)
     (λ c κs. search rules)
-    (λ c. order-fit _ _ _ _ c.before.before.before.before.before.before.before.before.before.before.before.before.judge-book.ensures c.before.before.before.before.before.before.before.before.before.before.if1.false _ c.before.before.before.before.before.before.before.before.before.before.before.before.before.before.before.before.before.before.before.requires.counts c.before.before.before.before.before.before.before.before.if2.false _ c.before.before.order-fits.ensures _ c.before.if3.true c.granted.ensures)
+    (λ c. order-fit _ _ _ _ c.before.before.before.before.before.before.before.before.before.before.before.before.judge_book-answer.ensures c.before.before.before.before.before.before.before.before.before.before.if-answer-ne0.false _ c.before.before.before.before.before.before.before.before.before.before.before.before.before.before.before.before.before.before.before.requires.counts c.before.before.before.before.before.before.before.before.if-counts-stage.false _ c.before.before.order_fits.ensures _ c.before.if-order_fits.true c.granted.ensures)
     (λ c κs. search rules)
-    (λ c. order-unfit _ _ _ _ c.before.before.before.before.before.before.before.before.before.before.before.before.judge-book.ensures c.before.before.before.before.before.before.before.before.before.before.if1.false _ c.before.before.before.before.before.before.before.before.before.before.before.before.before.before.before.before.before.before.before.requires.counts c.before.before.before.before.before.before.before.before.if2.false _ c.before.before.order-fits.ensures _ c.before.if3.false c.refused2.ensures))
+    (λ c. order-unfit _ _ _ _ c.before.before.before.before.before.before.before.before.before.before.before.before.judge_book-answer.ensures c.before.before.before.before.before.before.before.before.before.before.if-answer-ne0.false _ c.before.before.before.before.before.before.before.before.before.before.before.before.before.before.before.before.before.before.before.requires.counts c.before.before.before.before.before.before.before.before.if-counts-stage.false _ c.before.before.order_fits.ensures _ c.before.if-order_fits.false c.refused-2.ensures))

@@ -1,4 +1,6 @@
 -- `runner::judging::judge_snapshot` meets its contract. Assumes nothing.
+use Rattle.std.specs.Prelude.{not}
+use Rattle.std.proofs.Common.{ap}
 use Rattle.runner.specs.Ordered.{above-answer, closed-answer, open-answer}
 use borrow.Author.Rules.{rules}
 use Rattle.runner.proofs.judging.judge_snapshot.Statement.{statement}
@@ -10,9 +12,9 @@ judge_snapshot_spec =
     (tie.spec
     (λ c κs. search rules)
     (λ c κs. search rules)
-    (λ c. above-answer _ _ _ _ _ c.before.before.any-from.ensures c.before.if1.true c.refused.ensures)
+    (λ c. above-answer _ _ _ _ _ c.before.before.any_from.ensures c.before.if-any_from.true c.refused.ensures)
     (λ c. search rules)
     (λ c κs. search rules)
-    (λ c. closed-answer _ _ _ _ c.before.before.before.before.any-from.ensures c.before.before.before.if1.false _ c.before.if2.true c.refused2.ensures)
+    (λ c. closed-answer _ _ _ _ c.before.before.before.before.any_from.ensures c.before.before.before.if-any_from.false _ (ap not c.before.if-not-marks-stage.true) c.refused-then-not-marks-stage.ensures)
     (λ c κs. search rules)
-    (λ c. open-answer _ _ _ _ c.before.before.before.before.any-from.ensures c.before.before.before.if1.false _ c.before.if2.false c.granted.ensures))
+    (λ c. open-answer _ _ _ _ c.before.before.before.before.any_from.ensures c.before.before.before.if-any_from.false _ (ap not c.before.if-not-marks-stage.false) c.granted.ensures))
