@@ -14,7 +14,8 @@ use Rattle.book.specs.Judging.{counts_of}
 use Rattle.book.specs.WellFormed.{WellFormed}
 use Rattle.book.specs.declared.Counts.{Counts}
 use Rattle.judge.specs.Head.{head_answer, head-refused}
-use Rattle.judge.specs.Checking.{book_answer, BookPasses, book-passes, stages-many}
+use Rattle.judge.specs.Checking.{book_answer, BookPasses, stages-many}
+use Rattle.judge.proofs.Checking.{book-passes}
 use Rattle.judge.proofs.Returns.{book-refused}
 use Rattle.index.specs.Index.{index-ends}
 use Rattle.index.specs.Reading.{offset-small}

@@ -8,7 +8,8 @@ use Rattle.paper.specs.Answers.{answer, granted}
 use Rattle.paper.specs.declared.Answer.{Answer}
 use Rattle.general.specs.Cases.{cases, coincide}
 use Rattle.book.specs.Image.{rules_in, book_of}
-use Rattle.judge.specs.Checking.{book_answer, BookPasses, Checked, passes-granted, book-passes, book-is, is-book}
+use Rattle.judge.specs.Checking.{book_answer, BookPasses, Checked, passes-granted, book-is}
+use Rattle.judge.proofs.Checking.{book-passes, is-book}
 use Rattle.index.specs.Index.{index_image}
 
 -- the index of the book that an image says, and its bytes

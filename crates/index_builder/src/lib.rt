@@ -1,4 +1,6 @@
 // Building the index of a book.
+#![tactic(auto)]
+
 pub mod building;
 
 ghost use Rattle.std.specs.Prelude.{◌≡◌, length};

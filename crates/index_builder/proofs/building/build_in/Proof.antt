@@ -9,7 +9,7 @@ build_in_spec =
     tie.close
     (tie.spec
     (λ c κs. search rules)
-    (λ c. build-book _ _ _ c.before.before.judge-book.ensures c.if1.true)
-    (λ c κs. judged-so _ _ c.before.before.before.before.before.before.before.judge-book.ensures c.before.before.before.before.before.if1.false _ c.before.before.before.before.before.before.before.before.before.before.before.before.before.before.requires.counts)
+    (λ c. build-book _ _ _ c.before.before.judge_book-answer.ensures c.if-answer-ne0.true)
+    (λ c κs. judged-so _ _ c.before.before.before.before.before.before.before.judge_book-answer.ensures c.before.before.before.before.before.if-answer-ne0.false _ c.before.before.before.before.before.before.before.before.before.before.before.before.before.before.requires.counts)
     (λ c. search rules)
-    (λ c. c.before.before.write-in.ensures))
+    (λ c. c.before.before.write_in.ensures))

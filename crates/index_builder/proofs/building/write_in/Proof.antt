@@ -13,11 +13,11 @@ write_in_spec =
     (λ c. search rules)
     (λ c κs. counts-asks _ _ c.before.before.before.before.requires _ refl)
     (λ c. search rules)
-    (λ c κs. index-sized _ _ c.before.before.before.before.before.before.before.requires _ _ c.before.before.stage-counts.ensures)
-    (λ c. omega (arith, need-small _ _ c.before.before.before.before.before.before.before.before.before.requires _ _ c.before.before.before.before.stage-counts.ensures _ c.before.index-size.ensures))
+    (λ c κs. index-sized _ _ c.before.before.before.before.before.before.before.requires _ _ c.before.before.stage_counts-common.ensures)
+    (λ c. omega (arith, need-small _ _ c.before.before.before.before.before.before.before.before.before.requires _ _ c.before.before.before.before.stage_counts-common.ensures _ c.before.index_size-need.ensures))
     (λ c κs. search rules)
-    (λ c. build-narrow _ _ c.before.before.before.before.before.before.before.before.before.before.requires.0 _ (need-is _ _ c.before.before.before.before.before.before.before.before.before.before.requires _ _ c.before.before.before.before.before.stage-counts.ensures _ c.before.before.index-size.ensures) _ c.before.if1.true c.refused.ensures)
-    (λ c κs. let n = need-is _ _ c.before.before.before.before.before.before.before.before.before.before.before.before.before.before.before.requires _ _ c.before.before.before.before.before.before.before.before.before.before.stage-counts.ensures _ c.before.before.before.before.before.before.before.index-size.ensures in
-    (index-ready _ _ c.before.before.before.before.before.before.before.before.before.before.before.before.before.before.before.requires _ _ c.before.before.before.before.before.before.before.before.before.before.stage-counts.ensures, omega (arith, n, c.before.before.before.before.before.before.if1.false)))
+    (λ c. build-narrow _ _ c.before.before.before.before.before.before.before.before.before.before.requires.0 _ (need-is _ _ c.before.before.before.before.before.before.before.before.before.before.requires _ _ c.before.before.before.before.before.stage_counts-common.ensures _ c.before.before.index_size-need.ensures) _ c.before.if-room-need.true c.refused.ensures)
+    (λ c κs. let n = need-is _ _ c.before.before.before.before.before.before.before.before.before.before.before.before.before.before.before.requires _ _ c.before.before.before.before.before.before.before.before.before.before.stage_counts-common.ensures _ c.before.before.before.before.before.before.before.index_size-need.ensures in
+    (index-ready _ _ c.before.before.before.before.before.before.before.before.before.before.before.before.before.before.before.requires _ _ c.before.before.before.before.before.before.before.before.before.before.stage_counts-common.ensures, omega (arith, n, c.before.before.before.before.before.before.if-room-need.false)))
     (λ c κs. search rules) (λ c. search rules)
-    (λ c. build-built _ _ c.before.before.before.before.before.before.before.before.before.before.before.before.before.before.before.before.before.before.before.requires.0 _ (need-is _ _ c.before.before.before.before.before.before.before.before.before.before.before.before.before.before.before.before.before.before.before.requires _ _ c.before.before.before.before.before.before.before.before.before.before.before.before.before.before.stage-counts.ensures _ c.before.before.before.before.before.before.before.before.before.before.before.index-size.ensures) _ c.before.before.before.before.before.before.before.before.before.before.if1.false _ _ c.before.before.before.put-index.ensures c.granted.ensures))
+    (λ c. build-built _ _ c.before.before.before.before.before.before.before.before.before.before.before.before.before.before.before.before.before.before.before.requires.0 _ (need-is _ _ c.before.before.before.before.before.before.before.before.before.before.before.before.before.before.before.before.before.before.before.requires _ _ c.before.before.before.before.before.before.before.before.before.before.before.before.before.before.stage_counts-common.ensures _ c.before.before.before.before.before.before.before.before.before.before.before.index_size-need.ensures) _ c.before.before.before.before.before.before.before.before.before.before.if-room-need.false _ _ c.before.before.before.put_index.ensures c.granted.ensures))
