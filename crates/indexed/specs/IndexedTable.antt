@@ -14,7 +14,8 @@ use Rattle.book.specs.Image.{stages_in, marks_in, rules_in, book_of}
 use Rattle.book.specs.WellFormed.{WellFormed}
 use Rattle.book.specs.declared.Snapshot.{Snapshot}
 use Rattle.rule_order.specs.Nets.{rules_of}
-use Rattle.judge.specs.Checking.{book_answer, Checked, checking, checked_room, book-passes, book-is, is-book, granted-room, passed_is, order-fit, acyclic-at}
+use Rattle.judge.specs.Checking.{book_answer, Checked, checking, checked_room, book-is, order-fit, acyclic-at}
+use Rattle.judge.proofs.Checking.{book-passes, is-book, granted-room, passed_is}
 use Rattle.runner.specs.Completing.{any_from, snapshot_answer, completion_answer, completing}
 use Rattle.runner.specs.Table.{Passes, Belongs, belongs-none, none-belongs, some-above, above-some, order-granted}
 use Rattle.runner.specs.Walks.{looks-length, goes-run}

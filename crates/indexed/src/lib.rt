@@ -1,4 +1,6 @@
 // Completing a stage through the index of its book.
+#![tactic(auto)]
+
 pub mod judging;
 pub mod running;
 
@@ -11,7 +13,7 @@ use paper::Answer;
 
 // What completing a stage through the index gives: the answer, the snapshot, and how many rules were evaluated, fired or not.
 #[repr(C)]
-#[derive(Drop)]
+#[derive(Clone, Copy)]
 pub struct IndexedCompletion {
     pub answer: Answer,
     pub snapshot: Snapshot,

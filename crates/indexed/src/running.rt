@@ -22,7 +22,7 @@ fn entry_at(index: &[u8], at: usize) -> usize
 }
 
 // What the turns leave: the snapshot, and how many rules had one.
-#[derive(Drop)]
+#[derive(Clone, Copy)]
 pub struct Turned {
     pub snapshot: Snapshot,
     pub evaluated: u32,

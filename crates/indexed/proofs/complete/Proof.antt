@@ -10,15 +10,15 @@ complete_spec =
     tie.close
     (tie.spec
     (λ c κs. search rules)
-    (λ c. index-refused _ _ _ _ _ c.before.before.judge-index.ensures (λ z. c.if1.true (omega (arith, z))))
-    (λ c κs. (index-so _ _ _ c.before.before.judge-index.ensures c.if1.false).0.formed.headed.long)
-    (λ c κs. stages-few _ _ _ c.before.before.before.before.before.judge-index.ensures c.before.before.before.if1.false _ c.before.before.counts-at.ensures)
-    (λ c. marks-refused _ _ _ _ _ c.before.before.before.before.before.before.before.before.judge-index.ensures c.before.before.before.before.before.before.if1.false _
-    c.before.before.before.before.before.counts-at.ensures _ c.before.before.judge-marks.ensures c.if2.true)
-    (λ c κs. walk-asks _ _ _ c.before.before.before.before.before.before.before.before.before.before.judge-index.ensures
-    c.before.before.before.before.before.before.before.before.if1.false _ c.before.before.before.before.before.before.before.counts-at.ensures _ _ _
-    c.before.before.before.before.judge-marks.ensures c.before.before.if2.false)
-    (λ c. completed-so _ _ _ _ _ c.before.before.before.before.before.before.before.before.before.before.before.before.judge-index.ensures
-    c.before.before.before.before.before.before.before.before.before.before.if1.false _
-    c.before.before.before.before.before.before.before.before.before.counts-at.ensures _ c.before.before.before.before.before.before.judge-marks.ensures _ _
-    c.before.before.before.before.if2.false c.before.go-through-index.ensures.0 c.before.go-through-index.ensures.1))
+    (λ c. index-refused _ _ _ _ _ c.judge_index-fit.ensures (λ z. c.if-fit-ne0.true (omega (arith, z))))
+    (λ c κs. (index-so _ _ _ c.judge_index-fit.ensures c.if-fit-ne0.false).0.formed.headed.long)
+    (λ c κs. stages-few _ _ _ c.judge_index-fit.ensures c.if-fit-ne0.false _ c.counts_at-h.ensures)
+    (λ c. marks-refused _ _ _ _ _ c.judge_index-fit.ensures c.if-fit-ne0.false _
+    c.counts_at-h.ensures _ c.judge_marks-answer.ensures c.if-answer-ne0.true)
+    (λ c κs. walk-asks _ _ _ c.judge_index-fit.ensures
+    c.if-fit-ne0.false _ c.counts_at-h.ensures _ _ _
+    c.judge_marks-answer.ensures c.if-answer-ne0.false)
+    (λ c. completed-so _ _ _ _ _ c.judge_index-fit.ensures
+    c.if-fit-ne0.false _
+    c.counts_at-h.ensures _ c.judge_marks-answer.ensures _ _
+    c.if-answer-ne0.false c.go_through_index-turned.ensures.0 c.go_through_index-turned.ensures.1))

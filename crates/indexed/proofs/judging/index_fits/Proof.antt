@@ -11,5 +11,5 @@ index_fits_spec =
     (tie.spec
     (λ c. search rules)
     (λ c κs. counts-asks _ _ c.before.before.before.before.requires _ refl)
-    (λ c κs. index-ready _ _ c.before.before.before.before.before.before.before.before.before.before.requires _ _ c.before.before.before.before.before.stage-counts.ensures)
+    (λ c κs. index-ready _ _ c.before.before.before.before.before.before.before.before.before.before.requires _ _ c.before.before.before.before.before.stage_counts-common.ensures)
     (λ c. c.index_same.ensures))

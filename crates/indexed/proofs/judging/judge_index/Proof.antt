@@ -10,7 +10,7 @@ judge_index_spec =
     tie.close
     (tie.spec
     (λ c κs. search rules)
-    (λ c. index-head _ _ _ c.before.before.judge-head.ensures c.if1.true)
-    (λ c κs. (headed-so _ _ c.before.before.judge-head.ensures c.if1.false).long)
-    (λ c κs. begun-so _ _ c.before.before.before.judge-head.ensures c.before.if1.false _ c.counts-at.ensures)
+    (λ c. index-head _ _ _ c.before.before.judge_head-judged.ensures c.if-judged-ne0.true)
+    (λ c κs. (headed-so _ _ c.before.before.judge_head-judged.ensures c.if-judged-ne0.false).long)
+    (λ c κs. begun-so _ _ c.before.before.before.judge_head-judged.ensures c.before.if-judged-ne0.false _ c.counts_at.ensures)
     (λ c. search rules))

@@ -10,9 +10,9 @@ judge_index_in_spec =
     tie.close
     (tie.spec
     (λ c κs. search rules)
-    (λ c. index-book _ _ _ c.before.before.judge-book.ensures c.if1.true)
-    (λ c κs. judged-so _ _ c.before.before.before.before.before.before.judge-book.ensures c.before.before.before.before.if1.false _ c.before.before.before.before.before.before.before.before.before.before.before.before.before.requires.counts)
+    (λ c. index-book _ _ _ c.before.before.judge_book-answer.ensures c.if-answer-ne0.true)
+    (λ c κs. judged-so _ _ c.before.before.before.before.before.before.judge_book-answer.ensures c.before.before.before.before.if-answer-ne0.false _ c.before.before.before.before.before.before.before.before.before.before.before.before.before.requires.counts)
     (λ c κs. search rules)
-    (λ c. index-fits _ _ _ c.before.before.before.before.before.before.before.before.before.judge-book.ensures c.before.before.before.before.before.before.before.if1.false _ c.before.before.index-fits.ensures _ c.before.if2.true c.granted.ensures)
+    (λ c. index-fits _ _ _ c.before.before.before.before.before.before.before.before.before.judge_book-answer.ensures c.before.before.before.before.before.before.before.if-answer-ne0.false _ c.before.before.index_fits.ensures _ c.before.if-index_fits.true c.granted.ensures)
     (λ c κs. search rules)
-    (λ c. index-differs _ _ _ c.before.before.before.before.before.before.before.before.before.judge-book.ensures c.before.before.before.before.before.before.before.if1.false _ c.before.before.index-fits.ensures _ c.before.if2.false c.refused.ensures))
+    (λ c. index-differs _ _ _ c.before.before.before.before.before.before.before.before.before.judge_book-answer.ensures c.before.before.before.before.before.before.before.if-answer-ne0.false _ c.before.before.index_fits.ensures _ c.before.if-index_fits.false c.refused.ensures))

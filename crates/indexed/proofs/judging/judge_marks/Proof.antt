@@ -9,6 +9,6 @@ judge_marks_spec =
     tie.close
     (tie.spec
     (λ c. search rules) (λ c κs. search rules) (λ c κs. search rules)
-    (λ c s e. marks-above s _ _ _ _ e _ c.before.before.any-from.ensures c.before.if1.true c.refused.ensures)
+    (λ c s e. marks-above s _ _ _ _ e _ c.before.before.any_from.ensures c.before.if-any_from.true c.refused.ensures)
     (λ c κs. search rules)
-    (λ c s e. marks-belong s _ _ _ _ e _ c.before.before.any-from.ensures c.before.if1.false c.judge-open.ensures))
+    (λ c s e. marks-belong s _ _ _ _ e _ c.before.before.any_from.ensures c.before.if-any_from.false c.judge_open.ensures))
