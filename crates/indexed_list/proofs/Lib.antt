@@ -1,2 +1,3 @@
 -- The root of the crate's shared laws for proofs.
 pub mod Listed
+pub mod ListTable

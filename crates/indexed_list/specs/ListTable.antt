@@ -5,7 +5,7 @@ use Rattle.std.proofs.Math.Path.{refl, ap}
 use Rattle.std.proofs.Common.{subst, arith}
 use mathlib.Core.List.{List, [], ◌∷◌}
 use Prim.Native.Nat.{ℕ, suc, ◌+◌, ◌≤◌, ◌<◌, ◌^◌}
-use borrow.Author.Tests.{eqb-true, eqb-false, eq-eqb, ne_eqb, ltb-true, ltb-false, lt-ltb, le-ltb}
+use borrow.Author.Tests.{eqb-true, eqb-false, ne_eqb, ltb-true, ltb-false, lt-ltb, le-ltb}
 use Rattle.paper.specs.Limits.{max_marks, max_list, clash, mark_above, no_such_stage, stage_closed, index_unfit, long_list}
 use Rattle.paper.specs.Answers.{answer, granted, refusal, place_of}
 use Rattle.paper.specs.declared.Answer.{Answer}
@@ -14,12 +14,13 @@ use Rattle.general.specs.Comparing.{same_bytes, same-so, so-same}
 use Rattle.book.specs.Text.{snap_of}
 use Rattle.book.specs.Image.{stages_in, marks_in, rules_in}
 use Rattle.book.specs.declared.Snapshot.{Snapshot}
-use Rattle.judge.specs.Checking.{book_answer, Checked, book-passes, book-is, is-book}
+use Rattle.judge.specs.Checking.{book_answer, Checked, book-is}
+use Rattle.judge.proofs.Checking.{book-passes, is-book}
 use Rattle.runner.specs.Completing.{any_from}
 use Rattle.runner.specs.Table.{Passes, Belongs, belongs-none, none-belongs, some-above, above-some}
 use Rattle.index_builder.specs.Building.{index_of}
-use Rattle.indexed.specs.Indexed.{index_answer, open_answer, marks_answer, indexed_answer, looked_at, completing_indexed}
-use Rattle.indexed.specs.IndexedTable.{index-granted, index-unfit, index-refused, index-passes, indexed-hands-back}
+use Rattle.indexed.specs.Indexed.{index_answer, open_answer, looked_at, completing_indexed}
+use Rattle.indexed.specs.IndexedTable.{index-granted, index-unfit, index-refused, index-passes}
 use Rattle.indexed_list.specs.InList.{completed_marks, granted_of, reached, looked_in, stopping, placed, before_list, list_answer, completing_list, looked-in-small, before-passes, InTurn, in-turn}
 use Rattle.indexed_list.specs.InList as turn
 use Rattle.indexed_list.specs.declared.ListCompletion.{ListCompletion}
@@ -106,17 +107,6 @@ module _ (s index : List ℕ) (snapshot : Snapshot) (list : List ℕ) where
   unfolding completing_list
   before-hands-back n = rw (ne_eqb (before_list s index snapshot.marks (length list)).code 0 n)
 
-  -- within it: the number granted, which is the place of the refused one, the snapshot reached, and the rules evaluated by the granted ones
-  pub within-hands-back : (before_list s index snapshot.marks (length list)).code ≡ 0
-      → completing_list s index snapshot list ≡ record {
-        answer = placed (stopping s snapshot.marks list) (granted_of s snapshot.marks list);
-        granted = granted_of s snapshot.marks list;
-        snapshot = record { marks = reached s snapshot.marks list };
-        evaluated = looked_in s snapshot.marks list;
-      }
-  unfolding completing_list
-  within-hands-back e = rw (eq-eqb (before_list s index snapshot.marks (length list)).code 0 e)
-
   -- the rules evaluated never exceed 32 bits
   pub list-small : (completing_list s index snapshot list).evaluated < 2 ^ 32
   unfolding completing_list
@@ -130,24 +120,6 @@ module _ (s index : List ℕ) (snapshot : Snapshot) (list : List ℕ) where
   -- two results that meet the contract coincide
   pub list-determined : (x y : ListCompletion) → x ≡ completing_list s index snapshot list → y ≡ completing_list s index snapshot list → x ≡ y
   list-determined x y e f = coincide e f
-
-  refused-first : (list : List ℕ) → ((t : ℕ) → (completing_indexed s index snapshot t).answer.code ≡ 0 → ⊥) → InTurn s index snapshot list 0 snapshot 0
-  refused-first [] n = turn.InTurn.ended
-  refused-first (t ∷ l) n = subst (λ (y : Snapshot). InTurn s index snapshot (t ∷ l) 0 y 0) (indexed-hands-back s index snapshot t (n t)) (turn.InTurn.stops (n t))
-
-  -- "The end snapshot and the number granted are the same as one call after another, stopping at the first that is refused.", and "the sum over the granted ones"
-  pub list-in-turn : length snapshot.marks ≡ max_marks → length list ≤ max_list
-      → InTurn s index snapshot list (completing_list s index snapshot list).granted (completing_list s index snapshot list).snapshot (completing_list s index snapshot list).evaluated
-  unfolding before_list completing_indexed indexed_answer marks_answer
-  list-in-turn w l =
-      cases (eqb (index_answer s index).code 0)
-      (λ e. let (p, q) = index-passes s index (eqb-true (index_answer s index).code 0 e) in
-      cases (any_from (marks_in s) snapshot.marks)
-      (λ u. let z : before_list s index snapshot.marks (length list) ≡ refusal mark_above = rw (e, u) in
-      rw (before-hands-back (λ y. absurd (omega (arith, ap (λ (a : Answer). a.code) z)))) (refused-first list (λ t y. absurd (omega (arith, rw (e, u) at y)))))
-      (λ u. rw (within-hands-back (rw (e, u, le-ltb max_list (length list) l))) (in-turn s index p q list snapshot w (none-belongs s snapshot.marks u))))
-      (λ e. let n = eqb-false (index_answer s index).code 0 e in
-      rw (before-hands-back (λ y. n (rw e at y))) (refused-first list (λ t y. n (rw e at y))))
 
 -- and no other numbers and snapshot are those of one call after another
 pub in-turn-one : {s index : List ℕ} {x y z : Snapshot} {list : List ℕ} {n m k l : ℕ} → InTurn s index x list n y k → InTurn s index x list m z l → (n ≡ m) × (y ≡ z) × (k ≡ l)

@@ -1,4 +1,6 @@
 // Completing a list of stages through the index of their book.
+#![tactic(auto)]
+
 pub mod lists;
 
 ghost use Rattle.std.specs.Prelude.{◌≡◌};
@@ -10,7 +12,7 @@ use paper::Answer;
 
 // What completing a list of stages gives: the answer, how many were granted, the snapshot reached, and how many rules the granted ones evaluated.
 #[repr(C)]
-#[derive(Drop)]
+#[derive(Clone, Copy)]
 pub struct ListCompletion {
     pub answer: Answer,
     pub granted: u32,

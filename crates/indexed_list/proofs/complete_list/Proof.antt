@@ -9,7 +9,7 @@ complete_list_spec =
     tie.close
     (tie.spec
     (λ c κs. search rules)
-    (λ c. list-refused _ _ _ _ _ c.before.before.judge-before.ensures c.if1.true)
-    (λ c κs. list-headed _ _ _ _ _ c.before.before.judge-before.ensures c.if1.false)
-    (λ c κs. walk_begins _ _ _ _ _ c.before.before.before.judge-before.ensures c.before.if1.false _ c.counts-at.ensures)
-    (λ c. list-walked _ _ _ _ _ c.before.before.before.before.judge-before.ensures c.before.before.if1.false _ c.walk-list.ensures))
+    (λ c. list-refused _ _ _ _ _ c.before.before.judge_before-before.ensures c.if-before-ne0.true)
+    (λ c κs. list-headed _ _ _ _ _ c.before.before.judge_before-before.ensures c.if-before-ne0.false)
+    (λ c κs. walk_begins _ _ _ _ _ c.before.before.before.judge_before-before.ensures c.before.if-before-ne0.false _ c.counts_at-h.ensures)
+    (λ c. list-walked _ _ _ _ _ c.before.before.before.before.judge_before-before.ensures c.before.before.if-before-ne0.false _ c.walk_list.ensures))

@@ -10,14 +10,14 @@ judge_before_spec =
     tie.close
     (tie.spec
     (λ c κs. search rules)
-    (λ c. before-index _ _ _ _ _ c.before.before.judge-index.ensures c.if1.true)
-    (λ c κs. (index-so _ _ _ c.before.before.judge-index.ensures c.if1.false).0.formed.headed.long)
+    (λ c. before-index _ _ _ _ _ c.before.before.judge_index-fit.ensures c.if-fit-ne0.true)
+    (λ c κs. (index-so _ _ _ c.before.before.judge_index-fit.ensures c.if-fit-ne0.false).0.formed.headed.long)
     (λ c. search rules) (λ c κs. search rules) (λ c κs. search rules)
-    (λ c. before_above _ _ _ _ _ c.before.before.before.before.before.before.before.judge-index.ensures c.before.before.before.before.before.if1.false _ c.before.before.before.before.counts-at.ensures _ c.before.before.any-from.ensures _ c.before.if2.true c.refused.ensures)
+    (λ c. before_above _ _ _ _ _ c.before.before.before.before.before.before.before.judge_index-fit.ensures c.before.before.before.before.before.if-fit-ne0.false _ c.before.before.before.before.counts_at-h.ensures _ c.before.before.any_from.ensures _ c.before.if-any_from.true c.refused.ensures)
     (λ c κs. search rules) (λ c κs. search rules)
-    (λ c. before-long _ _ _ _ _ c.before.before.before.before.before.before.before.before.before.judge-index.ensures c.before.before.before.before.before.before.before.if1.false _ c.before.before.before.before.before.before.counts-at.ensures _ c.before.before.before.before.any-from.ensures _ c.before.before.before.if2.false
-    c.before.before.if3.true _ c.before.place_of.ensures c.refused2.ensures)
+    (λ c. before-long _ _ _ _ _ c.before.before.before.before.before.before.before.before.before.judge_index-fit.ensures c.before.before.before.before.before.before.before.if-fit-ne0.false _ c.before.before.before.before.before.before.counts_at-h.ensures _ c.before.before.before.before.any_from.ensures _ c.before.before.before.if-any_from.false
+    c.before.before.if-many-gt-MAX_LIST.true _ c.before.place_of.ensures c.refused-then-many-gt-MAX_LIST.ensures)
     (λ c κs. search rules)
-    (λ c. before-granted _ _ _ _ _ c.before.before.before.before.before.before.before.before.judge-index.ensures c.before.before.before.before.before.before.if1.false _
-    c.before.before.before.before.before.counts-at.ensures _ c.before.before.before.any-from.ensures _ c.before.before.if2.false
-    c.before.if3.false c.granted.ensures))
+    (λ c. before-granted _ _ _ _ _ c.before.before.before.before.before.before.before.before.judge_index-fit.ensures c.before.before.before.before.before.before.if-fit-ne0.false _
+    c.before.before.before.before.before.counts_at-h.ensures _ c.before.before.before.any_from.ensures _ c.before.before.if-any_from.false
+    c.before.if-many-gt-MAX_LIST.false c.granted.ensures))

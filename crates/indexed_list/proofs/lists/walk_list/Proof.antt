@@ -9,10 +9,10 @@ use borrow.Author.Rules.{rules}
 use Rattle.indexed_list.proofs.lists.walk_list.Statement.{statement}
 use Rattle.indexed_list.proofs.lists.walk_list.Tie as tie
 
-abbrev invariant-loop : tie.invariant-loop
+abbrev invariant-loop : tie.invariant-loop-j
 invariant-loop book counts index list held₀ evaluated₀ j₀ j-end held evaluated j = Gone book held₀.marks list held.marks evaluated j
 
-abbrev decreases-loop : tie.decreases-loop
+abbrev decreases-loop : tie.decreases-loop-j
 decreases-loop book counts index list held₀ evaluated₀ j₀ j-end held evaluated j = length list - j
 
 pub walk_list_spec : {M : Type 1} → statement M
@@ -22,41 +22,41 @@ walk_list_spec =
     invariant-loop
     decreases-loop
     (λ c. gone-first _ _ _)
-    (λ c. record { fits = omega (arith, c.loop-test.true, c.before.before.before.before.before.requires.3) })
-    (λ c. c.before.loop-test.true)
-    (λ c κs. stages-few _ _ c.before.before.before.before.before.before.before.before.requires.0)
+    (λ c. record { fits = omega (arith, c.loop-j-test.true, c.requires.3) })
+    (λ c. c.loop-j-test.true)
+    (λ c κs. stages-few _ _ c.requires.0)
     (λ c. record {
       fits = omega (
         arith,
-        c.before.before.before.before.before.before.loop-test.true,
-        c.before.before.before.before.before.before.before.before.before.before.before.requires.3,
+        c.loop-j-test.true,
+        c.requires.3,
       );
     })
     (λ c κs. search rules)
     (λ c. record {
       fits = omega (
         arith,
-        c.before.before.before.before.before.before.before.loop-test.true,
-        c.before.before.before.before.before.before.before.before.before.before.before.before.requires.3,
+        c.loop-j-test.true,
+        c.requires.3,
       );
     })
-    (λ c. gone-stops _ _ _ _ _ _ c.before.before.before.before.before.before.before.before.loop.invariant
-    c.before.before.before.before.before.before.before.loop-test.true _ refl _
-    (c.before.before.before.judge-open.ensures _ (ap (λ (h : Counts). h.stages) c.before.before.before.before.before.before.before.before.before.before.before.before.requires.0.counts)) _ _ c.before.if1.true c.refused.ensures refl)
-    (λ c κs. turn-asks _ _ _ _ c.before.before.before.before.before.before.before.before.before.before.before.before.before.requires _ _ _ c.before.before.before.before.judge-open.ensures c.before.before.if1.false)
-    (λ c. let p = c.before.before.before.before.before.before.before.before.before.before.before.before.before.before.before.before.requires in
-    let a = c.before.before.before.before.before.before.before.judge-open.ensures _ (ap (λ (h : Counts). h.stages) p.0.counts) in
+    (λ c. gone-stops _ _ _ _ _ _ c.loop-j.invariant
+    c.loop-j-test.true _ refl _
+    (c.judge_open-answer.ensures _ (ap (λ (h : Counts). h.stages) c.requires.0.counts)) _ _ c.if-answer-ne0.true c.refused.ensures refl)
+    (λ c κs. turn-asks _ _ _ _ c.requires _ _ _ c.judge_open-answer.ensures c.if-answer-ne0.false)
+    (λ c. let p = c.requires in
+    let a = c.judge_open-answer.ensures _ (ap (λ (h : Counts). h.stages) p.0.counts) in
     record {
-      fits = gone-fits _ _ _ _ _ _ c.before.before.before.before.before.before.before.before.before.before.before.before.loop.invariant
-          c.before.before.before.before.before.before.before.before.before.before.before.loop-test.true _ refl _ a
-          c.before.before.before.before.before.if1.false p.0.formed p.1 _ c.before.before.go-through-index.ensures.1 p.3;
+      fits = gone-fits _ _ _ _ _ _ c.loop-j.invariant
+          c.loop-j-test.true _ refl _ a
+          c.if-answer-ne0.false p.0.formed p.1 _ c.go_through_index-next.ensures.1 p.3;
     })
     (λ c. search rules) (λ c. search rules)
-    (λ c. let p = c.before.before.before.before.before.before.before.before.before.before.before.before.before.before.before.before.requires in
-    let a = c.before.before.before.before.before.before.before.judge-open.ensures _ (ap (λ (h : Counts). h.stages) p.0.counts) in
-    gone-on _ _ _ _ _ _ c.before.before.before.before.before.before.before.before.before.before.before.before.loop.invariant
-    c.before.before.before.before.before.before.before.before.before.before.before.loop-test.true _ refl _ a c.before.before.before.before.before.if1.false p.0.formed p.1 _
-    c.before.before.go-through-index.ensures.1 _ c.before.before.go-through-index.ensures.0)
+    (λ c. let p = c.requires in
+    let a = c.judge_open-answer.ensures _ (ap (λ (h : Counts). h.stages) p.0.counts) in
+    gone-on _ _ _ _ _ _ c.loop-j.invariant
+    c.loop-j-test.true _ refl _ a c.if-answer-ne0.false p.0.formed p.1 _
+    c.go_through_index-next.ensures.1 _ c.go_through_index-next.ensures.0)
     (λ c κs. search rules)
-    (λ c. record { fits = omega (arith, c.before.before.before.before.before.before.requires.3) })
-    (λ c. gone-all _ _ _ _ _ _ c.before.before.loop.invariant _ _ _ c.before.loop-test.false c.granted.ensures refl refl))
+    (λ c. record { fits = omega (arith, c.requires.3) })
+    (λ c. gone-all _ _ _ _ _ _ c.loop-j.invariant _ _ _ c.loop-j-test.false c.granted.ensures refl refl))
