@@ -1,1 +1,2 @@
 // That chart and derived book agree: theorems alone, in specs/.
+#![tactic(auto)]
