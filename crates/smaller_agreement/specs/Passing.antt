@@ -29,7 +29,8 @@ use Rattle.smaller.specs.Staying.{stays, new_mark}
 use Rattle.smaller.specs.Smaller.{smaller_clauses, smaller_text, has_text, new_condition, restated, reduced, smaller_rules, smaller_book}
 use Rattle.smaller.specs.Numbering.{new-stage, new-one}
 use Rattle.smaller.specs.Numbers.{smaller-text}
-use Rattle.smaller.specs.Formed.{of-kinds, Names, names-less, spoken-names, There, clauses-there, reduced-fewer, smaller-well}
+use Rattle.smaller.specs.Formed.{of-kinds, Names, names-less, spoken-names, There, reduced-fewer}
+use Rattle.smaller.proofs.Formed.{clauses-there, smaller-well}
 use Rattle.agreement.specs.Passing.{derived-calm}
 
 all-elem : (P : ℕ → Type 0) (l : List ℕ) → All P l → (k : ℕ) → elem k l ≡ true → P k

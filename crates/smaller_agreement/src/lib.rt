@@ -1,1 +1,2 @@
 // Full against smaller derived book: theorems alone.
+#![tactic(auto)]

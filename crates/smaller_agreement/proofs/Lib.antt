@@ -1,0 +1,3 @@
+-- The root of the crate's proofs.
+pub mod Settling
+pub mod Through
