@@ -1,4 +1,6 @@
 // Words and decimal numbers written into lent room, run behind run. Every writer hands back the place behind what it wrote.
+#![tactic(auto)]
+
 ghost use Rattle.std.specs.Prelude.{[], ◌∷◌, ◌++◌, ◌<◌, length};
 ghost use Rattle.general.specs.Writing.{Wrote};
 ghost use Rattle.writing.specs.Text.{decimal};

@@ -6,10 +6,10 @@ use Rattle.writing.specs.Writers.{Copied, copied-start, copied-length, copied-pl
 use Rattle.writing.proofs.text.Statement.{statement}
 use Rattle.writing.proofs.text.Tie as tie
 
-abbrev invariant-loop : tie.invariant-loop
+abbrev invariant-loop : tie.invariant-loop-i
 invariant-loop room₀ at s i₀ room i = Copied room₀ at s i room
 
-abbrev decreases-loop : tie.decreases-loop
+abbrev decreases-loop : tie.decreases-loop-i
 decreases-loop room₀ at s i₀ room i = length s - i
 
 pub text_spec : {M : Type 1} → statement M
