@@ -1,4 +1,6 @@
 // The two lines of a listing that stand once, written into lent room: the first, with the header's counts, and a refusal's.
+#![tactic(auto)]
+
 ghost use Rattle.general.specs.Writing.{Wrote};
 ghost use Rattle.writing.specs.Writers.{Space};
 ghost use Rattle.single_lines.specs.Text.{counts_line, refusal_line};

@@ -9,35 +9,11 @@ pub counts_line_spec : {M : Type 1} → statement M
 counts_line_spec =
     tie.close
     (tie.spec
+    (λ c κs. unfold counts_line in fits₁ _ c.requires)
+    (λ c κs. unfold counts_line in fits₂ c.named-a.ensures _ _ c.requires)
+    (λ c κs. unfold counts_line in fits₃ c.named-b.ensures c.named-a.ensures _ _ c.requires)
+    (λ c κs. unfold counts_line in fits₄ c.named-c.ensures c.named-b.ensures c.named-a.ensures _ _ c.requires)
+    (λ c κs. unfold counts_line in fits₅ c.named-d.ensures c.named-c.ensures c.named-b.ensures c.named-a.ensures _ _ c.requires)
+    (λ c κs. unfold counts_line in last₆ c.named-e.ensures c.named-d.ensures c.named-c.ensures c.named-b.ensures c.named-a.ensures _ c.requires)
     (λ c. search rules)
-    (λ c κs. unfold counts_line in fits₁ _ c.before.before.before.requires)
-    (λ c. search rules)
-    (λ c κs. unfold counts_line in fits₂ c.before.before.before.before.named.ensures _ _ c.before.before.before.before.before.before.before.before.requires)
-    (λ c. search rules)
-    (λ c κs. unfold counts_line in fits₃ c.before.before.before.before.named2.ensures
-    c.before.before.before.before.before.before.before.before.before.named.ensures _ _
-    c.before.before.before.before.before.before.before.before.before.before.before.before.before.requires)
-    (λ c. search rules)
-    (λ c κs. unfold counts_line in fits₄ c.before.before.before.before.named3.ensures
-    c.before.before.before.before.before.before.before.before.before.named2.ensures
-    c.before.before.before.before.before.before.before.before.before.before.before.before.before.before.named.ensures _ _
-    c.before.before.before.before.before.before.before.before.before.before.before.before.before.before.before.before.before.before.requires)
-    (λ c. search rules)
-    (λ c κs. unfold counts_line in fits₅ c.before.before.before.before.named4.ensures
-    c.before.before.before.before.before.before.before.before.before.named3.ensures
-    c.before.before.before.before.before.before.before.before.before.before.before.before.before.before.named2.ensures
-    c.before.before.before.before.before.before.before.before.before.before.before.before.before.before.before.before.before.before.before.named.ensures _ _
-    c.before.before.before.before.before.before.before.before.before.before.before.before.before.before.before.before.before.before.before.before.before.before.before.requires)
-    (λ c. search rules)
-    (λ c κs. unfold counts_line in last₆ c.before.before.before.before.named5.ensures
-    c.before.before.before.before.before.before.before.before.before.named4.ensures
-    c.before.before.before.before.before.before.before.before.before.before.before.before.before.before.named3.ensures
-    c.before.before.before.before.before.before.before.before.before.before.before.before.before.before.before.before.before.before.before.named2.ensures
-    c.before.before.before.before.before.before.before.before.before.before.before.before.before.before.before.before.before.before.before.before.before.before.before.before.named.ensures _
-    c.before.before.before.before.before.before.before.before.before.before.before.before.before.before.before.before.before.before.before.before.before.before.before.before.before.before.before.before.requires)
-    (λ c. search rules)
-    (λ c. unfold counts_line in wrote₆ c.before.before.text.ensures c.before.before.before.before.before.before.before.named5.ensures
-    c.before.before.before.before.before.before.before.before.before.before.before.before.named4.ensures
-    c.before.before.before.before.before.before.before.before.before.before.before.before.before.before.before.before.before.named3.ensures
-    c.before.before.before.before.before.before.before.before.before.before.before.before.before.before.before.before.before.before.before.before.before.before.named2.ensures
-    c.before.before.before.before.before.before.before.before.before.before.before.before.before.before.before.before.before.before.before.before.before.before.before.before.before.before.before.named.ensures))
+    (λ c. unfold counts_line in wrote₆ c.text.ensures c.named-e.ensures c.named-d.ensures c.named-c.ensures c.named-b.ensures c.named-a.ensures))

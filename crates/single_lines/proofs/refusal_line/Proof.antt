@@ -9,20 +9,9 @@ pub refusal_line_spec : {M : Type 1} → statement M
 refusal_line_spec =
     tie.close
     (tie.spec
+    (λ c κs. unfold refusal_line in fits₁ _ c.requires)
+    (λ c κs. unfold refusal_line in fits₂ c.named-a.ensures _ _ c.requires)
+    (λ c κs. unfold refusal_line in fits₃ c.named-b.ensures c.named-a.ensures _ _ c.requires)
+    (λ c κs. unfold refusal_line in last₄ c.named-c.ensures c.named-b.ensures c.named-a.ensures _ c.requires)
     (λ c. search rules)
-    (λ c κs. unfold refusal_line in fits₁ _ c.before.before.before.requires)
-    (λ c. search rules)
-    (λ c κs. unfold refusal_line in fits₂ c.before.before.before.before.named.ensures _ _ c.before.before.before.before.before.before.before.before.requires)
-    (λ c. search rules)
-    (λ c κs. unfold refusal_line in fits₃ c.before.before.before.before.named2.ensures
-    c.before.before.before.before.before.before.before.before.before.named.ensures _ _
-    c.before.before.before.before.before.before.before.before.before.before.before.before.before.requires)
-    (λ c. search rules)
-    (λ c κs. unfold refusal_line in last₄ c.before.before.before.before.named3.ensures
-    c.before.before.before.before.before.before.before.before.before.named2.ensures
-    c.before.before.before.before.before.before.before.before.before.before.before.before.before.before.named.ensures _
-    c.before.before.before.before.before.before.before.before.before.before.before.before.before.before.before.before.before.before.requires)
-    (λ c. search rules)
-    (λ c. unfold refusal_line in wrote₄ c.before.before.text.ensures c.before.before.before.before.before.before.before.named3.ensures
-    c.before.before.before.before.before.before.before.before.before.before.before.before.named2.ensures
-    c.before.before.before.before.before.before.before.before.before.before.before.before.before.before.before.before.before.named.ensures))
+    (λ c. unfold refusal_line in wrote₄ c.text.ensures c.named-c.ensures c.named-b.ensures c.named-a.ensures))
