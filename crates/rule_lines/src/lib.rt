@@ -1,4 +1,6 @@
 // The listing's rule lines, one for each rule of a book, written into lent room.
+#![tactic(auto)]
+
 ghost use Rattle.std.specs.Prelude.{◌≤◌, length};
 ghost use Rattle.book.specs.Image.{rule_place};
 ghost use Rattle.general.specs.Lists.{flat};

@@ -8,11 +8,9 @@ pub effect_text_spec : {M : Type 1} → statement M
 effect_text_spec =
     tie.close
     (tie.spec
-    (λ c. search rules)
     (λ c κs. search set-fits)
     (λ c. search rules)
     (λ c. search set-wrote)
-    (λ c. search rules)
     (λ c κs. search clear-fits)
     (λ c. search rules)
     (λ c. search clear-wrote))

@@ -9,23 +9,10 @@ pub rule_line_spec : {M : Type 1} → statement M
 rule_line_spec =
     tie.close
     (tie.spec
-    (λ c κs. unfold rule_line in fits₁ _ c.before.before.requires)
-    (λ c κs. unfold rule_line in fits₂ c.before.before.before.number.ensures _ _ c.before.before.before.before.before.before.requires)
-    (λ c κs. unfold rule_line in fits₃ c.before.before.before.trigger-text.ensures
-    c.before.before.before.before.before.before.before.number.ensures _ _
-    c.before.before.before.before.before.before.before.before.before.before.requires)
-    (λ c κs. unfold rule_line in fits₄ c.before.before.before.sense-text.ensures
-    c.before.before.before.before.before.before.before.trigger-text.ensures
-    c.before.before.before.before.before.before.before.before.before.before.before.number.ensures _ _
-    c.before.before.before.before.before.before.before.before.before.before.before.before.before.before.requires)
+    (λ c κs. unfold rule_line in fits₁ _ c.requires)
+    (λ c κs. unfold rule_line in fits₂ c.number-a.ensures _ _ c.requires)
+    (λ c κs. unfold rule_line in fits₃ c.trigger_text-b.ensures c.number-a.ensures _ _ c.requires)
+    (λ c κs. unfold rule_line in fits₄ c.sense_text-c.ensures c.trigger_text-b.ensures c.number-a.ensures _ _ c.requires)
+    (λ c κs. unfold rule_line in last₅ c.effect_text-d.ensures c.sense_text-c.ensures c.trigger_text-b.ensures c.number-a.ensures _ c.requires)
     (λ c. search rules)
-    (λ c κs. unfold rule_line in last₅ c.before.before.before.before.effect-text.ensures
-    c.before.before.before.before.before.before.before.before.sense-text.ensures
-    c.before.before.before.before.before.before.before.before.before.before.before.before.trigger-text.ensures
-    c.before.before.before.before.before.before.before.before.before.before.before.before.before.before.before.before.number.ensures _
-    c.before.before.before.before.before.before.before.before.before.before.before.before.before.before.before.before.before.before.before.requires)
-    (λ c. search rules)
-    (λ c. unfold rule_line in wrote₅ c.before.before.text.ensures c.before.before.before.before.before.before.before.effect-text.ensures
-    c.before.before.before.before.before.before.before.before.before.before.before.sense-text.ensures
-    c.before.before.before.before.before.before.before.before.before.before.before.before.before.before.before.trigger-text.ensures
-    c.before.before.before.before.before.before.before.before.before.before.before.before.before.before.before.before.before.before.before.number.ensures))
+    (λ c. unfold rule_line in wrote₅ c.text.ensures c.effect_text-d.ensures c.sense_text-c.ensures c.trigger_text-b.ensures c.number-a.ensures))

@@ -6,10 +6,10 @@ use Rattle.rule_lines.specs.Writers.{rule_fits, rule-more, rule_line_at}
 use Rattle.rule_lines.proofs.rule_lines.Statement.{statement}
 use Rattle.rule_lines.proofs.rule_lines.Tie as tie
 
-abbrev invariant-loop : tie.invariant-loop
+abbrev invariant-loop : tie.invariant-loop-i
 invariant-loop room₀ at image h next₀ i₀ room next i = Lines (rule_line_at image) h.rules room₀ at i next room
 
-abbrev decreases-loop : tie.decreases-loop
+abbrev decreases-loop : tie.decreases-loop-i
 decreases-loop room₀ at image h next₀ i₀ room next i = h.rules - i
 
 pub rule_lines_spec : {M : Type 1} → statement M

@@ -8,10 +8,8 @@ pub sense_text_spec : {M : Type 1} → statement M
 sense_text_spec =
     tie.close
     (tie.spec
-    (λ c. search rules) (λ c. search rules) (λ c. search rules) (λ c. search rules)
-    (λ c κs. search if-fits)
-    (λ c. search rules) (λ c. search rules) (λ c. search rules)
-    (λ c κs. search unless-fits)
+    (λ c. search rules) (λ c. search rules) (λ c. search rules) (λ c κs. search if-fits)
+    (λ c. search rules) (λ c. search rules) (λ c κs. search unless-fits)
     (λ c. search sense-none)
     (λ c. search rules)
     (λ c. search if-wrote)

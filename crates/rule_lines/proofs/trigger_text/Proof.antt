@@ -8,8 +8,7 @@ pub trigger_text_spec : {M : Type 1} → statement M
 trigger_text_spec =
     tie.close
     (tie.spec
-    (λ c. search rules) (λ c. search rules) (λ c. search rules) (λ c. search rules)
-    (λ c κs. search on_fits)
+    (λ c. search rules) (λ c. search rules) (λ c. search rules) (λ c κs. search on_fits)
     (λ c. search rules) (λ c. search rules)
     (λ c. search trigger-none)
     (λ c. search rules)
