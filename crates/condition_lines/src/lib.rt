@@ -1,4 +1,6 @@
 // The listing's condition lines, one for each condition of a book, written into lent room.
+#![tactic(auto)]
+
 ghost use Rattle.std.specs.Prelude.{◌+◌, ◌*◌, ◌≤◌, length};
 ghost use Rattle.paper.specs.Limits.{word_size};
 ghost use Rattle.general.specs.Lists.{flat, packed};

@@ -9,23 +9,12 @@ pub condition_line_spec : {M : Type 1} → statement M
 condition_line_spec =
     tie.close
     (tie.spec
-    (λ c. search rules)
-    (λ c κs. unfold condition_line in fits₁ _ c.before.before.before.before.requires.1)
-    (λ c. search rules)
-    (λ c κs. unfold condition_line in fits₂ c.before.before.before.before.named.ensures _ _
-    c.before.before.before.before.before.before.before.before.before.requires.1)
+    (λ c κs. unfold condition_line in fits₁ _ c.requires.1)
+    (λ c κs. unfold condition_line in fits₂ c.named-a.ensures _ _ c.requires.1)
     (λ c κs. unfold condition_line in (
-      c.before.before.before.before.before.before.before.before.before.before.before.before.before.requires.0,
-      fits₃
-          c.before.before.before.text.ensures c.before.before.before.before.before.before.before.before.named.ensures _ _
-          c.before.before.before.before.before.before.before.before.before.before.before.before.before.requires.1,
+      c.requires.0,
+      fits₃ c.text-b.ensures c.named-a.ensures _ _ c.requires.1,
     ))
+    (λ c κs. unfold condition_line in last₄ c.words_text-d.ensures c.text-b.ensures c.named-a.ensures _ c.requires.1)
     (λ c. search rules)
-    (λ c κs. unfold condition_line in last₄ c.before.before.before.before.words-text.ensures
-    c.before.before.before.before.before.before.before.before.text.ensures
-    c.before.before.before.before.before.before.before.before.before.before.before.before.before.named.ensures _
-    c.before.before.before.before.before.before.before.before.before.before.before.before.before.before.before.before.before.before.requires.1)
-    (λ c. search rules)
-    (λ c. unfold condition_line in wrote₄ c.before.before.text2.ensures c.before.before.before.before.before.before.before.words-text.ensures
-    c.before.before.before.before.before.before.before.before.before.before.before.text.ensures
-    c.before.before.before.before.before.before.before.before.before.before.before.before.before.before.before.before.named.ensures))
+    (λ c. unfold condition_line in wrote₄ c.text.ensures c.words_text-d.ensures c.text-b.ensures c.named-a.ensures))

@@ -7,10 +7,10 @@ use Rattle.condition_lines.specs.Writers.{word_in, words-done, word_fits, word_m
 use Rattle.condition_lines.proofs.words_text.Statement.{statement}
 use Rattle.condition_lines.proofs.words_text.Tie as tie
 
-abbrev invariant-loop : tie.invariant-loop
+abbrev invariant-loop : tie.invariant-loop-i
 invariant-loop room₀ at image from count next₀ i₀ room next i = Upto word_text (word_in image from) count room₀ at i next room
 
-abbrev decreases-loop : tie.decreases-loop
+abbrev decreases-loop : tie.decreases-loop-i
 decreases-loop room₀ at image from count next₀ i₀ room next i = count - i
 
 pub words_text_spec : {M : Type 1} → statement M
