@@ -1,4 +1,6 @@
 // The listing of a chart's rule book, as text in lent room.
+#![tactic(auto)]
+
 ghost use Rattle.std.specs.Prelude.{◌≡◌, ◌≤◌, length};
 ghost use Rattle.flat_chart.specs.Numbers.{flat_of};
 ghost use Rattle.book.specs.Image.{book_of};

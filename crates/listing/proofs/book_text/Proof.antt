@@ -9,17 +9,9 @@ book_text_spec =
     tie.close
     (tie.spec
     (λ c κs. search rules)
-    (λ c κs. book-fits-1 _ c.before.before.before.before.requires.0 _ _ c.before.counts-at.ensures c.before.before.before.before.requires.1)
-    (λ c κs. book-fits-2 _ c.before.before.before.before.before.before.before.before.requires.0 _ _
-    c.before.before.before.before.before.counts-at.ensures c.before.before.before.before.before.before.before.before.requires.1 _ _
-    c.before.before.before.counts-line.ensures)
-    (λ c κs. book-fits-3 _ c.before.before.before.before.before.before.before.before.before.before.before.before.requires.0 _ _
-    c.before.before.before.before.before.before.before.before.before.counts-at.ensures
-    c.before.before.before.before.before.before.before.before.before.before.before.before.requires.1 _ _
-    c.before.before.before.before.before.before.before.counts-line.ensures _ _ c.before.before.before.rule-lines.ensures)
+    (λ c κs. book-fits-1 _ c.requires.0 _ _ c.counts_at-h.ensures c.requires.1)
+    (λ c κs. book-fits-2 _ c.requires.0 _ _ c.counts_at-h.ensures c.requires.1 _ _ c.counts_line-a.ensures)
+    (λ c κs. book-fits-3 _ c.requires.0 _ _ c.counts_at-h.ensures c.requires.1 _ _ c.counts_line-a.ensures _ _ c.rule_lines-b.ensures)
     (λ c. search rules)
-    (λ c. book-wrote _ c.before.before.before.before.before.before.before.before.before.before.before.before.before.before.before.requires.0 _ _
-    c.before.before.before.before.before.before.before.before.before.before.before.before.counts-at.ensures
-    c.before.before.before.before.before.before.before.before.before.before.before.before.before.before.before.requires.1 _ _
-    c.before.before.before.before.before.before.before.before.before.before.counts-line.ensures _ _
-    c.before.before.before.before.before.before.rule-lines.ensures _ _ c.before.before.condition-lines.ensures))
+    (λ c. book-wrote _ c.requires.0 _ _ c.counts_at-h.ensures c.requires.1 _ _ c.counts_line-a.ensures _ _
+    c.rule_lines-b.ensures _ _ c.condition_lines.ensures))

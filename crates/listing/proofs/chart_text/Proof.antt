@@ -9,40 +9,19 @@ chart_text_spec =
     tie.close
     (tie.spec
     (λ c. search rules) (λ c κs. search rules)
-    (λ c κs. derive-fits _ c.before.before.before.before.before.before.before.args.room.now _ _
-    c.before.before.before.before.before.before.before.requires blank _ c.before.before.before.before.derive.ensures.0
-    c.before.before.before.before.derive.ensures.1 c.before.if1.true)
+    (λ c κs. derive-fits _ c.args.room.now _ _ c.requires blank _ c.derive-answer.ensures.0 c.derive-answer.ensures.1 c.if-answer-ne0.true)
     (λ c. search rules)
-    (λ c. derive-wrote _ c.before.before.before.before.before.before.before.before.before.before.args.room.now _ _
-    c.before.before.before.before.before.before.before.before.before.before.requires blank _
-    c.before.before.before.before.before.before.before.derive.ensures.0 c.before.before.before.before.before.before.before.derive.ensures.1
-    c.before.before.before.before.if1.true _ _ c.before.before.refusal-line.ensures)
+    (λ c. derive-wrote _ c.args.room.now _ _ c.requires blank _ c.derive-answer.ensures.0 c.derive-answer.ensures.1
+    c.if-answer-ne0.true _ _ c.refusal_line.ensures)
     (λ c. search rules)
-    (λ c κs. counts-long _ c.before.before.before.before.before.before.before.args.room.now _ _
-    c.before.before.before.before.before.before.before.requires blank _ c.before.before.before.before.derive.ensures.0
-    c.before.before.before.before.derive.ensures.1 c.before.if1.false)
+    (λ c κs. counts-long _ c.args.room.now _ _ c.requires blank _ c.derive-answer.ensures.0 c.derive-answer.ensures.1 c.if-answer-ne0.false)
     (λ c κs. search rules) (λ c. search rules) (λ c. search rules) (λ c. search rules)
-    (λ c. end_fits _ c.before.before.before.before.before.before.before.before.before.before.before.args.room.now _ _
-    c.before.before.before.before.before.before.before.before.before.before.before.requires blank _
-    c.before.before.before.before.before.before.before.before.derive.ensures.0
-    c.before.before.before.before.before.before.before.before.derive.ensures.1 c.before.before.before.before.before.if1.false _
-    c.before.before.before.counts-at.ensures _ c.before.before.words-from.ensures)
-    (λ c. end-size _ c.before.before.before.before.before.before.before.before.before.before.before.before.args.room.now _ _
-    c.before.before.before.before.before.before.before.before.before.before.before.before.requires blank _
-    c.before.before.before.before.before.before.before.before.before.derive.ensures.0
-    c.before.before.before.before.before.before.before.before.before.derive.ensures.1 c.before.before.before.before.before.before.if1.false _
-    c.before.before.before.before.counts-at.ensures _ c.before.before.before.words-from.ensures)
-    (λ c κs. book-ready _ c.before.before.before.before.before.before.before.before.before.before.before.before.args.room.now _ _
-    c.before.before.before.before.before.before.before.before.before.before.before.before.requires blank _
-    c.before.before.before.before.before.before.before.before.before.derive.ensures.0
-    c.before.before.before.before.before.before.before.before.before.derive.ensures.1 c.before.before.before.before.before.before.if1.false _
-    c.before.before.before.before.counts-at.ensures _ c.before.before.before.words-from.ensures)
+    (λ c. end_fits _ c.args.room.now _ _ c.requires blank _ c.derive-answer.ensures.0 c.derive-answer.ensures.1 c.if-answer-ne0.false _
+    c.counts_at-h.ensures _ c.words_from-words.ensures)
+    (λ c. end-size _ c.args.room.now _ _ c.requires blank _ c.derive-answer.ensures.0 c.derive-answer.ensures.1 c.if-answer-ne0.false _
+    c.counts_at-h.ensures _ c.words_from-words.ensures)
+    (λ c κs. book-ready _ c.args.room.now _ _ c.requires blank _ c.derive-answer.ensures.0 c.derive-answer.ensures.1 c.if-answer-ne0.false _
+    c.counts_at-h.ensures _ c.words_from-words.ensures)
     (λ c. search rules)
-    (λ c. chart-wrote _
-    c.before.before.before.before.before.before.before.before.before.before.before.before.before.before.before.args.room.now _ _
-    c.before.before.before.before.before.before.before.before.before.before.before.before.before.before.before.requires blank _
-    c.before.before.before.before.before.before.before.before.before.before.before.before.derive.ensures.0
-    c.before.before.before.before.before.before.before.before.before.before.before.before.derive.ensures.1
-    c.before.before.before.before.before.before.before.before.before.if1.false _
-    c.before.before.before.before.before.before.before.counts-at.ensures _ c.before.before.before.before.before.before.words-from.ensures _ _
-    c.before.before.book-text.ensures))
+    (λ c. chart-wrote _ c.args.room.now _ _ c.requires blank _ c.derive-answer.ensures.0 c.derive-answer.ensures.1 c.if-answer-ne0.false _
+    c.counts_at-h.ensures _ c.words_from-words.ensures _ _ c.book_text.ensures))

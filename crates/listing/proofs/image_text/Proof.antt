@@ -9,15 +9,8 @@ image_text_spec =
     tie.close
     (tie.spec
     (λ c κs. search rules)
-    (λ c κs. read_fits _ c.before.before.before.before.before.before.before.args.room.now
-    c.before.before.before.before.before.before.before.requires _ c.before.before.before.before.read.ensures c.before.if1.true)
+    (λ c κs. read_fits _ c.args.room.now c.requires _ c.read-reading.ensures c.if-answer-ne0.true)
     (λ c. search rules)
-    (λ c. read-wrote _ c.before.before.before.before.before.before.before.before.before.before.args.room.now
-    c.before.before.before.before.before.before.before.before.before.before.requires _
-    c.before.before.before.before.before.before.before.read.ensures c.before.before.before.before.if1.true _ _
-    c.before.before.refusal-line.ensures)
+    (λ c. read-wrote _ c.args.room.now c.requires _ c.read-reading.ensures c.if-answer-ne0.true _ _ c.refusal_line.ensures)
     (λ c κs. search rules) (λ c. search rules)
-    (λ c. image-wrote _ c.before.before.before.before.before.before.before.before.before.before.before.args.room.now
-    c.before.before.before.before.before.before.before.before.before.before.before.requires _
-    c.before.before.before.before.before.before.before.before.read.ensures c.before.before.before.before.before.if1.false _ _
-    c.before.before.chart-text.ensures))
+    (λ c. image-wrote _ c.args.room.now c.requires _ c.read-reading.ensures c.if-answer-ne0.false _ _ c.chart_text.ensures))

@@ -11,13 +11,9 @@ pub list_spec : {M : Type 1} → statement M
 list_spec =
     tie.close
     (tie.spec
-    (λ c. list-short c.before.before.before.args.input.now c.before.before.before.args.room.now c.if1.true)
+    (λ c. list-short c.args.input.now c.args.room.now c.if-room-lt-MAX_LISTING.true)
     (λ c κs. search rules) (λ c. search rules)
-    (λ c. list-whole c.before.before.before.before.before.before.before.before.args.input.now
-    c.before.before.before.before.before.before.before.before.args.room.now c.before.before.before.before.before.if1.false (omega arith) _ _
-    c.before.before.image-text.ensures)
-    (λ c. sym (length-take-le _ c.before.before.before.before.before.before.args.input.now (omega arith)))
+    (λ c. list-whole c.args.input.now c.args.room.now c.if-room-lt-MAX_LISTING.false (omega arith) _ _ c.image_text.ensures)
+    (λ c. sym (length-take-le _ c.args.input.now (omega arith)))
     (λ c κs. search rules) (λ c. search rules)
-    (λ c. list-cut c.before.before.before.before.before.before.before.before.before.args.input.now
-    c.before.before.before.before.before.before.before.before.before.args.room.now c.before.before.before.before.before.before.if1.false _ _
-    c.before.before.image-text2.ensures))
+    (λ c. list-cut c.args.input.now c.args.room.now c.if-room-lt-MAX_LISTING.false _ _ c.image_text-2.ensures))
