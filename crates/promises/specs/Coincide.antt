@@ -4,12 +4,10 @@ use Rattle.std.specs.Prelude.{ℕ, ◌*◌, ◌≡◌, Bool, List, length}
 use Rattle.std.proofs.Common.{ap}
 use Rattle.paper.specs.Limits.{max_events}
 use Rattle.paper.specs.declared.Answer.{Answer}
-use Rattle.general.specs.Cases.{coincide}
 use Rattle.wide.specs.Words.{Words}
-use Rattle.wide.specs.Number.{words_of, set_words, rows_of, number-injective, rows-injective}
+use Rattle.wide.specs.Number.{words_of, set_words, number-injective}
 use Rattle.wide.specs.declared.Set.{Set}
 use Rattle.flat_chart.specs.Flat.{FlatChart}
-use Rattle.flat_chart.specs.Numbers.{flat_of}
 use Rattle.flat_chart.specs.declared.FlatChart as code-chart
 use Rattle.graph.specs.Flat.{Marking, OpenTest, Step}
 use Rattle.graph.specs.Numbers.{marks_of, test_of, step_of}
@@ -17,7 +15,6 @@ use Rattle.graph.specs.Steps.{opening, executing}
 use Rattle.graph.specs.declared.Marking as code-marking
 use Rattle.graph.specs.declared.steps.OpenTest as code-test
 use Rattle.graph.specs.declared.steps.Step as code_step
-use Rattle.chart.specs.Flat.{Reading}
 use Rattle.chart.specs.Numbers.{reading_of}
 use Rattle.chart.specs.Reading.{reading}
 use Rattle.chart.specs.declared.Reading as code-reading
@@ -26,7 +23,6 @@ use Rattle.replay.specs.Numbers.{replayed_of, struck_of}
 use Rattle.replay.specs.Replaying.{replaying, striking}
 use Rattle.replay.specs.declared.Replayed as code-replayed
 use Rattle.replay.specs.declared.Struck as code-struck
-use Rattle.read_back.specs.Flat.{ReadBack}
 use Rattle.read_back.specs.Numbers.{back_of}
 use Rattle.read_back.specs.ReadingBack.{reading_back}
 use Rattle.read_back.specs.declared.ReadBack as code-back
@@ -75,11 +71,6 @@ pub record StruckWords (s : code-struck.Struck) : Type 0 where
   pub conditions : Words (words_of s.conditions)
   pub milestones : Words (words_of s.milestones)
 
--- ---- each struct, told by its fields
-
-abbrev charted : ℕ → List ℕ → List ℕ → List ℕ → List ℕ → List ℕ → List ℕ → code-chart.FlatChart
-charted n a b d i x o = record { count = n; conditions = a; responses = b; milestones = d; includes = i; excludes = x; roles = o }
-
 abbrev marked : Set → Set → Set → code-marking.Marking
 marked a b c = record { executed = a; pending = b; included = c }
 
@@ -89,35 +80,11 @@ tested a c k = record { answer = a; conditions = c; milestones = k }
 abbrev stepped : Answer → code-marking.Marking → Set → Set → code_step.Step
 stepped a m c k = record { answer = a; marking = m; conditions = c; milestones = k }
 
-abbrev read : Answer → code-chart.FlatChart → code-marking.Marking → code-reading.Reading
-read a c m = record { answer = a; chart = c; marking = m }
-
-abbrev back : Answer → code-chart.FlatChart → code-back.ReadBack
-back a c = record { answer = a; chart = c }
-
 abbrev replayed : Answer → ℕ → ℕ → code-marking.Marking → Bool → Set → Set → code-replayed.Replayed
 replayed a k n m f c w = record { answer = a; code = k; steps = n; marking = m; finished = f; conditions = c; milestones = w }
 
 abbrev struck : Answer → code-marking.Marking → Set → Set → code-struck.Struck
 struck a m c k = record { answer = a; marking = m; conditions = c; milestones = k }
-
--- ---- equal numbers are equal words
-
-pub table_same : (t u : List ℕ) → TableWords t → TableWords u → rows_of t ≡ rows_of u → t ≡ u
-table_same t u p q e = rows-injective max_events t u p.words q.words p.long q.long e
-
-pub chart-same : (c d : code-chart.FlatChart) → ChartWords c → ChartWords d → flat_of c ≡ flat_of d → c ≡ d
-chart-same c d p q e =
-    let n : c.count ≡ d.count = ap (λ (x : FlatChart). x.count) e in
-    let f : c.conditions ≡ d.conditions = table_same c.conditions d.conditions p.conditions q.conditions (ap (λ (x : FlatChart). x.conditions) e) in
-    let g : c.responses ≡ d.responses = table_same c.responses d.responses p.responses q.responses (ap (λ (x : FlatChart). x.responses) e) in
-    let h : c.milestones ≡ d.milestones = table_same c.milestones d.milestones p.milestones q.milestones (ap (λ (x : FlatChart). x.milestones) e) in
-    let i : c.includes ≡ d.includes = table_same c.includes d.includes p.includes q.includes (ap (λ (x : FlatChart). x.includes) e) in
-    let x : c.excludes ≡ d.excludes = table_same c.excludes d.excludes p.excludes q.excludes (ap (λ (x : FlatChart). x.excludes) e) in
-    let o : c.roles ≡ d.roles = ap (λ (x : FlatChart). x.roles) e in
-    let r : charted c.count c.conditions c.responses c.milestones c.includes c.excludes c.roles
-    ≡ charted d.count d.conditions d.responses d.milestones d.includes d.excludes d.roles = cc in
-    r
 
 pub marking-same : (m n : code-marking.Marking) → MarkingWords m → MarkingWords n → marks_of m ≡ marks_of n → m ≡ n
 marking-same m n p q e =
@@ -142,21 +109,6 @@ step_same s t p q e =
     let c : s.conditions ≡ t.conditions = number-injective s.conditions t.conditions p.conditions q.conditions (ap (λ (x : Step). x.conditions) e) in
     let k : s.milestones ≡ t.milestones = number-injective s.milestones t.milestones p.milestones q.milestones (ap (λ (x : Step). x.milestones) e) in
     let f : stepped s.answer s.marking s.conditions s.milestones ≡ stepped t.answer t.marking t.conditions t.milestones = cc in
-    f
-
-pub reading-same : (r s : code-reading.Reading) → ReadingWords r → ReadingWords s → reading_of r ≡ reading_of s → r ≡ s
-reading-same r s p q e =
-    let a : r.answer ≡ s.answer = ap (λ (x : Reading). x.answer) e in
-    let c : r.chart ≡ s.chart = chart-same r.chart s.chart p.chart q.chart (ap (λ (x : Reading). x.chart) e) in
-    let m : r.marking ≡ s.marking = marking-same r.marking s.marking p.marking q.marking (ap (λ (x : Reading). x.marking) e) in
-    let f : read r.answer r.chart r.marking ≡ read s.answer s.chart s.marking = cc in
-    f
-
-pub back-same : (r s : code-back.ReadBack) → BackWords r → BackWords s → back_of r ≡ back_of s → r ≡ s
-back-same r s p q e =
-    let a : r.answer ≡ s.answer = ap (λ (x : ReadBack). x.answer) e in
-    let c : r.chart ≡ s.chart = chart-same r.chart s.chart p.chart q.chart (ap (λ (x : ReadBack). x.chart) e) in
-    let f : back r.answer r.chart ≡ back s.answer s.chart = cc in
     f
 
 pub replayed-same : (r s : code-replayed.Replayed) → ReplayedWords r → ReplayedWords s → replayed_of r ≡ replayed_of s → r ≡ s
@@ -192,14 +144,3 @@ pub record Coincide : Type 0 where
       → replayed_of r ≡ replaying c m numbers → replayed_of s ≡ replaying c m numbers → r ≡ s
   pub strike : (c : FlatChart) (m : Marking) (numbers : List ℕ) (position : ℕ) (s t : code-struck.Struck) → StruckWords s → StruckWords t
       → struck_of s ≡ striking c m numbers position → struck_of t ≡ striking c m numbers position → s ≡ t
-
-pub words-coincide : Coincide
-words-coincide =
-    record {
-      read = λ image r s p q e f. reading-same r s p q (coincide e f);
-      execute = λ c m e role s t p q g h. step_same s t p q (coincide g h);
-      open_test = λ c m e s t p q g h. test-same s t p q (coincide g h);
-      read_back = λ book r s p q e f. back-same r s p q (coincide e f);
-      replay = λ c m numbers r s p q e f. replayed-same r s p q (coincide e f);
-      strike = λ c m numbers position s t p q e f. struck-same s t p q (coincide e f);
-    }

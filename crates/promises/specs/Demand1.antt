@@ -1,7 +1,7 @@
 -- Demand 1: every call answers every input with the refusal that the paper names, in the paper's order; a refused call returns the marking
 -- or snapshot it was given and leaves lent room as it was. Assumes nothing.
 use Rattle.std.specs.Prelude.{ℕ, ◌≡◌, refl, false, List, ◌++◌, length, drop, replicate, leb}
-use Rattle.std.proofs.Common.{sym, ap, ◌∙◌, arith}
+use Rattle.std.proofs.Common.{arith}
 use Rattle.paper.specs.Limits.{max_events, max_marks, include_exclude, unfit}
 use Rattle.paper.specs.Answers.{granted, refusal}
 use Rattle.paper.specs.declared.Answer.{Answer}
@@ -11,64 +11,47 @@ use Rattle.graph.specs.Fitness.{FitMarking}
 use Rattle.flat_chart.specs.Tests.{fit_chart}
 use Rattle.graph.specs.Fitness.{fit}
 use Rattle.graph.specs.Steps.{opening, executing, counting, finishing}
-use Rattle.graph.specs.Execution.{Executes, executes, executes-only, refused-kept, counts, count-refused, finish-refused}
-use Rattle.graph.specs.Opening.{Opens, opens, opens-only, Blocks, others-empty}
+use Rattle.graph.specs.Execution.{Executes}
+use Rattle.graph.specs.Opening.{Opens, Blocks}
 use Rattle.flat_chart.specs.Flat.{FlatChart}
 use Rattle.graph.specs.Flat.{Marking, OpenTest, Step}
 use Rattle.graph.specs.declared.steps.OpenCount.{OpenCount}
 use Rattle.graph.specs.declared.steps.Finished.{Finished}
 use Rattle.chart.specs.Reading.{reading, refused}
 use Rattle.chart.specs.Flat.{Reading}
-use Rattle.chart.specs.Outcome.{Outcome, outcome, judged}
-use Rattle.chart.specs.ReadingGives.{refused-empty, never-nine}
+use Rattle.chart.specs.Outcome.{Outcome}
 use Rattle.order_theory.specs.Order.{counted_rules}
 use Rattle.order_theory.specs.Running.{running_order}
 use Rattle.book.specs.declared.Snapshot.{Snapshot}
 use Rattle.rule_order.specs.Nets.{rules_of}
-use Rattle.judge.specs.Checking.{Checked, checked, checked-is, checking, checked_room, granted-room, refused-room}
+use Rattle.judge.specs.Checking.{Checked, checking, checked_room}
 use Rattle.deriver.specs.Deriving.{derived_image, deriving_answer, derived_room}
 use Rattle.deriver.specs.Matching.{matching_of}
 use Rattle.deriver.specs.declared.Matched.{Matched}
 use Rattle.smaller_deriver.specs.Calling.{smaller_image, no_table, deriving_smaller, smaller_room}
 use Rattle.smaller_deriver.specs.declared.Smaller.{Smaller}
-use Rattle.runner.specs.Table.{Answered, answered, answered-is}
+use Rattle.runner.specs.Table.{Answered}
 use Rattle.runner.specs.Completing.{completing}
-use Rattle.runner.specs.Completion.{refusal-hands-back}
-use Rattle.index_builder.specs.Building.{index_of, building, built_room, Builds, builds, builds-is, granted-index, refused-index}
+use Rattle.index_builder.specs.Building.{index_of, building, built_room, Builds}
 use Rattle.indexed.specs.Indexed.{completing_indexed}
-use Rattle.indexed.specs.IndexedTable.{Indexed, indexed, indexed-is, indexed-hands-back, indexed-none}
+use Rattle.indexed.specs.IndexedTable.{Indexed}
 use Rattle.indexed_list.specs.InList.{granted_of, reached, looked_in, stopping, placed, before_list, completing_list}
-use Rattle.indexed_list.specs.ListTable.{Lists, lists, lists-is, list-answer, before-hands-back, within-hands-back}
+use Rattle.indexed_list.specs.ListTable.{Lists}
 use Rattle.replay.specs.Replaying.{replaying, striking, untold}
-use Rattle.replay.specs.Table.{Replays, replays, replays-only, replay-kept, Strikes, strikes, strikes-only, strike-kept}
+use Rattle.replay.specs.Table.{Replays, Strikes}
 use Rattle.replay.specs.Flat.{Replayed, Struck}
 use Rattle.read_back.specs.ReadingBack.{reading_back}
-use Rattle.read_back.specs.Table.{ReadsBack, reads-back, reads-back-is, refused-back}
+use Rattle.read_back.specs.Table.{ReadsBack}
 use Rattle.read_back.specs.Flat.{ReadBack}
 use Rattle.mend.specs.Calling.{mending}
-use Rattle.mend.specs.Table.{Mends, mends, mends-only, Written, mend-written, Kept, mend-kept}
+use Rattle.mend.specs.Table.{Mends, Written, Kept}
 use Rattle.promises.specs.Tables as table
-use Rattle.promises.specs.Tables.{Unfit, CountsOpen, counts-open, counts-only, Finishes, finishes, finishes-only, Derives, derives, derives-only, DerivesSmaller, derives-smaller, derives-smaller-only}
-use Rattle.promises.specs.Matching as matching
-use Rattle.promises.specs.Matching.{Matches, matches, matches-only, matched, matching-refused}
+use Rattle.promises.specs.Tables.{Unfit, CountsOpen, counts-open, counts-only, Finishes, finishes, finishes-only, Derives, derives, DerivesSmaller, derives-smaller, derives-smaller-only}
+use Rattle.promises.specs.Matching.{Matches}
 
 -- ---- what a refused call gives
 
 module _ (c : FlatChart) (m : Marking) where
-  refused-unfit : {r : OpenCount} → CountsOpen c m r → (r.answer.code ≡ 0 → ⊥) → Unfit c m
-  refused-unfit (table.CountsOpen.is_unfit n) z = n
-  refused-unfit (table.CountsOpen.is_none f t n) z = absurd (z refl)
-  refused-unfit (table.CountsOpen.option_is_some f t n l) z = absurd (z refl)
-
-  finish-unfit : {r : Finished} → Finishes c m r → (r.answer.code ≡ 0 → ⊥) → Unfit c m
-  finish-unfit (table.Finishes.is_unfit n) z = n
-  finish-unfit (table.Finishes.is_finished f t n) z = absurd (z refl)
-  finish-unfit (table.Finishes.is_waiting e f t i p) z = absurd (z refl)
-
-  match-unfit : {r : Matched} → Matches c m r → (r.answer.code ≡ 0 → ⊥) → Unfit c m
-  match-unfit (matching.Matches.is_unfit n) z = n
-  match-unfit (matching.Matches.is_matched f t x) z = absurd (z refl)
-
   -- the finished test of a fit chart and marking is granted
   pub finish-granted : Fit c → FitMarking c.count m → (finishing c m).answer ≡ granted
   finish-granted f t = go (finishes c m)
@@ -204,74 +187,6 @@ pub record Demand1 : Type 0 where
   pub mend_only : (image : List ℕ) (chart list : ℕ) (a : Answer) → Mends image chart list a → a ≡ (mending image chart list).answer
   pub mend_granted : (image chart list : List ℕ) → (mending image (length chart) (length list)).answer.code ≡ 0 → Written image chart list
   pub mend_refused : (image chart list : List ℕ) → ((mending image (length chart) (length list)).answer.code ≡ 0 → ⊥) → Kept image chart list
-
-pub demand-1 : Demand1
-unfolding completing completing_indexed mending
-demand-1 =
-    record {
-      read = outcome;
-      read_only = λ image a o. sym ((judged image a).0 o);
-      read_refused = refused-empty;
-      read_never = never-nine;
-      open_test = opens;
-      open_test_only = λ c m e t x. opens-only c m e x;
-      open_test_others = others-empty;
-      execute = executes;
-      execute_only = λ c m e r s x. executes-only c m e x;
-      execute_refused = refused-kept;
-      count = counts-open;
-      count_only = λ c m r x. counts-only c m x;
-      count_granted = λ c m f t. (counts c m f t).granting;
-      count_refused = λ c m z. count-refused c m (refused-unfit c m (counts-open c m) z);
-      finished = finishes;
-      finished_only = λ c m r x. finishes-only c m x;
-      finished_granted = finish-granted;
-      finished_refused = λ c m z. finish-refused c m (finish-unfit c m (finishes c m) z);
-      matching = matches;
-      matching_only = λ c m r x. matches-only c m x;
-      matching_granted = λ c m f t. ap (λ (r : Matched). r.answer) (matched c m f t);
-      matching_refused = λ c m z. matching-refused c m (match-unfit c m (matches c m) z);
-      derive = derives;
-      derive_only = λ c room a x. derives-only c room x;
-      derive_granted = derive-granted;
-      derive_refused = derive-refused;
-      smaller = derives-smaller;
-      smaller_only = λ c m room r x. derives-smaller-only c m room x;
-      smaller_granted = smaller-granted;
-      smaller_refused = smaller-refused;
-      check = checked;
-      check_only = checked-is;
-      check_granted = λ book stage room e. (granted-room book stage room e).0;
-      check_refused = refused-room;
-      complete = λ book order s stage. answered book order stage s.marks;
-      complete_only = λ book order s stage. answered-is book order stage s.marks;
-      complete_refused = refusal-hands-back;
-      build = builds;
-      build_only = builds-is;
-      build_granted = granted-index;
-      build_refused = refused-index;
-      indexed = λ book index s stage. indexed book index s.marks stage;
-      indexed_only = λ book index s stage. indexed-is book index s.marks stage;
-      indexed_refused = indexed-hands-back;
-      indexed_none = indexed-none;
-      list = λ book index s list. rw (list-answer book index s list) (lists book index s.marks list);
-      list_only = λ book index s list a x. lists-is book index s.marks list a x ∙ sym (list-answer book index s list);
-      list_before = before-hands-back;
-      list_within = within-hands-back;
-      replay = replays;
-      replay_only = λ c m numbers r x. replays-only c m numbers x;
-      replay_refused = replay-kept;
-      strike = strikes;
-      strike_only = λ c m numbers p s x. strikes-only c m numbers p x;
-      strike_refused = strike-kept;
-      read_back = reads-back;
-      read_back_only = reads-back-is;
-      read_back_refused = refused-back;
-      mend = mends;
-      mend_only = λ image chart list a x. mends-only image chart list x;
-      mend_granted = mend-written;
-      mend_refused = mend-kept;
-    }
 
 -- ---- two results that meet a contract coincide: the calls whose lemma stands here; the others' stand beside their definitions
 

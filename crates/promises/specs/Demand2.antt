@@ -28,14 +28,15 @@ use Rattle.order_theory.specs.Settle.{Settled}
 use Rattle.order_theory.specs.Snapshots.{at_same}
 use Rattle.rule_order.specs.Rules.{net_of, acts_of}
 use Rattle.rule_order.specs.Nets.{rules_of}
-use Rattle.judge.specs.Checking.{checking, checked_room, is-passed}
+use Rattle.judge.specs.Checking.{checking, checked_room}
+use Rattle.judge.proofs.Checking.{is-passed}
 use Rattle.derived.specs.Derived.{derived_book}
 use Rattle.deriver.specs.Deriving.{derived_image, deriving_answer, derived_room}
 use Rattle.deriver.specs.Formed.{derived-well}
 use Rattle.deriver.specs.Matching.{matching_marks, matching_of, mark_of, marks-at}
 use Rattle.runner.specs.Table.{Passes, Belongs}
 use Rattle.runner.specs.Completing.{completing}
-use Rattle.runner.specs.Completion.{Open, completes, completed-is, granted-only, written-fit, refusal-hands-back}
+use Rattle.runner.specs.Completion.{Open, completes, completed-is, granted-only, refusal-hands-back}
 use Rattle.agreement.specs.Matching.{match-stage, match-past}
 use Rattle.agreement.specs.Settling.{derived-settled}
 use Rattle.agreement.specs.Passing.{derived-calm, derived-no-loop}
@@ -219,18 +220,3 @@ pub record Demand2 (c : FlatChart) (bytes room : List ℕ) : Type 0 where
   pub passes : (e : ℕ) → e < c.count → checking (written c bytes) e (length room) ≡ granted
   -- from any fit marking and its matching snapshot, along any sequence of steps, each in the order that the check writes for its stage
   pub agrees : (m : Marking) → FitMarking c.count m → (steps : List (ℕ × ℕ)) → Alike c (ordered (written c bytes) room) m steps
-
--- given room for the book, and for the order of each stage
-pub demand-2 : (c : FlatChart) → Fit c → (bytes room : List ℕ) → length (derived_image c) ≤ length bytes
-    → ((e : ℕ) → e < c.count → counted_rules (rules_of (derived_image c) e) ≤ length room) → Demand2 c bytes room
-demand-2 c t bytes room h k =
-    let g = granted_bytes c t bytes h in
-    let p : (e : ℕ) → e < c.count → checking (derived_image c) e (length room) ≡ granted = λ e i. derived-passes c t e (length room) (rw (stages-are c t) i) (k e i) in
-    let f : (e : ℕ) → e < c.count → order.Fit (rules_of (derived_image c) e) (ordered (derived_image c) room e) =
-    λ e i. written-fit (derived_image c) e room (ap (λ (a : Answer). a.code) (p e i)) in
-    record {
-      derives = g.0;
-      writes = g.1;
-      passes = rw g.1 p;
-      agrees = λ m n steps. rw g.1 (alike c t (ordered (derived_image c) room) f m n steps);
-    }

@@ -4,7 +4,6 @@ use Rattle.std.specs.Prelude.{ℕ, ◌≤◌, ◌<◌, ◌≡◌, ◌↔◌, Lis
 use Rattle.paper.specs.Limits.{loop_found, clash}
 use Rattle.paper.specs.Answers.{granted}
 use Rattle.chart.specs.Reading.{reading}
-use Rattle.chart.specs.ReadingGives.{reading-fit}
 use Rattle.order_theory.specs.Order.{Counted, counted_rules, Fit, Loop}
 use Rattle.book.specs.Text.{Snap, snap_of}
 use Rattle.book.specs.Image.{stages_in, book_of}
@@ -12,13 +11,13 @@ use Rattle.book.specs.WellFormed.{WellFormed}
 use Rattle.book.specs.declared.Snapshot.{Snapshot}
 use Rattle.rule_order.specs.Nets.{rules_of}
 use Rattle.clashes.specs.Pairs.{LowestClash}
-use Rattle.judge.specs.Checking.{checking, checked_room, Acyclic, Clashing, LowestLoop, loop-exactly, loop-named, clash-exactly, clash-named, book-passes, passes-book}
+use Rattle.judge.specs.Checking.{checking, checked_room, Acyclic, Clashing, LowestLoop, passes-book}
+use Rattle.judge.proofs.Checking.{book-passes}
 use Rattle.deriver.specs.Deriving.{derived_image}
-use Rattle.runner.specs.Walks.{Goes, turns, goes_one}
+use Rattle.runner.specs.Walks.{Goes, turns}
 use Rattle.runner.specs.Table.{Passes}
 use Rattle.runner.specs.Completing.{completing}
-use Rattle.runner.specs.Completion.{Open, Completes, once, completes, orders-end-alike, written-fit}
-use Rattle.promises.specs.Demand2.{derived-passes}
+use Rattle.runner.specs.Completion.{Open, Completes}
 
 -- "Take any book the check passes, any snapshot whose marks belong to it, and any open stage": the check may have been asked for any of the book's stages
 pub record Ready (book : List ℕ) (snapshot : Snapshot) (stage : ℕ) : Type 0 where
@@ -64,18 +63,3 @@ pub record Demand3 : Type 0 where
 
 pub ready-passes : {book : List ℕ} {snapshot : Snapshot} {stage : ℕ} → Ready book snapshot stage → Passes book
 ready-passes {book} y = book-passes book (passes-book book y.asked y.room y.passes)
-
-pub demand-3 : Demand3
-demand-3 =
-    record {
-      completes = λ book order s stage y f. completes book (ready-passes y) s stage y.opens order f;
-      fires = λ book order s stage y f end walk. goes_one (book_of book) (snap_of s.marks) stage walk (completes book (ready-passes y) s stage y.opens order f).fires;
-      alike = λ book k l s stage y. orders-end-alike book (ready-passes y) s stage y.opens k l;
-      once = λ book order s stage y f. once book (ready-passes y) s stage y.opens order f;
-      written = written-fit;
-      loop = loop-exactly;
-      loop_named = loop-named;
-      clashes = clash-exactly;
-      clash_named = clash-named;
-      derived = λ image g. derived-passes (reading image).chart (reading-fit image g).0;
-    }

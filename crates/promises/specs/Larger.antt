@@ -1,22 +1,20 @@
 -- Request (xiv), over the bytes: "each one accepted before is accepted with the same meaning". Charts and books as they were judged with the limits of then, and that the
 -- larger limits leave what they gave. What the flat sets, the derived book, firing, loops and clashes are names no limit. The fit test, the lowest event of a set, the matching
 -- snapshot and 28 name one: LargerCharts says that stepping, counting, replaying, matching and deriving give what they gave, LargerSnapshots that completing does. Assumes nothing.
-use Rattle.std.specs.Prelude.{ℕ, zero, suc, ◌+◌, ◌*◌, ◌^◌, ◌≤◌, ◌<◌, ◌≡◌, Bool, true, not, cond, ◌&&◌, List, [], eqb, ltb, leb, length, get_or}
-use Rattle.std.proofs.Common.{sym, subst, arith, le-leb, leb-true}
+use Rattle.std.specs.Prelude.{ℕ, ◌+◌, ◌*◌, ◌≤◌, ◌<◌, ◌≡◌, Bool, true, not, cond, ◌&&◌, List, [], eqb, ltb, leb, length, get_or}
+use Rattle.std.proofs.Common.{arith, le-leb, leb-true}
 use Rattle.paper.specs.Limits.{max_events, max_marks, max_rules, max_conditions, max_words, book_header, book_short, book_count, book_length, index_unfit}
 use Rattle.paper.specs.Answers.{granted, refusal}
 use Rattle.paper.specs.declared.Answer.{Answer}
 use Rattle.general.specs.Cases.{cases, both}
-use Rattle.wide.specs.Number.{set_words, number, row_of, row_at}
+use Rattle.wide.specs.Number.{set_words}
 use Rattle.wide.specs.declared.Set.{Set}
-use Rattle.flat_chart.specs.Chart.{Kind, condition, response, milestone, include, exclude, set_of}
-use Rattle.flat_chart.specs.Numbers.{flat_of}
+use Rattle.flat_chart.specs.Chart.{Kind, condition, response, milestone, include, exclude}
 use Rattle.flat_chart.specs.declared.FlatChart as code-chart
 use Rattle.graph.specs.Numbers.{marks_of, step_of}
 use Rattle.graph.specs.declared.Marking as code-marking
 use Rattle.graph.specs.declared.steps.Step as code_step
-use Rattle.chart.specs.Larger.{events_then, reading_smaller, larger_reading, accepted-still, Low, small_low, upper-empty, row-empty}
-use Rattle.chart.specs.Flat.{Reading}
+use Rattle.chart.specs.Larger.{events_then, reading_smaller, larger_reading, Low}
 use Rattle.chart.specs.Numbers.{reading_of}
 use Rattle.chart.specs.Reading.{reading}
 use Rattle.chart.specs.declared.Reading as code-reading
@@ -24,14 +22,13 @@ use Rattle.book.specs.Book.{Book}
 use Rattle.book.specs.Image.{stages_in, book_of}
 use Rattle.book.specs.Judging.{counts_of, counts_fit, layout_fits, body_answer, image_answer}
 use Rattle.book.specs.declared.Counts.{Counts}
-use Rattle.derived.specs.Largest.{Largest, largest}
+use Rattle.derived.specs.Largest.{Largest}
 use Rattle.judge.specs.Checking.{rules_answer, book_answer, stage_answer, checking}
 use Rattle.runner.specs.Table.{Passes}
 use Rattle.index.specs.Index.{order_of}
 use Rattle.index_fit.specs.Stored.{index_image_then}
 use Rattle.indexed.specs.Indexed.{index_answer}
-use Rattle.indexed.specs.Stored.{stored_other, stored-unfit, stored-fit}
-use Rattle.promises.specs.Coincide.{MarkingWords, StepWords, marking-same, step_same}
+use Rattle.promises.specs.Coincide.{MarkingWords, StepWords}
 
 -- ---- a book, judged by the limits of then
 
@@ -87,7 +84,7 @@ counts-still h t =
     )
 
 -- where it was not refused for its counts, every answer is the one of then
-image-still : (s : List ℕ) → ((image_then s).code ≡ book_count → ⊥) → image_then s ≡ image_answer s
+pub image-still : (s : List ℕ) → ((image_then s).code ≡ book_count → ⊥) → image_then s ≡ image_answer s
 unfolding image_then image_answer
 image-still s n =
     cases (ltb (length s) book_header) (λ t. rw t)
@@ -119,35 +116,6 @@ pub record LowWords (r : code-reading.Reading) : Type 0 where
   pub pending : UpperEmpty r.marking.pending
   pub included : UpperEmpty r.marking.included
 
-row-upper : (t : List ℕ) (e i : ℕ) → row_of t e < 2 ^ 64 → 1 ≤ i → i < set_words → get_or t (e * set_words + i) 0 ≡ 0
-row-upper t e zero h l k = absurd (omega arith)
-row-upper t e (suc zero) h l k = (row-empty t e h).0
-row-upper t e (suc (suc zero)) h l k = (row-empty t e h).1
-row-upper t e (suc (suc (suc zero))) h l k = (row-empty t e h).2
-row-upper t e (suc (suc (suc (suc i)))) h l k = absurd (omega arith)
-
-set-upper : (s : Set) → number s < 2 ^ 64 → UpperEmpty s
-set-upper s h = let u = upper-empty s h in record { second = u.0; third = u.1; fourth = u.2 }
-
-row_number : (c : code-chart.FlatChart) (κ : Kind) (e : ℕ) → e < max_events → set_of (flat_of c) κ e ≡ row_of (word_table c κ) e
-row_number c condition e h = row_at max_events c.conditions e h
-row_number c response e h = row_at max_events c.responses e h
-row_number c milestone e h = row_at max_events c.milestones e h
-row_number c include e h = row_at max_events c.includes e h
-row_number c exclude e h = row_at max_events c.excludes e h
-
-low-words : (image : List ℕ) (r : code-reading.Reading) → reading_of r ≡ reading image → r.answer.code ≡ 0 → r.chart.count ≤ events_then → LowWords r
-low-words image r e z few =
-    let a : (reading image).answer.code ≡ 0 = subst (λ (x : Reading). x.answer.code ≡ 0) e z in
-    let n : (reading image).chart.count ≤ events_then = subst (λ (x : Reading). x.chart.count ≤ events_then) e few in
-    let low : Low (reading_of r) = subst Low (sym e) (small_low image a n) in
-    record {
-      rows = λ κ f i h. row-upper (word_table r.chart κ) f i (rw (row_number r.chart κ f h) at (low.sets κ f h));
-      executed = set-upper r.marking.executed low.executed;
-      pending = set-upper r.marking.pending low.pending;
-      included = set-upper r.marking.included low.included;
-    }
-
 pub record Larger : Type 0 where
   -- a chart that was accepted reads as it did, its tables longer by what is empty
   pub charts : (image : List ℕ) → (reading_smaller image).answer.code ≡ 0 → reading image ≡ larger_reading (reading_smaller image)
@@ -168,21 +136,3 @@ pub record Larger : Type 0 where
   pub steps : (s t : code_step.Step) → StepWords s → StepWords t → step_of s ≡ step_of t → s ≡ t
   -- "131,840 rules .. 655,616 words": the largest derived book has exactly these
   pub most : Largest
-
-pub larger-limits : Larger
-unfolding checking_then checking
-larger-limits =
-    record {
-      charts = accepted-still;
-      low = small_low;
-      low_words = low-words;
-      books = image-still;
-      rules = book-still;
-      checks = λ s stage room n. rw (book-still s n);
-      stored_other = stored_other;
-      stored = stored-unfit;
-      stored_empty = stored-fit;
-      markings = marking-same;
-      steps = step_same;
-      most = largest;
-    }

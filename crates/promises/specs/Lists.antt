@@ -26,7 +26,8 @@ use Rattle.index_builder.specs.Building.{index_of}
 use Rattle.indexed.specs.Indexed.{completing_indexed, completion_of}
 use Rattle.indexed.specs.IndexedTable.{along-order, indexed-hands-back, indexed-known}
 use Rattle.indexed_list.specs.InList.{completing_list, InTurn, ended, goes, stops}
-use Rattle.indexed_list.specs.ListTable.{list-in-turn, in-turn-one}
+use Rattle.indexed_list.specs.ListTable.{in-turn-one}
+use Rattle.indexed_list.proofs.ListTable.{list-in-turn}
 use Rattle.indexed.specs.declared.IndexedCompletion.{IndexedCompletion}
 use Rattle.promises.specs.Demand2.{passes, stages-are, same-grants, match-again, fit-again, matching-whole}
 
@@ -81,7 +82,7 @@ module _ (c : FlatChart) (fit : Fit c) where
   unfolding events_of
   steps_alike {m} {y} {n} [] t p end = (0, ended)
   steps_alike {m} {y} {n} ((e, r) ∷ steps) t p (step {n = l} g w) =
-      let (k, u) = steps_alike steps (stays_fit m t e r p.0) p.1 w in (
+      let (k, u) = steps_alike {m = (executing c m e r).marking} steps (stays_fit m t e r p.0) p.1 w in (
         (completes_from m e).evaluated + k,
         goes ((grants-alike m t e r p.0).0 g)
             (subst (λ (x : Snapshot). InTurn (derived_image c) (index_of (derived_image c)) x (events_of steps) l (matching_of c y).snapshot k) (sym (matches-alike m t e r p.0 g)) u),

@@ -11,13 +11,17 @@ use Rattle.chart.specs.Reading.{reading}
 use Rattle.mending.specs.Records.{Records, count, relation_count, node_in, relation_in, records_of, chart_image}
 use Rattle.mending.specs.Mending.{Change, Cuts, bad_number, step3, mended, changes}
 use Rattle.mending.specs.Images.{Byte, records-back}
-use Rattle.mending.specs.Cutting.{cut_nodes, cuts-so, cuts-one, one-a-loop, cut-lowest}
-use Rattle.mending.specs.RolesStay.{roles-stay}
+use Rattle.mending.specs.Cutting.{cut_nodes, cuts-one, one-a-loop}
+use Rattle.mending.proofs.Cutting.{cuts-so, cut-lowest}
+use Rattle.mending.proofs.RolesStay.{roles-stay}
 use Rattle.mending.specs.Undoing.{undo}
-use Rattle.mending.specs.Listing.{Rising, Listed, Tells, changes-rising, changes-tell, told-listed, untouched-node, untouched-relation}
+use Rattle.mending.specs.Listing.{Rising, Listed, Tells}
+use Rattle.mending.proofs.Listing.{changes-rising, changes-tell, told-listed, untouched-node, untouched-relation}
 use Rattle.mend.specs.Calling.{mended_image, changes_of, list_bytes, mend_answer, mending, mended_room, changes_room}
-use Rattle.mend.specs.Table.{Mendable, Written, Kept, mend-written, mend-kept, mend-granted}
-use Rattle.mend.specs.Accepted.{mended-accepted, accepted-call, again-call, undone-image}
+use Rattle.mend.specs.Table.{Mendable, Written, Kept, mend-written, mend-kept}
+use Rattle.mend.proofs.Table.{mend-granted}
+use Rattle.mend.specs.Accepted.{mended-accepted, undone-image}
+use Rattle.mend.proofs.Accepted.{accepted-call, again-call}
 
 pub record Mending : Type 0 where
   -- "write one that is accepted and a list of the changes": what a granted call leaves in its rooms, and what the reader says of the chart

@@ -1,7 +1,7 @@
 -- Request (x): no two charts behind one book, from the definition of the derived book and the short way; and charts with one book grant
 -- the same events and step alike. Assumes nothing.
-use Rattle.std.specs.Prelude.{ℕ, ◌≤◌, ◌<◌, ◌≡◌, refl, ◌↔◌, List, [], ◌∷◌, length, leb}
-use Rattle.std.proofs.Common.{sym, ap, ◌∙◌, arith, take_at}
+use Rattle.std.specs.Prelude.{ℕ, ◌≤◌, ◌<◌, ◌≡◌, ◌↔◌, List, [], ◌∷◌, leb}
+use Rattle.std.proofs.Common.{sym, ap, ◌∙◌, arith}
 use borrow.Author.Tests.{leb-false}
 use Rattle.paper.specs.Limits.{max_events}
 use Rattle.general.specs.Cases.{cases}
@@ -12,20 +12,18 @@ use Rattle.flat_chart.specs.Fitness.{fit-tested}
 use Rattle.graph.specs.Steps.{stepping, stepping_by, testing, executing}
 use Rattle.graph.specs.Overruled.{standing}
 use Rattle.flat_chart.specs.Flat.{FlatChart}
-use Rattle.graph.specs.Flat.{Marking, Step}
+use Rattle.graph.specs.Flat.{Marking}
 use Rattle.chart.specs.Reading.{reading}
-use Rattle.chart.specs.ReadingGives.{reading-fit}
 use Rattle.book.specs.Image.{book_of}
 use Rattle.book.specs.ImageOf.{book-of-image}
 use Rattle.derived.specs.Derived.{derived_book}
 use Rattle.derived.specs.Overruled.{standing_of, same_after}
-use Rattle.derived.specs.OneChart as one
+use Rattle.derived.proofs.OneChart as one
 use Rattle.derived.specs.OneChart.{SameRelations}
-use Rattle.deriver.specs.Deriving.{derived_image, deriving_answer}
-use Rattle.gathering.specs.Behind.{Sized, bare, bare_set, bare-count, bare-one, bare-table}
-use Rattle.gathering.specs.Behind as behind
-use Rattle.promises.specs.Demand1.{derive-granted}
-use Rattle.promises.specs.Demand2.{written}
+use Rattle.deriver.specs.Deriving.{derived_image}
+use Rattle.gathering.specs.Behind.{Sized, bare, bare-count, bare-one, bare-table}
+use Rattle.gathering.proofs.Behind.{bare_set}
+use Rattle.gathering.proofs.Behind as behind
 use Rattle.promises.specs.Lists.{Permitted}
 
 -- the books behind equal bytes are one
@@ -72,14 +70,6 @@ abbrev pub StepAlike : FlatChart → FlatChart → Marking → List (ℕ × ℕ)
 StepAlike c d m [] = Unit {0}
 StepAlike c d m (s ∷ steps) = (executing c m s.0 s.1 ≡ executing d m s.0 s.1) × StepAlike c d (executing c m s.0 s.1).marking steps
 
-pub steps_alike : (c d : FlatChart) → Fit c → Fit d → SameRelations c d → (m : Marking) (steps : List (ℕ × ℕ)) → Permitted c steps → Permitted d steps
-    → StepAlike c d m steps
-steps_alike c d x y s m [] p q = tt
-steps_alike c d x y s m (t ∷ steps) p q = (
-  step-alike c d x y s m t.0 t.1 t.1 p.0 q.0,
-  steps_alike c d x y s (executing c m t.0 t.1).marking steps p.1 q.1,
-)
-
 -- through the calls: two charts read from bytes, of which derive wrote the same book
 pub record SameBookAlike (image other : List ℕ) : Type 0 where
   pub relations : SameRelations (reading image).chart (reading other).chart
@@ -89,32 +79,3 @@ pub record SameBookAlike (image other : List ℕ) : Type 0 where
   -- and step alike along every list of events by roles that both permit
   pub steps : (m : Marking) (steps : List (ℕ × ℕ)) → Permitted (reading image).chart steps → Permitted (reading other).chart steps
       → StepAlike (reading image).chart (reading other).chart m steps
-
--- what a granted derivation has written is the image
-wrote : (c : FlatChart) (room : List ℕ) → (deriving_answer c (length room)).code ≡ 0 → written c room ≡ derived_image c
-wrote c room e = rw (derive-granted c room e) (take_at (derived_image c) _ (length (derived_image c)) refl)
-
-pub same-book-alike : (image other room more : List ℕ) → (reading image).answer.code ≡ 0 → (reading other).answer.code ≡ 0
-    → (deriving_answer (reading image).chart (length room)).code ≡ 0 → (deriving_answer (reading other).chart (length more)).code ≡ 0
-    → written (reading image).chart room ≡ written (reading other).chart more → SameBookAlike image other
-same-book-alike image other room more a b g h q =
-    record {
-      relations = s;
-      grants = λ m e r t p u. let z = ap (λ (k : Step). k.answer.code) (step-alike c d x y s m e r t p u) in (λ w. sym z ∙ w, λ w. z ∙ w);
-      steps = steps_alike c d x y s;
-    }
-  where
-    c : FlatChart
-    c = (reading image).chart
-
-    d : FlatChart
-    d = (reading other).chart
-
-    x : Fit c
-    x = (reading-fit image a).0
-
-    y : Fit d
-    y = (reading-fit other b).0
-
-    s : SameRelations c d
-    s = no-two-charts c d x y (sym (wrote c room g) ∙ q ∙ wrote d more h)

@@ -13,7 +13,8 @@ use Rattle.chart.specs.ReadingGives.{reading-fit}
 use Rattle.judge.specs.Checking.{BookPasses}
 use Rattle.derived.specs.OneChart.{SameRelations}
 use Rattle.deriver.specs.Deriving.{derived_image, deriving_answer}
-use Rattle.gathering.specs.Behind.{Sized, bare, bare-same, bare-table}
+use Rattle.gathering.specs.Behind.{Sized, bare, bare-table}
+use Rattle.gathering.proofs.Behind.{bare-same}
 use Rattle.read_back.specs.ReadingBack.{reading_back}
 use Rattle.read_back.specs.Table.{Writes, read_back, back-granted, granted-back, granted-roles, foreign-told, told-foreign}
 use Rattle.read_back.specs.Flat.{ReadBack}

@@ -1,6 +1,6 @@
 -- Request (xi): "From the start marking, over every sequence of completions, stages and kept marks are those of the full book, and the finished test is the same with dropped
 -- marks read as yes." Stated of what the calls give: derive and its smaller book, matching, complete, and the chart's finished test. Assumes nothing.
-use Rattle.std.specs.Prelude.{ℕ, ◌*◌, ◌≤◌, ◌<◌, ◌≡◌, refl, Bool, true, cond, ◌||◌, List, [], ◌∷◌, eqb, ltb, length, get_or}
+use Rattle.std.specs.Prelude.{ℕ, ◌*◌, ◌≤◌, ◌<◌, ◌≡◌, Bool, true, cond, ◌||◌, List, [], ◌∷◌, eqb, ltb, length, get_or}
 use Rattle.std.proofs.Math.Path.{sym, ap, fun_ext}
 use Rattle.std.proofs.Common.{subst, ◌∙◌, arith}
 use Rattle.std.proofs.Math.Bool.{false, not}
@@ -9,15 +9,14 @@ use borrow.Author.Tests.{ne_eqb, ltb-true, ltb-false}
 use Rattle.paper.specs.Limits.{max_events, max_marks, no_mark, no_such_stage, stage_closed}
 use Rattle.paper.specs.Answers.{granted, refusal}
 use Rattle.paper.specs.declared.Answer.{Answer}
-use Rattle.general.specs.Cases.{contra, cases, same_test, not_so}
-use Rattle.general.specs.Below.{every, every-at, every_of, every-same}
-use Rattle.general.specs.Lists.{All, each, length-each, get_or-each}
-use Rattle.sets.specs.Set.{has}
+use Rattle.general.specs.Cases.{cases}
+use Rattle.general.specs.Below.{every}
+use Rattle.general.specs.Lists.{each, length-each, get_or-each}
 use Rattle.flat_chart.specs.Chart.{roles_of, Fit}
 use Rattle.graph.specs.Fitness.{FitMarking}
 use Rattle.flat_chart.specs.Roles.{Permits}
 use Rattle.graph.specs.Steps.{after, executing, finishing}
-use Rattle.graph.specs.Execution.{is_done, granted-enabled, after-executed, executes-only, refused-kept, after-fit, finished-when}
+use Rattle.graph.specs.Execution.{is_done, granted-enabled, after-executed, executes-only, refused-kept, after-fit}
 use Rattle.flat_chart.specs.Flat.{FlatChart}
 use Rattle.graph.specs.Flat.{Marking, Step}
 use Rattle.book.specs.Text.{Snap, snap_of}
@@ -34,18 +33,19 @@ use Rattle.derived.specs.Derived.{included_mark, answered_mark, derived_book}
 use Rattle.deriver.specs.Deriving.{derived_image}
 use Rattle.deriver.specs.Matching.{matching_marks, matching_of, mark_of, marks-at}
 use Rattle.smaller.specs.Staying.{stays, new_mark, smaller_marks, mark_table}
-use Rattle.smaller.specs.Numbering.{stays-included, stays-answered, new-below, marks-fewer, table_at, table_stays}
+use Rattle.smaller.specs.Numbering.{marks-fewer}
 use Rattle.smaller.specs.Smaller.{smaller_book}
 use Rattle.smaller_deriver.specs.Calling.{smaller_image}
 use Rattle.runner.specs.Table.{Passes, Belongs, nowhere, closed, completed, answered-is}
 use Rattle.runner.specs.Completing.{completing}
 use Rattle.runner.specs.declared.Completion.{Completion}
 use Rattle.runner.specs.Completion.{Open, completes, completed-is, refusal-hands-back}
-use Rattle.agreement.specs.Matching.{match-included, match-answered, match-past}
+use Rattle.agreement.specs.Matching.{match-past}
 use Rattle.agreement.specs.Settling.{derived-settled}
-use Rattle.smaller_agreement.specs.Through.{through, through-past, through-new, through-stage, Through, through-one, Quiet, quiet-start, quiet-after}
+use Rattle.smaller_agreement.specs.Through.{through, through-past, Through, Quiet, quiet-after}
+use Rattle.smaller_agreement.proofs.Through.{through-new, through-stage, through-one}
 use Rattle.smaller_agreement.specs.Passing.{smaller-passes}
-use Rattle.smaller_agreement.specs.Settling.{smaller-settled}
+use Rattle.smaller_agreement.proofs.Settling.{smaller-settled}
 use Rattle.promises.specs.Matching.{matched, marks-whole}
 use Rattle.promises.specs.Demand2 as demand2
 
@@ -175,7 +175,7 @@ module _ (c : FlatChart) (fit : Fit c) (m : Marking) where
   abbrev n : ℕ
   n = c.count
 
-  few : n ≤ max_events
+  pub few : n ≤ max_events
   few = fit.few
 
   pub small-long : (now : Marking) → length (smaller_snapshot c m now).marks ≡ max_marks
@@ -207,50 +207,6 @@ module _ (c : FlatChart) (fit : Fit c) (m : Marking) where
     small_one t long w =
         ap snapshot_of (at_same t.marks (smaller_snapshot c m now).marks (long ∙ sym (small-long now))
         (λ j. through-one c m w j ∙ ap (λ (f : Snap). through c m f j) (fun_ext full_at) ∙ sym (small_at now j)))
-
-    module _ (quiet : Quiet c m now) where
-      -- a mark that stays is read at its new number, which is none of 65,535, and a dropped one as yes
-      read_kept : (t : Snapshot) (k : ℕ) → stays c m k ≡ true → read_as c m t k ≡ snap_of t.marks (new_mark c m k)
-      unfolding read_as
-      read_kept t k s =
-          let b : n ≤ max_events = few in
-          rw (table_stays c m few k no_mark s, ne_eqb (new_mark c m k) no_mark (λ q. absurd (omega (arith, new-below c m k s, marks-fewer c m))))
-
-      read-gone : (t : Snapshot) (k : ℕ) → k < max_marks → stays c m k ≡ false → read_as c m t k ≡ true
-      unfolding read_as
-      read-gone t k h s = rw (table_at c m k no_mark h, s)
-
-      read-included : (e : ℕ) → e < n → read_as c m (smaller_snapshot c m now) (included_mark n e) ≡ has now.included e
-      read-included e h =
-          let b : n ≤ max_events = few in
-          cases (stays c m (included_mark n e))
-          (λ t. read_kept (smaller_snapshot c m now) (included_mark n e) t ∙ small-new now (included_mark n e) t ∙ match-included c now e h)
-          (λ t. read-gone (smaller_snapshot c m now) (included_mark n e) (omega arith) t ∙ sym (quiet.included e h (sym (stays-included c m e h) ∙ t)))
-
-      read-answered : (e : ℕ) → e < n → read_as c m (smaller_snapshot c m now) (answered_mark n e) ≡ not (has now.pending e)
-      read-answered e h =
-          let b : n ≤ max_events = few in
-          cases (stays c m (answered_mark n e))
-          (λ t. read_kept (smaller_snapshot c m now) (answered_mark n e) t ∙ small-new now (answered_mark n e) t ∙ match-answered c now e h)
-          (λ t. read-gone (smaller_snapshot c m now) (answered_mark n e) (omega arith) t ∙ rw (quiet.answered e h (sym (stays-answered c m e h) ∙ t)))
-
-      finished-same : finished_as c m (smaller_snapshot c m now) ≡ (finishing c now).yes
-      unfolding finished_as
-      finished-same =
-          every-same n _ (λ e. not (has now.included e) || not (has now.pending e)) (λ e h. rw (read-included e h, read-answered e h))
-          ∙ same_test (every n (λ e. not (has now.included e) || not (has now.pending e))) (finishing c now).yes
-          (λ t. (finished-when c now fit marked).1 (λ e i p. contra (every-at n (λ e. not (has now.included e) || not (has now.pending e)) e t (marked.included e i)) (rw (i, p))))
-          (λ t. every_of n _ (λ e h. cases (has now.included e) (λ i. rw (i, not_so ((finished-when c now fit marked).0 t e i))) (λ i. rw i)))
-
-      same-marks : Same c m now (matching_of c now).snapshot (smaller_snapshot c m now)
-      same-marks =
-          record {
-            marked = marked;
-            matches = refl;
-            stages = λ e h. small_at now e ∙ through-stage c m (mark_of c now) e h ∙ sym (full_at e);
-            kept = λ k t. rw (table_stays c m few k no_mark t) (small-new now k t ∙ sym (full_at k));
-            finished = finished-same;
-          }
 
 -- ---- one step, from the chart's marking now
 
@@ -357,33 +313,8 @@ module _ (c : FlatChart) (fit : Fit c) (m : Marking) (now : Marking) (marked : F
       next-done g ∙ ap (λ (x : Step). x.marking) (executes-only c now e (is_done t.0 t.1 (after-executed c now e))))
       (λ n. next-kept n ∙ sym (refused-kept c now e r (λ z. n (s.0 z))))
 
--- ---- every sequence
-
-module _ (c : FlatChart) (fit : Fit c) (m : Marking) where
-  from-here : (now : Marking) → FitMarking c.count now → Quiet c m now → (steps : List (ℕ × (List ℕ × List ℕ))) → All (Ordered c m) steps
-      → Alongside c m now (matching_of c now).snapshot (smaller_snapshot c m now) steps
-  from-here now marked quiet [] o = same-marks c fit m now marked quiet
-  from-here now marked quiet (x ∷ steps) o =
-      let e : ℕ = x.0 in
-      let K : List ℕ = x.1.0 in
-      let L : List ℕ = x.1.1 in
-      let u : Marking = reaching c (completing (derived_image c) K (matching_of c now).snapshot e).answer now e in
-      let t : Snapshot = (completing (smaller_image c m) L (smaller_snapshot c m now) e).snapshot in
-      let rest : Alongside c m u (matching_of c u).snapshot (smaller_snapshot c m u) steps =
-      from-here u (fit_next c fit m now marked quiet e K L o.0) (quiet_next c fit m now marked quiet e K L o.0) steps o.1 in (
-        same-marks c fit m now marked quiet,
-        answers-same c fit m now marked quiet e K L o.0,
-        subst (λ (y : Snapshot). Alongside c m u y t steps) (sym (full-next c fit m now marked quiet e K L o.0))
-            (subst (λ (y : Snapshot). Alongside c m u (matching_of c u).snapshot y steps) (sym (small-next c fit m now marked quiet e K L o.0)) rest),
-      )
-
-  -- "From the start marking, over every sequence of completions"
-  pub alongside : FitMarking c.count m → (steps : List (ℕ × (List ℕ × List ℕ))) → All (Ordered c m) steps
-      → Alongside c m m (matching_of c m).snapshot (smaller_snapshot c m m) steps
-  alongside started steps o = from-here m started (quiet-start c m) steps o
-
 -- and after the last of them
 pub alongside-end : (c : FlatChart) (m now : Marking) (s t : Snapshot) (steps : List (ℕ × (List ℕ × List ℕ))) → Alongside c m now s t steps
     → Same c m (reached_all c now s steps) (completed_all (derived_image c) s (full_steps steps)) (completed_all (smaller_image c m) t (small_steps steps))
 alongside-end c m now s t [] a = a
-alongside-end c m now s t (x ∷ steps) a = alongside-end c m _ _ _ steps a.2
+alongside-end c m now s t (x ∷ steps) a = alongside-end c m (reaching c (completing (derived_image c) x.1.0 s x.0).answer now x.0) (completing (derived_image c) x.1.0 s x.0).snapshot (completing (smaller_image c m) x.1.1 t x.0).snapshot steps a.2

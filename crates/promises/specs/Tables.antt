@@ -14,7 +14,7 @@ use Rattle.sets.specs.Laws.{has-inter, below, lowest-has, lowest-lt, apart-not, 
 use Rattle.flat_chart.specs.Chart.{In, Fit}
 use Rattle.graph.specs.Fitness.{FitMarking, fit, fit-both, both-fit}
 use Rattle.flat_chart.specs.Tests.{fit_chart}
-use Rattle.flat_chart.specs.Fitness.{fit-chart, fit-tested}
+use Rattle.flat_chart.specs.Fitness.{fit-chart}
 use Rattle.graph.specs.Steps.{is_open, counting, finishing}
 use Rattle.graph.specs.Execution.{Enabled, open-enabled, Counts, counts, count-refused, finish-refused}
 use Rattle.flat_chart.specs.Flat.{FlatChart}
@@ -139,12 +139,6 @@ derives c room =
     (λ l. let h = leb-true (length (derived_image c)) room l in rw (t, l) (is_derived ((fit-chart c).0 t) (omega arith)))
     (λ l. let h = leb-false (length (derived_image c)) room l in rw (t, l) (is_narrow ((fit-chart c).0 t) (omega arith))))
     (λ t. rw t (is_unfit (λ f. contra ((fit-chart c).1 f) t)))
-
-pub derives-only : (c : FlatChart) (room : ℕ) {a : Answer} → Derives c room a → a ≡ deriving_answer c room
-unfolding deriving_answer
-derives-only c room (is_unfit n) = rw (not_so (λ t. n ((fit-chart c).0 t)))
-derives-only c room (is_narrow f l) = rw (fit-tested c f, lt-leb (length (derived_image c)) room (omega arith))
-derives-only c room (is_derived f l) = rw (fit-tested c f, le-leb (length (derived_image c)) room (omega arith))
 
 -- ---- deriving a smaller book
 

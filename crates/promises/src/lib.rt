@@ -1,1 +1,2 @@
 // The demands as theorems about the public calls, in specs/.
+#![tactic(auto)]
