@@ -1,4 +1,6 @@
 // Runs the settled examples that are run, and prints a line for each: its name, code, place and other, and what else it gives.
+#![tactic(auto)]
+
 mod books;
 mod charts;
 mod checks;
@@ -7,11 +9,12 @@ mod roles;
 mod runs;
 mod show;
 
-fn main() {
-    charts::run();
-    books::run();
-    runs::run();
-    roles::run();
-    checks::run();
-    completions::run();
+// A write that fails ends the program with its error.
+fn main(rt: HostRuntime) -> std::io::Result<()> {
+    charts::run(&rt)?;
+    books::run(&rt)?;
+    runs::run(&rt)?;
+    roles::run(&rt)?;
+    checks::run(&rt)?;
+    completions::run(&rt)
 }

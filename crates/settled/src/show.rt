@@ -3,8 +3,8 @@ ghost use Rattle.std.specs.Prelude.{◌+◌, ◌≤◌};
 ghost use Rattle.paper.specs.Limits.{max_marks};
 
 use book::Snapshot;
-use libc::STDOUT_FILENO;
 use paper::{Answer, MAX_MARKS};
+use std::io;
 use wide::{SET_WORDS, Set};
 
 // Marks are shown by so many.
@@ -12,54 +12,61 @@ const SHOWN: usize = 64;
 
 const MARK_NUMBERS: usize = MAX_MARKS / SHOWN;
 
-fn number(n: u64) {
-    io::write_all(STDOUT_FILENO, b" ");
-    io::print_decimal(STDOUT_FILENO, n);
+fn number(rt: &impl Print, n: u64) -> io::Result<()> {
+    rt.write_all(b" ")?;
+    rt.print(n)
 }
 
-fn answered(name: &[u8], answer: Answer) {
-    io::write_all(STDOUT_FILENO, name);
-    number(answer.code as u64);
-    number(answer.place as u64);
-    number(answer.other as u64);
+fn answered(rt: &impl Print, name: &[u8], answer: Answer) -> io::Result<()> {
+    rt.write_all(name)?;
+    number(rt, answer.code as u64)?;
+    number(rt, answer.place as u64)?;
+    number(rt, answer.other as u64)
 }
 
 // One case: its name and its answer.
-pub fn line(name: &[u8], answer: Answer) {
-    answered(name, answer);
-    io::write_all(STDOUT_FILENO, b"\n");
+pub fn line(rt: &impl Print, name: &[u8], answer: Answer) -> io::Result<()> {
+    answered(rt, name, answer)?;
+    rt.write_all(b"\n")
 }
 
 // One case with a count and the lowest.
-pub fn counted(name: &[u8], answer: Answer, count: u32, lowest: u32) {
-    answered(name, answer);
-    number(count as u64);
-    number(lowest as u64);
-    io::write_all(STDOUT_FILENO, b"\n");
+pub fn counted(
+    rt: &impl Print,
+    name: &[u8],
+    answer: Answer,
+    count: u32,
+    lowest: u32,
+) -> io::Result<()> {
+    answered(rt, name, answer)?;
+    number(rt, count as u64)?;
+    number(rt, lowest as u64)?;
+    rt.write_all(b"\n")
 }
 
 // A set, word by word.
-fn set(s: Set) {
+fn set(rt: &impl Print, s: Set) -> io::Result<()> {
     for i in 0..SET_WORDS {
-        number(wide::word(s, i));
+        number(rt, wide::word(s, i))?;
     }
+    Ok(())
 }
 
 // One case with two sets.
-pub fn sets(name: &[u8], answer: Answer, one: Set, other: Set) {
-    answered(name, answer);
-    set(one);
-    set(other);
-    io::write_all(STDOUT_FILENO, b"\n");
+pub fn sets(rt: &impl Print, name: &[u8], answer: Answer, one: Set, other: Set) -> io::Result<()> {
+    answered(rt, name, answer)?;
+    set(rt, one)?;
+    set(rt, other)?;
+    rt.write_all(b"\n")
 }
 
 // One case that is yes or no.
-pub fn told(name: &[u8], yes: bool) {
-    io::write_all(STDOUT_FILENO, name);
+pub fn told(rt: &impl Print, name: &[u8], yes: bool) -> io::Result<()> {
+    rt.write_all(name)?;
     if yes {
-        io::write_all(STDOUT_FILENO, b" yes\n");
+        rt.write_all(b" yes\n")
     } else {
-        io::write_all(STDOUT_FILENO, b" no\n");
+        rt.write_all(b" no\n")
     }
 }
 
@@ -75,21 +82,21 @@ fn worth(marks: &[bool; MAX_MARKS], from: usize) -> u64
 }
 
 // One case with a snapshot: every mark, in sixteen numbers.
-pub fn marked(name: &[u8], answer: Answer, snapshot: Snapshot) {
-    answered(name, answer);
+pub fn marked(rt: &impl Print, name: &[u8], answer: Answer, snapshot: Snapshot) -> io::Result<()> {
+    answered(rt, name, answer)?;
     for i in 0..MARK_NUMBERS {
-        number(worth(&snapshot.marks, SHOWN * i));
+        number(rt, worth(&snapshot.marks, SHOWN * i))?;
     }
-    io::write_all(STDOUT_FILENO, b"\n");
+    rt.write_all(b"\n")
 }
 
 // An order, rule by rule.
-pub fn order(name: &[u8], rules: &[u32]) {
-    io::write_all(STDOUT_FILENO, name);
+pub fn order(rt: &impl Print, name: &[u8], rules: &[u32]) -> io::Result<()> {
+    rt.write_all(name)?;
     for j in 0..rules.len() {
-        number(widened(rules[j]));
+        number(rt, widened(rules[j]))?;
     }
-    io::write_all(STDOUT_FILENO, b"\n");
+    rt.write_all(b"\n")
 }
 
 fn widened(n: u32) -> u64 {

@@ -6,10 +6,10 @@ use mathlib.Core.Path.{◌≡◌}
 use Rattle.settled.proofs.charts.plain.Statement.{statement}
 use Rattle.settled.proofs.charts.plain.Tie as tie
 
-abbrev invariant-loop : tie.invariant-loop
+abbrev invariant-loop : tie.invariant-loop-i
 invariant-loop events image₀ end i₀ image i = (i ≤ 257) × (length image ≡ 1036)
 
-abbrev decreases-loop : tie.decreases-loop
+abbrev decreases-loop : tie.decreases-loop-i
 decreases-loop events image₀ end i₀ image i = 257 - i
 
 pub plain_spec : {M : Type 1} → statement M

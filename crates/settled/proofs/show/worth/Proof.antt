@@ -4,10 +4,10 @@ use borrow.Author.Rules.{rules}
 use Rattle.settled.proofs.show.worth.Statement.{statement}
 use Rattle.settled.proofs.show.worth.Tie as tie
 
-abbrev invariant-loop : tie.invariant-loop
+abbrev invariant-loop : tie.invariant-loop-m
 invariant-loop marks from word₀ m₀ word m = m ≤ 64
 
-abbrev decreases-loop : tie.decreases-loop
+abbrev decreases-loop : tie.decreases-loop-m
 decreases-loop marks from word₀ m₀ word m = 64 - m
 
 pub worth_spec : {M : Type 1} → statement M
