@@ -1,11 +1,13 @@
 // Reads a chart from standard input and prints the listing of its rule book.
-use libc::{STDIN_FILENO, STDOUT_FILENO};
+#![tactic(auto)]
+
 use listing::{LISTING_INPUT, MAX_LISTING};
 
-fn main() {
+// A read or a write that fails ends the program with its error.
+fn main(rt: HostRuntime) -> std::io::Result<()> {
     let mut input = [0u8; LISTING_INPUT];
     let mut room = [0u8; MAX_LISTING];
-    let n = io::read_full(STDIN_FILENO, &mut input);
+    let n = printing::read_full(&mut rt.stdin(), &mut input)?;
     let length = listing::list(&input[..n], &mut room);
-    io::write_all(STDOUT_FILENO, &room[..length]);
+    rt.write_all(&room[..length])
 }
