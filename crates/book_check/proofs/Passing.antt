@@ -10,7 +10,8 @@ use Rattle.book.specs.Image.{rules_in}
 use Rattle.book.specs.Judging.{counts_of}
 use Rattle.book.specs.declared.Counts.{Counts}
 use Rattle.rule_order.specs.Nets.{rules_of, few-count}
-use Rattle.judge.specs.Checking.{CheckPasses, checking, passed_is}
+use Rattle.judge.specs.Checking.{CheckPasses, checking}
+use Rattle.judge.proofs.Checking.{passed_is}
 
 pub passes : (s : List ℕ) (stage room : ℕ) (a : Answer) → room ≡ max_rules → a ≡ checking s stage room → a.code ≡ 0 → CheckPasses s stage max_rules
 passes s stage room a e p q = rw e at (passed_is s stage room (rw p at q))
