@@ -6,7 +6,6 @@ use native.Mathlib.Omega.{arith}
 use lib.Dec.{leb}
 use lib.ListN.{length, take, drop, length-append}
 use lib.Seq.{take-append_seam}
-use Rattle.paper.specs.declared.Answer.{Answer}
 use Rattle.general.specs.Cases.{cases}
 use Rattle.wire.specs.Laws.{u32-first}
 use Rattle.flat_chart.specs.Flat.{FlatChart}
@@ -17,7 +16,7 @@ use Rattle.graph.specs.Fitness.{fit-both}
 use Rattle.book.specs.Image.{rules_in, conditions_in, words_in, condition_place, word_place}
 use Rattle.book.specs.Judging.{counts_of}
 use Rattle.book.specs.declared.Counts.{Counts}
-use Rattle.smaller.specs.Formed.{smaller-well}
+use Rattle.smaller.proofs.Formed.{smaller-well}
 use Rattle.smaller_deriver.specs.Calling.{smaller_image, deriving_smaller, smaller_room}
 use Rattle.smaller_deriver.specs.declared.Smaller.{Smaller}
 

@@ -1,4 +1,6 @@
 // Reads a chart from standard input, derives its smaller rule book from the chart's own start marking, and writes the book's bytes to standard output.
+#![tactic(auto)]
+
 ghost use Rattle.std.specs.Prelude.{◌≤◌, ◌≡◌, length, take};
 ghost use Rattle.paper.specs.Limits.{book_header};
 ghost use Rattle.flat_chart.specs.Numbers.{flat_of};
@@ -9,7 +11,6 @@ ghost use Rattle.smaller_deriver.specs.Calling.{deriving_smaller, smaller_image}
 use book::header::{counts_at, words_from};
 use flat_chart::FlatChart;
 use graph::Marking;
-use libc::{STDIN_FILENO, STDOUT_FILENO};
 use paper::{
     Answer, BOOK_HEADER, CHART_HEADER, CONDITION_SIZE, MAX_EVENTS, MAX_NODES, MAX_RELATIONS,
     MAX_RULES, MAX_WORDS, NODE_SIZE, RELATION_SIZE, RULE_SIZE, WORD_SIZE,
@@ -25,7 +26,7 @@ const BOOK: usize = BOOK_HEADER
     + WORD_SIZE * MAX_WORDS;
 
 // What deriving gives, and how many bytes of the room the book takes.
-#[derive(Drop)]
+#[derive(Clone, Copy)]
 struct Derived {
     answer: Answer,
     bytes: usize,
@@ -56,37 +57,41 @@ fn derive(chart: FlatChart, start: Marking, room: &mut [u8]) -> Derived
     Derived { answer, bytes }
 }
 
-fn write_first(room: &[u8], n: usize)
+fn write_first(rt: &impl Print, room: &[u8], n: usize) -> std::io::Result<()>
     requires { n ≤ length room.now }
 {
-    io::write_all(STDOUT_FILENO, &room[..n]);
+    rt.write_all(&room[..n])
 }
 
-fn refused(answer: Answer) {
+fn refused(rt: &impl Print, answer: Answer) -> std::io::Result<()> {
     let mut buffer = [0u8; printing::ROOM];
-    let at = printing::answer(&mut buffer, 0, b"refused", answer);
-    printing::finish(buffer, at);
+    let at = printing::answer(rt, &mut buffer, 0, b"refused", answer)?;
+    printing::finish(rt, buffer, at)
 }
 
-fn write_book(chart: FlatChart, start: Marking, room: &mut [u8; BOOK]) {
+fn write_book(
+    rt: &impl Print,
+    chart: FlatChart,
+    start: Marking,
+    room: &mut [u8; BOOK],
+) -> std::io::Result<()> {
     let derived = derive(chart, start, room);
     let answer = derived.answer;
     if answer.code != 0 {
-        refused(answer);
-        return;
+        return refused(rt, answer);
     }
-    write_first(room, derived.bytes);
+    write_first(rt, room, derived.bytes)
 }
 
-fn main() {
+// A read or a write that fails ends the program with its error.
+fn main(rt: HostRuntime) -> std::io::Result<()> {
     let mut input = [0u8; INPUT];
-    let n = io::read_full(STDIN_FILENO, &mut input);
+    let n = printing::read_full(&mut rt.stdin(), &mut input)?;
     let reading = chart::read(&input[..n]);
     let answer = reading.answer;
     if answer.code != 0 {
-        refused(answer);
-        return;
+        return refused(&rt, answer);
     }
     let mut room = [0u8; BOOK];
-    write_book(reading.chart, reading.marking, &mut room);
+    write_book(&rt, reading.chart, reading.marking, &mut room)
 }
