@@ -1,12 +1,11 @@
 -- The mended chart and the list at the front of their rooms, as the code meets them. Assumes nothing.
-use Prim.Native.Nat.{ℕ, ◌+◌, ◌*◌, ◌≤◌}
+use Prim.Native.Nat.{ℕ, ◌*◌, ◌≤◌}
 use mathlib.Core.Path.{◌≡◌, sym, ap, ◌∙◌}
 use mathlib.Core.List.{List, ◌++◌}
 use native.Mathlib.Omega.{arith}
 use lib.ListN.{length, take, drop, length-append}
 use lib.Seq.{take-append_seam}
 use Rattle.paper.specs.Limits.{change_size}
-use Rattle.paper.specs.declared.Answer.{Answer}
 use Rattle.general.specs.Lists.{length-packed}
 use Rattle.wire.specs.Laws.{u16-first}
 use Rattle.records.specs.Image.{nodes, relations, relation_at}

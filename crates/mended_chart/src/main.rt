@@ -1,10 +1,11 @@
 // Reads a chart from standard input, mends it, and writes to standard output the answer's line, the mended chart's bytes and the list's bytes.
+#![tactic(auto)]
+
 ghost use Rattle.std.specs.Prelude.{◌≤◌, ◌≡◌, length, take};
 ghost use Rattle.paper.specs.Limits.{chart_header};
 ghost use Rattle.records.specs.Image.{nodes, relations, relation_at};
 ghost use Rattle.mend.specs.Calling.{mended_image, list_bytes, mend_answer};
 
-use libc::{STDIN_FILENO, STDOUT_FILENO};
 use paper::{
     Answer, CHANGE_SIZE, CHART_HEADER, MAX_NODES, MAX_RELATIONS, NODE_SIZE, RELATION_SIZE,
 };
@@ -18,7 +19,7 @@ const INPUT: usize = CHART + 1;
 const LIST: usize = CHANGE_SIZE * (4 * MAX_NODES + MAX_RELATIONS);
 
 // What mending gives, and how many bytes of each room it takes.
-#[derive(Drop)]
+#[derive(Clone, Copy)]
 struct Written {
     answer: Answer,
     entries: u32,
@@ -65,30 +66,31 @@ fn mend_both(image: &[u8], chart: &mut [u8], list: &mut [u8]) -> Written
     }
 }
 
-fn write_first(room: &[u8], n: usize)
+fn write_first(rt: &impl Print, room: &[u8], n: usize) -> std::io::Result<()>
     requires { n ≤ length room.now }
 {
-    io::write_all(STDOUT_FILENO, &room[..n]);
+    rt.write_all(&room[..n])
 }
 
-fn print_line(answer: Answer, entries: u32) {
+fn print_line(rt: &impl Print, answer: Answer, entries: u32) -> std::io::Result<()> {
     let mut buffer = [0u8; printing::ROOM];
-    let a = printing::text(&mut buffer, 0, b"mended");
-    let b = printing::named(&mut buffer, a, b" ", answer.code as u64);
-    let c = printing::named(&mut buffer, b, b" ", answer.place as u64);
-    let d = printing::named(&mut buffer, c, b" ", answer.other as u64);
-    let e = printing::named(&mut buffer, d, b" ", entries as u64);
-    let at = printing::text(&mut buffer, e, b"\n");
-    printing::finish(buffer, at);
+    let a = printing::text(rt, &mut buffer, 0, b"mended")?;
+    let b = printing::named(rt, &mut buffer, a, b" ", answer.code as u64)?;
+    let c = printing::named(rt, &mut buffer, b, b" ", answer.place as u64)?;
+    let d = printing::named(rt, &mut buffer, c, b" ", answer.other as u64)?;
+    let e = printing::named(rt, &mut buffer, d, b" ", entries as u64)?;
+    let at = printing::text(rt, &mut buffer, e, b"\n")?;
+    printing::finish(rt, buffer, at)
 }
 
-fn main() {
+// A read or a write that fails ends the program with its error.
+fn main(rt: HostRuntime) -> std::io::Result<()> {
     let mut input = [0u8; INPUT];
-    let n = io::read_full(STDIN_FILENO, &mut input);
+    let n = printing::read_full(&mut rt.stdin(), &mut input)?;
     let mut chart = [0u8; CHART];
     let mut list = [0u8; LIST];
     let written = mend_both(&input[..n], &mut chart, &mut list);
-    print_line(written.answer, written.entries);
-    write_first(&chart, written.chart);
-    write_first(&list, written.list);
+    print_line(&rt, written.answer, written.entries)?;
+    write_first(&rt, &chart, written.chart)?;
+    write_first(&rt, &list, written.list)
 }
