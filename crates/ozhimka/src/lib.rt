@@ -1,5 +1,7 @@
 // The controller's C interface: the public calls under C names, and nothing else. A chart comes as its count and its tables, lent, so that
 // no call copies it.
+#![tactic(auto)]
+
 ghost use Rattle.std.specs.Prelude.{◌≡◌, length};
 ghost use Rattle.wide.specs.Number.{rows_of};
 ghost use Rattle.flat_chart.specs.Chart.{chart_of};
