@@ -6,7 +6,7 @@ use paper::MAX_MARKS;
 const BASE: u32 = 65521;
 
 // The two sums; the bytes summed are those so far.
-#[derive(Drop)]
+#[derive(Clone, Copy)]
 struct Sums {
     low: u32,
     high: u32,

@@ -1,7 +1,7 @@
 // Reading requests: what stands before the fields, the first of the fields, and as much of the rest as is wanted.
 ghost use Rattle.std.specs.Prelude.{◌≡◌, ◌+◌, ◌≤◌, min, length};
 
-use libc::STDIN_FILENO;
+use std::io::Read;
 
 // The longest body of a request: the operation and its fields.
 const MAX_BODY: usize = 8388608;
@@ -17,7 +17,7 @@ pub const BAD: u8 = 1;
 pub const REQUEST: u8 = 2;
 
 // A request's operation, and the length of its fields; or that there is none, or one that cannot be told from what follows it.
-#[derive(Drop)]
+#[derive(Clone, Copy)]
 pub struct Head {
     pub next: u8,
     pub operation: u8,
@@ -31,25 +31,31 @@ pub fn least(a: usize, b: usize) -> usize
 }
 
 // Reads n bytes into the room, from a place on; answers whether they were there.
-pub fn read_at(room: &mut [u8], at: usize, n: usize) -> bool
+pub fn read_at(
+    reader: &mut impl Read,
+    room: &mut [u8],
+    at: usize,
+    n: usize,
+) -> std::io::Result<bool>
     requires { at + n ≤ length room.old }
 {
     let end = at + n;
-    io::read_full(STDIN_FILENO, &mut room[at..end]) == n
+    let got = printing::read_full(reader, &mut room[at..end])?;
+    Ok(got == n)
 }
 
 // Passes over n bytes; answers whether they were there.
-pub fn skip(n: usize) -> bool {
+pub fn skip(reader: &mut impl Read, n: usize) -> std::io::Result<bool> {
     let mut some = io::buffer();
     let mut left = n;
     while left > 0 {
         let now = least(left, 4096);
-        if !read_at(&mut some, 0, now) {
-            return false;
+        if !read_at(reader, &mut some, 0, now)? {
+            return Ok(false);
         }
         left -= now;
     }
-    true
+    Ok(true)
 }
 
 fn none(next: u8) -> Head {
@@ -61,25 +67,25 @@ fn none(next: u8) -> Head {
 }
 
 // The next request, with the first of its fields in `start`.
-pub fn next(start: &mut [u8; START]) -> Head {
+pub fn next(reader: &mut impl Read, start: &mut [u8; START]) -> std::io::Result<Head> {
     let mut head = [0u8; 5];
-    let got = io::read_full(STDIN_FILENO, &mut head);
+    let got = printing::read_full(reader, &mut head)?;
     if got < 4 {
-        return none(ENDED);
+        return Ok(none(ENDED));
     }
     let body = wire::u32_at(&head, 0) as usize;
     if got < 5 || body < 1 || MAX_BODY < body {
-        return none(BAD);
+        return Ok(none(BAD));
     }
     let length = body - 1;
-    if !read_at(start, 0, least(length, START)) {
-        return none(BAD);
+    if !read_at(reader, start, 0, least(length, START))? {
+        return Ok(none(BAD));
     }
-    Head {
+    Ok(Head {
         next: REQUEST,
         operation: head[4],
         length,
-    }
+    })
 }
 
 fn copy(from: &[u8], to: &mut [u8], n: usize)
@@ -93,16 +99,26 @@ fn copy(from: &[u8], to: &mut [u8], n: usize)
 }
 
 // The first n bytes of the fields, of which `start` has the first already; answers whether they were there.
-pub fn first(start: &[u8], fields: &mut [u8], n: usize) -> bool
+pub fn first(
+    reader: &mut impl Read,
+    start: &[u8],
+    fields: &mut [u8],
+    n: usize,
+) -> std::io::Result<bool>
     requires { n ≤ length fields.old }
 {
     let had = least(start.len(), n);
     copy(start, fields, had);
-    read_at(fields, had, n - had)
+    read_at(reader, fields, had, n - had)
 }
 
 // As many bytes of the fields as there is room for; what is behind them is passed over. Answers whether all were there.
-pub fn whole(start: &[u8], fields: &mut [u8], length: usize) -> bool {
+pub fn whole(
+    reader: &mut impl Read,
+    start: &[u8],
+    fields: &mut [u8],
+    length: usize,
+) -> std::io::Result<bool> {
     let kept = least(length, fields.len());
-    first(start, fields, kept) && skip(length - kept)
+    Ok(first(reader, start, fields, kept)? && skip(reader, length - kept)?)
 }

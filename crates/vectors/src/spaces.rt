@@ -9,6 +9,8 @@ use paper::{
     MAX_WORDS, NODE_SIZE, RELATION_SIZE, RULE_SIZE, WORD_SIZE,
 };
 use show::LINE;
+use std::io;
+use std::io::Read;
 
 // The longest room in bytes; the longest order, list and room for an order in numbers; the numbers of the longest record, two for each of as many steps.
 const MAX_BYTES: usize = 4000000;
@@ -95,16 +97,20 @@ pub fn asked(operation: u8, length: usize, start: &[u8; START]) -> u8 {
 }
 
 fn charts_in(
+    rt: &impl Print,
+    reader: &mut impl Read,
     operation: u8,
     length: usize,
     start: &[u8; START],
     body: &mut [u8; CHART_FIELDS],
     room: &mut [u8; MAX_BYTES],
     line: &mut [u8; LINE],
-) -> bool {
+) -> io::Result<bool> {
     let mut list = [0u8; 1];
     let mut numbers = [0u32; 1];
     serve::in_rooms(
+        rt,
+        reader,
         operation,
         length,
         start,
@@ -117,23 +123,36 @@ fn charts_in(
 }
 
 // Operations 1, 6 and 16.
-pub fn charts(operation: u8, length: usize, start: &[u8; START], line: &mut [u8; LINE]) -> bool {
+pub fn charts(
+    rt: &impl Print,
+    reader: &mut impl Read,
+    operation: u8,
+    length: usize,
+    start: &[u8; START],
+    line: &mut [u8; LINE],
+) -> io::Result<bool> {
     let mut body = [0u8; CHART_FIELDS];
     let mut room = [0u8; MAX_BYTES];
-    charts_in(operation, length, start, &mut body, &mut room, line)
+    charts_in(
+        rt, reader, operation, length, start, &mut body, &mut room, line,
+    )
 }
 
 fn books_in(
+    rt: &impl Print,
+    reader: &mut impl Read,
     operation: u8,
     length: usize,
     start: &[u8; START],
     body: &mut [u8; BOOK_FIELDS],
     room: &mut [u8; MAX_BYTES],
     line: &mut [u8; LINE],
-) -> bool {
+) -> io::Result<bool> {
     let mut list = [0u8; 1];
     let mut numbers = [0u32; 1];
     serve::in_rooms(
+        rt,
+        reader,
         operation,
         length,
         start,
@@ -146,120 +165,195 @@ fn books_in(
 }
 
 // Operations 9 and 15.
-pub fn books(operation: u8, length: usize, start: &[u8; START], line: &mut [u8; LINE]) -> bool {
+pub fn books(
+    rt: &impl Print,
+    reader: &mut impl Read,
+    operation: u8,
+    length: usize,
+    start: &[u8; START],
+    line: &mut [u8; LINE],
+) -> io::Result<bool> {
     let mut body = [0u8; BOOK_FIELDS];
     let mut room = [0u8; MAX_BYTES];
-    books_in(operation, length, start, &mut body, &mut room, line)
+    books_in(
+        rt, reader, operation, length, start, &mut body, &mut room, line,
+    )
 }
 
 fn orders_in(
+    rt: &impl Print,
+    reader: &mut impl Read,
     operation: u8,
     length: usize,
     start: &[u8; START],
     body: &mut [u8; ORDER_FIELDS],
     numbers: &mut [u32; MAX_NUMBERS],
     line: &mut [u8; LINE],
-) -> bool {
+) -> io::Result<bool> {
     let mut room = [0u8; 1];
     let mut list = [0u8; 1];
     serve::in_rooms(
-        operation, length, start, body, &mut room, &mut list, numbers, line,
+        rt, reader, operation, length, start, body, &mut room, &mut list, numbers, line,
     )
 }
 
 // Operations 7 and 8.
-pub fn orders(operation: u8, length: usize, start: &[u8; START], line: &mut [u8; LINE]) -> bool {
+pub fn orders(
+    rt: &impl Print,
+    reader: &mut impl Read,
+    operation: u8,
+    length: usize,
+    start: &[u8; START],
+    line: &mut [u8; LINE],
+) -> io::Result<bool> {
     let mut body = [0u8; ORDER_FIELDS];
     let mut numbers = [0u32; MAX_NUMBERS];
-    orders_in(operation, length, start, &mut body, &mut numbers, line)
+    orders_in(
+        rt,
+        reader,
+        operation,
+        length,
+        start,
+        &mut body,
+        &mut numbers,
+        line,
+    )
 }
 
 fn records_in(
+    rt: &impl Print,
+    reader: &mut impl Read,
     operation: u8,
     length: usize,
     start: &[u8; START],
     body: &mut [u8; RECORD_FIELDS],
     numbers: &mut [u32; MAX_RECORD],
     line: &mut [u8; LINE],
-) -> bool {
+) -> io::Result<bool> {
     let mut room = [0u8; 1];
     let mut list = [0u8; 1];
     serve::in_rooms(
-        operation, length, start, body, &mut room, &mut list, numbers, line,
+        rt, reader, operation, length, start, body, &mut room, &mut list, numbers, line,
     )
 }
 
 // Operations 12 and 13.
-pub fn records(operation: u8, length: usize, start: &[u8; START], line: &mut [u8; LINE]) -> bool {
+pub fn records(
+    rt: &impl Print,
+    reader: &mut impl Read,
+    operation: u8,
+    length: usize,
+    start: &[u8; START],
+    line: &mut [u8; LINE],
+) -> io::Result<bool> {
     let mut body = [0u8; RECORD_FIELDS];
     let mut numbers = [0u32; MAX_RECORD];
-    records_in(operation, length, start, &mut body, &mut numbers, line)
+    records_in(
+        rt,
+        reader,
+        operation,
+        length,
+        start,
+        &mut body,
+        &mut numbers,
+        line,
+    )
 }
 
 fn mends_in(
+    rt: &impl Print,
+    reader: &mut impl Read,
     length: usize,
     start: &[u8; START],
     body: &mut [u8; CHART_FIELDS],
     chart: &mut [u8; MAX_BYTES],
     list: &mut [u8; MAX_BYTES],
     line: &mut [u8; LINE],
-) -> bool {
-    serve::mend(length, start, body, chart, list, line)
+) -> io::Result<bool> {
+    serve::mend(rt, reader, length, start, body, chart, list, line)
 }
 
 // Operation 17.
-pub fn mends(length: usize, start: &[u8; START], line: &mut [u8; LINE]) -> bool {
+pub fn mends(
+    rt: &impl Print,
+    reader: &mut impl Read,
+    length: usize,
+    start: &[u8; START],
+    line: &mut [u8; LINE],
+) -> io::Result<bool> {
     let mut body = [0u8; CHART_FIELDS];
     let mut chart = [0u8; MAX_BYTES];
     let mut list = [0u8; MAX_BYTES];
-    mends_in(length, start, &mut body, &mut chart, &mut list, line)
+    mends_in(
+        rt, reader, length, start, &mut body, &mut chart, &mut list, line,
+    )
 }
 
 fn indexed_in(
+    rt: &impl Print,
+    reader: &mut impl Read,
     operation: u8,
     length: usize,
     start: &[u8; START],
     body: &mut [u8; INDEX_FIELDS],
     stages: &mut [u32; SMALL_NUMBERS],
     line: &mut [u8; LINE],
-) -> bool {
+) -> io::Result<bool> {
     if operation == 10 {
-        return indexes::indexed(length, start, body, line);
+        return indexes::indexed(rt, reader, length, start, body, line);
     }
-    indexes::listed(length, start, body, stages, line)
+    indexes::listed(rt, reader, length, start, body, stages, line)
 }
 
 // Operation 10, and 11 with a list that fits into the small rooms.
 pub fn indexed(
+    rt: &impl Print,
+    reader: &mut impl Read,
     operation: u8,
     length: usize,
     start: &[u8; START],
     stages: &mut [u32; SMALL_NUMBERS],
     line: &mut [u8; LINE],
-) -> bool {
+) -> io::Result<bool> {
     let mut body = [0u8; INDEX_FIELDS];
-    indexed_in(operation, length, start, &mut body, stages, line)
+    indexed_in(
+        rt, reader, operation, length, start, &mut body, stages, line,
+    )
 }
 
 fn listed_in(
+    rt: &impl Print,
+    reader: &mut impl Read,
     length: usize,
     start: &[u8; START],
     body: &mut [u8; LIST_FIELDS],
     stages: &mut [u32; MAX_NUMBERS],
     line: &mut [u8; LINE],
-) -> bool {
-    indexes::listed(length, start, body, stages, line)
+) -> io::Result<bool> {
+    indexes::listed(rt, reader, length, start, body, stages, line)
 }
 
 // Operation 11 with a longer list.
-pub fn listed(length: usize, start: &[u8; START], line: &mut [u8; LINE]) -> bool {
+pub fn listed(
+    rt: &impl Print,
+    reader: &mut impl Read,
+    length: usize,
+    start: &[u8; START],
+    line: &mut [u8; LINE],
+) -> io::Result<bool> {
     let mut body = [0u8; LIST_FIELDS];
     let mut stages = [0u32; MAX_NUMBERS];
-    listed_in(length, start, &mut body, &mut stages, line)
+    listed_in(rt, reader, length, start, &mut body, &mut stages, line)
 }
 
 // Operation 18.
-pub fn listing(length: usize, start: &[u8; START], line: &mut [u8; LINE]) -> bool {
+pub fn listing(
+    rt: &impl Print,
+    reader: &mut impl Read,
+    length: usize,
+    start: &[u8; START],
+    line: &mut [u8; LINE],
+) -> io::Result<bool> {
     let mut room = [0u8; MAX_LISTING];
-    serve::list(length, start, &mut room, line)
+    serve::list(rt, reader, length, start, &mut room, line)
 }

@@ -4,10 +4,10 @@ use borrow.Author.Rules.{rules}
 use Rattle.vectors.proofs.adler.of_numbers.Statement.{statement}
 use Rattle.vectors.proofs.adler.of_numbers.Tie as tie
 
-abbrev invariant-loop : tie.invariant-loop
+abbrev invariant-loop : tie.invariant-loop-i
 invariant-loop numbers n s₀ i₀ s i = (i ≤ n) × (s.low < 65521) × (s.high < 65521)
 
-abbrev decreases-loop : tie.decreases-loop
+abbrev decreases-loop : tie.decreases-loop-i
 decreases-loop numbers n s₀ i₀ s i = n - i
 
 pub of_numbers_spec : {M : Type 1} → statement M

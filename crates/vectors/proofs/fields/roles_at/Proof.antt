@@ -7,10 +7,10 @@ use mathlib.Core.Path.{◌≡◌}
 use Rattle.vectors.proofs.fields.roles_at.Statement.{statement}
 use Rattle.vectors.proofs.fields.roles_at.Tie as tie
 
-abbrev invariant-loop : tie.invariant-loop
+abbrev invariant-loop : tie.invariant-loop-e
 invariant-loop body at roles₀ e₀ roles e = (e ≤ max_events) × (length roles ≡ max_events)
 
-abbrev decreases-loop : tie.decreases-loop
+abbrev decreases-loop : tie.decreases-loop-e
 decreases-loop body at roles₀ e₀ roles e = max_events - e
 
 pub roles_at_spec : {M : Type 1} → statement M

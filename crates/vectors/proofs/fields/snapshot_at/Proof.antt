@@ -7,10 +7,10 @@ use mathlib.Core.Path.{◌≡◌}
 use Rattle.vectors.proofs.fields.snapshot_at.Statement.{statement}
 use Rattle.vectors.proofs.fields.snapshot_at.Tie as tie
 
-abbrev invariant-loop : tie.invariant-loop
+abbrev invariant-loop : tie.invariant-loop-m
 invariant-loop body at marks₀ m₀ marks m = (m ≤ max_marks) × (length marks ≡ max_marks)
 
-abbrev decreases-loop : tie.decreases-loop
+abbrev decreases-loop : tie.decreases-loop-m
 decreases-loop body at marks₀ m₀ marks m = max_marks - m
 
 pub snapshot_at_spec : {M : Type 1} → statement M

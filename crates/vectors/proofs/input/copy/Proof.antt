@@ -6,10 +6,10 @@ use mathlib.Core.Path.{◌≡◌}
 use Rattle.vectors.proofs.input.copy.Statement.{statement}
 use Rattle.vectors.proofs.input.copy.Tie as tie
 
-abbrev invariant-loop : tie.invariant-loop
+abbrev invariant-loop : tie.invariant-loop-i
 invariant-loop from to₀ n i₀ to i = (i ≤ n) × (length to ≡ length to₀)
 
-abbrev decreases-loop : tie.decreases-loop
+abbrev decreases-loop : tie.decreases-loop-i
 decreases-loop from to₀ n i₀ to i = n - i
 
 pub copy_spec : {M : Type 1} → statement M

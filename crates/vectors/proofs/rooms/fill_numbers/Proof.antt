@@ -6,10 +6,10 @@ use mathlib.Core.Path.{◌≡◌}
 use Rattle.vectors.proofs.rooms.fill_numbers.Statement.{statement}
 use Rattle.vectors.proofs.rooms.fill_numbers.Tie as tie
 
-abbrev invariant-loop : tie.invariant-loop
+abbrev invariant-loop : tie.invariant-loop-i
 invariant-loop room₀ n i₀ room i = (i ≤ n) × (length room ≡ length room₀)
 
-abbrev decreases-loop : tie.decreases-loop
+abbrev decreases-loop : tie.decreases-loop-i
 decreases-loop room₀ n i₀ room i = n - i
 
 pub fill_numbers_spec : {M : Type 1} → statement M

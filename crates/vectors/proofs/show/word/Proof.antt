@@ -4,10 +4,10 @@ use borrow.Author.Rules.{rules}
 use Rattle.vectors.proofs.show.word.Statement.{statement}
 use Rattle.vectors.proofs.show.word.Tie as tie
 
-abbrev invariant-loop : tie.invariant-loop
+abbrev invariant-loop : tie.invariant-loop-i
 invariant-loop marks from set₀ i₀ set i = i ≤ 64
 
-abbrev decreases-loop : tie.decreases-loop
+abbrev decreases-loop : tie.decreases-loop-i
 decreases-loop marks from set₀ i₀ set i = 64 - i
 
 pub word_spec : {M : Type 1} → statement M
