@@ -5,6 +5,7 @@ ghost use Rattle.std.specs.Prelude.{◌≡◌, true, false, ◌+◌, ◌*◌, �
 ghost use Rattle.paper.specs.Limits.{max_events, word_size};
 ghost use Rattle.wide.specs.Number.{number, rows_of};
 ghost use Rattle.flat_chart.specs.Numbers.{flat_of};
+ghost use Rattle.flat_chart.specs.Chart.{empty_chart};
 ghost use Rattle.book.specs.Book.{text_of};
 ghost use Rattle.book.specs.Image.{stages_in, conditions_in, book_of};
 ghost use Rattle.book.specs.Read.{words_from};
@@ -160,25 +161,28 @@ pub fn gather_texts(
     }
 }
 
-// The chart behind a book that is well formed and has a condition for each stage.
+// The chart behind a book that is well formed and has a condition for each stage, into a chart that is still empty.
+pub fn gather_into(image: &[u8], counts: Counts, chart: &mut FlatChart)
+    requires { (Opened image.now counts) × (stages_in image.now ≤ conditions_in image.now) × (flat_of chart.old ≡ empty_chart) }
+    ensures { flat_of chart.new ≡ gathered (book_of image.now) }
+{
+    gather_rules(
+        image,
+        counts,
+        &mut chart.includes,
+        &mut chart.excludes,
+        &mut chart.responses,
+    );
+    gather_texts(image, counts, &mut chart.conditions, &mut chart.milestones);
+    chart.count = counts.stages;
+}
+
+// The same, handed back.
 pub fn gather(image: &[u8], counts: Counts) -> FlatChart
     requires { (Opened image.now counts) × (stages_in image.now ≤ conditions_in image.now) }
     ensures { flat_of result ≡ gathered (book_of image.now) }
 {
-    let mut conditions = [0u64; TABLE];
-    let mut responses = [0u64; TABLE];
-    let mut milestones = [0u64; TABLE];
-    let mut includes = [0u64; TABLE];
-    let mut excludes = [0u64; TABLE];
-    gather_rules(image, counts, &mut includes, &mut excludes, &mut responses);
-    gather_texts(image, counts, &mut conditions, &mut milestones);
-    FlatChart {
-        count: counts.stages,
-        conditions,
-        responses,
-        milestones,
-        includes,
-        excludes,
-        roles: [0u8; MAX_EVENTS],
-    }
+    let mut chart = FlatChart::empty();
+    gather_into(image, counts, &mut chart);
+    chart
 }

@@ -5,6 +5,7 @@ pub mod judging;
 
 ghost use Rattle.std.specs.Prelude.{◌≡◌, replicate};
 ghost use Rattle.paper.specs.Limits.{max_events};
+ghost use Rattle.paper.specs.Answers.{granted};
 ghost use Rattle.wide.specs.Number.{rows_of};
 ghost use Rattle.derived_same.specs.Same.{roleless};
 ghost use Rattle.read_back.specs.Numbers.{back_of};
@@ -47,46 +48,64 @@ fn written_for<'a>(
     )
 }
 
-fn refuse(answer: Answer) -> ReadBack
-    ensures { back_of result ≡ refused_back answer }
+// Whatever was gathered is put away.
+fn refuse(out: &mut ReadBack, answer: Answer)
+    ensures { back_of out.new ≡ refused_back answer }
 {
-    ReadBack {
-        answer,
-        chart: FlatChart::empty(),
-    }
+    out.answer = answer;
+    out.chart = FlatChart::empty();
 }
 
-// 20 to 26 and 33 with the empty chart, or 0 and the chart for which the deriver writes this book: no roles, and no marking, which a book does not carry.
+// 20 to 26 and 33 with the empty chart, or 0 and the chart for which the deriver writes this book: no roles, and no marking, which a book does not carry. It is
+// written where it stays, out of what is still empty: a caller that hands it back by value has no copy of it on the stack.
 // Cost: the passes of `judge::judge_book`, one over the rules and one over the texts that gather the chart, and one over the book that compares it.
-// Stack: 134 KiB, and 174 with the caller's copy: one frame holds the tables as they are gathered, 40, the chart made of them, 41, and the empty chart of a
-// refusal; the search for loops takes 16 and its scan 8 below it.
-pub fn read_back(book: &[u8]) -> ReadBack
-    ensures { back_of result ≡ reading_back book.now }
+// Stack: that of `judge::judge_book`.
+pub fn read_back_into(book: &[u8], out: &mut ReadBack)
+    requires { back_of out.old ≡ refused_back granted }
+    ensures { back_of out.new ≡ reading_back book.now }
 {
     let foreign = paper::refused(NOT_DERIVED, 0, 0);
     let judged = judging::judge_whole(book);
     if judged.code != 0 {
-        return refuse(judged);
+        return refuse(out, judged);
     }
     let h = counts_at(book);
     if h.conditions != h.stages {
-        return refuse(foreign);
+        return refuse(out, foreign);
     }
-    let chart = gathering::gather(book, h);
+    gathering::gather_into(book, h, &mut out.chart);
     if !written_for(
         book,
-        chart.count,
-        &chart.conditions,
-        &chart.responses,
-        &chart.milestones,
-        &chart.includes,
-        &chart.excludes,
-        &chart.roles,
+        out.chart.count,
+        &out.chart.conditions,
+        &out.chart.responses,
+        &out.chart.milestones,
+        &out.chart.includes,
+        &out.chart.excludes,
+        &out.chart.roles,
     ) {
-        return refuse(foreign);
+        return refuse(out, foreign);
     }
-    ReadBack {
-        answer: judged,
-        chart,
+    out.answer = judged;
+}
+
+// The same, handed back. Stack: 41 KiB more.
+pub fn read_back(book: &[u8]) -> ReadBack
+    ensures { back_of result ≡ reading_back book.now }
+{
+    let mut out = ReadBack::empty();
+    read_back_into(book, &mut out);
+    out
+}
+
+impl ReadBack {
+    // What a book is read back into.
+    pub fn empty() -> ReadBack
+        ensures { back_of result ≡ refused_back granted }
+    {
+        ReadBack {
+            answer: paper::granted(),
+            chart: FlatChart::empty(),
+        }
     }
 }
