@@ -14,8 +14,8 @@ enum { PAINT = 0xA5, ROOM = 1 << 23, STEPS = 1000 };
 
 // What the header says of the stack, in KiB.
 enum {
-    STACK_READ_CHART = 176,
-    STACK_READ_BACK = 240,
+    STACK_READ_CHART = 128,
+    STACK_READ_BACK = 176,
     STACK_CHECK = 64,    // and building an index
     STACK_COMPLETE = 64, // and completing through an index
     STACK_MEND = 4,

@@ -15,9 +15,9 @@
 // ozhimka_read_back hand one back by value, and a snapshot goes both ways by value. What is kept of them is best static, or the caller's own.
 //
 // Stack, at most, with the copies that the caller's code makes there of structs that go in or come back by value (ozhimka_reading takes
-// 41,336 bytes), and without what the C library and the dynamic linker take: ozhimka_read_back 240 KiB, ozhimka_check and
+// 41,336 bytes), and without what the C library and the dynamic linker take: ozhimka_read_back 176 KiB, ozhimka_check and
 // ozhimka_build_index 64 KiB, ozhimka_complete, ozhimka_complete_indexed and ozhimka_complete_list 64 KiB, ozhimka_read_chart
-// 176 KiB, ozhimka_mend 4 KiB, ozhimka_derive_smaller 16 KiB, ozhimka_matching 4 KiB, every other call 4
+// 128 KiB, ozhimka_mend 4 KiB, ozhimka_derive_smaller 16 KiB, ozhimka_matching 4 KiB, every other call 4
 // KiB. examples/header_test.c measures them.
 //
 // Every answer is a code, a place and an other. Code 0 is granted; any other refuses, and then

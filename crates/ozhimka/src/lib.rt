@@ -42,7 +42,9 @@ use wide::TABLE;
 pub extern "C" fn ozhimka_read_chart(image: &[u8]) -> Reading
     ensures { reading_of result ≡ reading image.now }
 {
-    chart::read(image)
+    let mut out = Reading::empty();
+    chart::read_into(image, &mut out);
+    out
 }
 
 #[unsafe(no_mangle)]
@@ -270,7 +272,9 @@ pub extern "C" fn ozhimka_complete_list(
 pub extern "C" fn ozhimka_read_back(book: &[u8]) -> ReadBack
     ensures { back_of result ≡ reading_back book.now }
 {
-    read_back::read_back(book)
+    let mut out = ReadBack::empty();
+    read_back::read_back_into(book, &mut out);
+    out
 }
 
 #[unsafe(no_mangle)]
