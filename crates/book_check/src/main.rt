@@ -2,9 +2,12 @@
 // book that passes the counts and that stage's running order.
 #![tactic(auto)]
 
-ghost use Rattle.std.specs.Prelude.{◌<◌, ◌≤◌, length, IfOk};
+ghost use Rattle.std.specs.Prelude.{◌+◌, ◌*◌, ◌<◌, ◌≤◌, length, IfOk, OnErr};
 ghost use Rattle.paper.specs.Limits.{max_rules};
+ghost use Rattle.order_theory.specs.Order.{counted_rules};
+ghost use Rattle.rule_order.specs.Nets.{rules_of};
 ghost use Rattle.judge.specs.Checking.{CheckPasses};
+ghost use Rattle.printing.specs.Filling.{Full};
 
 use paper::{
     BOOK_HEADER, CONDITION_SIZE, MAX_CONDITIONS, MAX_RULES, MAX_WORDS, RULE_SIZE, WORD_SIZE,
@@ -36,7 +39,8 @@ fn order_line(
     rules: usize,
 ) -> std::io::Result<usize>
     requires { (at < 4096) × (rules ≤ max_rules) }
-    ensures { IfOk result (λ next. next < 4096) }
+    ensures ok { IfOk result (λ next. next < 4096) }
+    ensures err { OnErr result (Full (6 + 21 * rules) at buffer.old buffer.new) }
 {
     let mut next = printing::text(rt, buffer, at, b"order")?;
     let mut i = 0;
@@ -57,7 +61,8 @@ fn passed_lines(
     order: &[u32; MAX_RULES],
 ) -> std::io::Result<usize>
     requires { (at < 4096) × (CheckPasses book.now stage max_rules) }
-    ensures { IfOk result (λ next. next < 4096) }
+    ensures ok { IfOk result (λ next. next < 4096) }
+    ensures err { OnErr result (Full (147 + 21 * counted_rules (rules_of book.now stage)) at buffer.old buffer.new) }
 {
     let h = book::header::counts_at(book);
     let a = printing::counts(

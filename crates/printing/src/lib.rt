@@ -1,15 +1,17 @@
 // Printing: text gathered in a buffer, which is written to standard output whenever it is full. And reading into lent room.
 #![tactic(auto)]
 
-ghost use Rattle.std.specs.Prelude.{◌<◌, IfOk};
+ghost use Rattle.std.specs.Prelude.{◌+◌, ◌<◌, length, IfOk, OnErr};
 ghost use Rattle.std.specs.Io.{ReadsAtMost};
+ghost use Rattle.printing.specs.Filling.{Put, Full};
 
 use paper::Answer;
 use std::io::Read;
 
 pub const ROOM: usize = 4096;
 
-// Reads until the room is full or the input ends, and hands back how many bytes it put at the start of the room, or the error of a read that failed.
+// Reads until the room is full or the input ends, and hands back how many bytes it put at the start of the room, or the error of a read that failed, after which
+// nothing is known of the room.
 pub fn read_full<R: Read>(reader: &mut R, room: &mut [u8]) -> std::io::Result<usize>
     ensures { ReadsAtMost result room.new }
 {
@@ -31,10 +33,13 @@ pub fn finish(rt: &impl Print, buffer: [u8; ROOM], at: usize) -> std::io::Result
     rt.write_all(&buffer[..at])
 }
 
-// Every writer here hands back the place behind what it wrote, or the error of a write that failed.
+// Every writer here hands back the place behind what it put into the buffer, or the error of a write that failed, which comes only where the buffer became full. The
+// buffer is then as the bytes that filled it left it; how many of them are written nobody knows, so a caller puts in no more and hands the error on.
 fn byte(rt: &impl Print, buffer: &mut [u8; ROOM], at: usize, b: u8) -> std::io::Result<usize>
     requires { at < 4096 }
-    ensures { IfOk result (λ next. next < 4096) }
+    ensures ok { IfOk result (λ next. next < 4096) }
+    ensures put { IfOk result (λ next. Put 1 at next buffer.old buffer.new) }
+    ensures err { OnErr result (Full 1 at buffer.old buffer.new) }
 {
     buffer[at] = b;
     let next = at + 1;
@@ -47,7 +52,9 @@ fn byte(rt: &impl Print, buffer: &mut [u8; ROOM], at: usize, b: u8) -> std::io::
 
 pub fn text(rt: &impl Print, buffer: &mut [u8; ROOM], at: usize, s: &[u8]) -> std::io::Result<usize>
     requires { at < 4096 }
-    ensures { IfOk result (λ next. next < 4096) }
+    ensures ok { IfOk result (λ next. next < 4096) }
+    ensures put { IfOk result (λ next. Put (length s.now) at next buffer.old buffer.new) }
+    ensures err { OnErr result (Full (length s.now) at buffer.old buffer.new) }
 {
     let mut next = at;
     let mut i = 0;
@@ -67,7 +74,9 @@ pub fn named(
     n: u64,
 ) -> std::io::Result<usize>
     requires { at < 4096 }
-    ensures { IfOk result (λ next. next < 4096) }
+    ensures ok { IfOk result (λ next. next < 4096) }
+    ensures put { IfOk result (λ next. Put (length name.now + 20) at next buffer.old buffer.new) }
+    ensures err { OnErr result (Full (length name.now + 20) at buffer.old buffer.new) }
 {
     let next = text(rt, buffer, at, name)?;
     let mut digits = [0u8; 20];
@@ -84,7 +93,9 @@ pub fn answer(
     a: Answer,
 ) -> std::io::Result<usize>
     requires { at < 4096 }
-    ensures { IfOk result (λ next. next < 4096) }
+    ensures ok { IfOk result (λ next. next < 4096) }
+    ensures put { IfOk result (λ next. Put (length word.now + 64) at next buffer.old buffer.new) }
+    ensures err { OnErr result (Full (length word.now + 64) at buffer.old buffer.new) }
 {
     let b = text(rt, buffer, at, word)?;
     let c = named(rt, buffer, b, b" ", a.code as u64)?;
@@ -105,7 +116,9 @@ pub fn counts(
     words: u32,
 ) -> std::io::Result<usize>
     requires { at < 4096 }
-    ensures { IfOk result (λ next. next < 4096) }
+    ensures ok { IfOk result (λ next. next < 4096) }
+    ensures put { IfOk result (λ next. Put 141 at next buffer.old buffer.new) }
+    ensures err { OnErr result (Full 141 at buffer.old buffer.new) }
 {
     let a = named(rt, buffer, at, b"stages ", stages as u64)?;
     let b = named(rt, buffer, a, b" marks ", marks as u64)?;

@@ -1,6 +1,6 @@
 // Printing: a line is put together in a buffer, number by number, and written at its end. Each writer hands back the place behind what it wrote, or the error of a
 // write that failed.
-ghost use Rattle.std.specs.Prelude.{◌+◌, ◌≤◌, ◌<◌, length, IfOk};
+ghost use Rattle.std.specs.Prelude.{◌≡◌, ◌+◌, ◌≤◌, ◌<◌, length, IfOk, OnErr};
 ghost use Rattle.paper.specs.Limits.{max_events, max_marks};
 
 use crate::fields;
@@ -14,7 +14,8 @@ use wide::{Set, TABLE};
 pub const LINE: usize = 8192;
 
 fn put(rt: &impl Print, line: &mut [u8; LINE], at: usize, b: u8) -> std::io::Result<usize>
-    ensures { IfOk result (λ next. next ≤ 8192) }
+    ensures ok { IfOk result (λ next. next ≤ 8192) }
+    ensures err { OnErr result ((line.new ≡ line.old) × (8192 ≤ at)) }
 {
     if at < LINE {
         line[at] = b;

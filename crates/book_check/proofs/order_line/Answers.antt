@@ -1,0 +1,15 @@
+-- Number after number is put, and the one that fills the buffer may not be written. Assumes nothing.
+use Rattle.std.proofs.Common.{arith}
+use Rattle.printing.proofs.Filling.{put-then, put-more, full-then, full-more, full-last-call, on-err}
+use Rattle.book_check.proofs.order_line.Goals as goal
+
+pub returns-in_err-next-2-clause-err : goal.returns-in_err-next-2-clause-err
+returns-in_err-next-2-clause-err g c =
+    on-err c.from_residual-in_err-next-2.result (full-more (full-then c.loop-i.invariant.2 c.in_err-next-2.ensures.err) (omega (arith, c.loop-i-test.true)))
+
+pub loop-i-preserved : goal.loop-i-preserved
+loop-i-preserved g c =
+    (c.in_ok-next-2.ensures.ok, omega (arith, c.loop-i-test.true), put-more (put-then c.loop-i.invariant.2 c.in_ok-next-2.ensures.put) (omega arith))
+
+pub returns-clause-err : goal.returns-clause-err
+returns-clause-err g c = full-last-call _ _ _ c.text-2.result c.loop-i.invariant.2 (omega (arith, c.loop-i.invariant.1)) c.text-2.ensures.err

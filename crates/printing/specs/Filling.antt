@@ -1,0 +1,27 @@
+-- What the writers put into the buffer, of 4,096 bytes, and where they leave it. Assumes nothing.
+use Rattle.std.specs.Prelude.{ℕ, suc, ◌+◌, ◌≤◌, ◌≡◌, cond, ltb, List, [], ◌∷◌, length, slice_set}
+
+-- behind the last place it is the first one's turn
+unfoldable pub place_behind : ℕ → ℕ
+place_behind at = cond (ltb (suc at) 4096) (suc at) 0
+
+-- the buffer after bytes are put into it one behind the other, the first of them at the place `at`
+unfoldable pub filled : ℕ → List ℕ → List ℕ → List ℕ
+filled at [] buffer = buffer
+filled at (b ∷ bs) buffer = filled (place_behind at) bs (slice_set buffer at b)
+
+-- the place behind the last of them
+unfoldable pub place_after : ℕ → List ℕ → ℕ
+place_after at [] = at
+place_after at (b ∷ bs) = place_after (place_behind at) bs
+
+-- `most` bytes at most, put one behind the other from `at` on, made one buffer of another, and `next` is the place behind them
+pub record Put (most at next : ℕ) (old new : List ℕ) : Type 0 where
+  pub bytes : List ℕ
+  pub few : length bytes ≤ most
+  pub place : next ≡ place_after at bytes
+  pub buffer : new ≡ filled at bytes old
+
+-- what an error leaves: the buffer as the bytes that filled it to its end left it, of which nobody knows how many are written
+abbrev pub Full : ℕ → ℕ → List ℕ → List ℕ → Type 0
+Full most at old new = Put most at 0 old new × (4096 ≤ at + most)
