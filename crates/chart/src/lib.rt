@@ -188,8 +188,8 @@ fn put_chart(
     }
 }
 
-// The flat chart and the start marking of an image, or the refusal that comes first, into a reading that is still empty. It is written where it stays: a caller that
-// hands one back by value has no copy of it on the stack.
+// The flat chart and the start marking of an image, or the refusal that comes first, into a reading that is still empty. There it stays: a caller that hands it back by
+// value holds it once on its stack.
 // Cost: some passes over the nodes, six over the relations, and seven over the groups in their order: no event is climbed from.
 // Stack: about 40 KiB, of which the two tables of a set for each node take 32.
 pub fn read_into(image: &[u8], out: &mut Reading)

@@ -60,14 +60,21 @@ unfolding place_after
 after-near at [] = omega arith
 after-near at (b ∷ bs) = omega (arith, after-near (place_behind at) bs, behind-near at)
 
-pub put-near : {most at next : ℕ} {old new : List ℕ} → Put most at next old new → next ≤ at + most
-put-near {at = at} a = rw a.place (omega (arith, after-near at a.bytes, a.few))
+pub full-last : {at : ℕ} {old new : List ℕ} (b : ℕ) → 4096 ≤ suc at → new ≡ slice_set old at b → Full 1 at old new
+unfolding put-last
+full-last b h e = record { put = put-last b h e; whole = omega (arith, h) }
 
 pub full-then : {m k at p : ℕ} {old mid new : List ℕ} → Put m at p old mid → Full k p mid new → Full (m + k) at old new
-full-then a f = (put-then a f.0, omega (arith, put-near a, f.1))
+unfolding put-then
+full-then {at = at} a f =
+    record {
+      put = put-then a f.put;
+      whole = rw (length-append a.bytes f.put.bytes) (omega (arith, after-near at a.bytes, a.place, f.whole));
+    }
 
 pub full-more : {m k at : ℕ} {old new : List ℕ} → Full m at old new → m ≤ k → Full k at old new
-full-more f h = (put-more f.0 h, omega (arith, f.1, h))
+unfolding put-more
+full-more f h = record { put = put-more f.put h; whole = f.whole }
 
 -- ---- of what a call handed back
 

@@ -22,6 +22,7 @@ pub record Put (most at next : ℕ) (old new : List ℕ) : Type 0 where
   pub place : next ≡ place_after at bytes
   pub buffer : new ≡ filled at bytes old
 
--- what an error leaves: the buffer as the bytes that filled it to its end left it, of which nobody knows how many are written
-abbrev pub Full : ℕ → ℕ → List ℕ → List ℕ → Type 0
-Full most at old new = Put most at 0 old new × (4096 ≤ at + most)
+-- what an error leaves: the buffer as bytes left it that filled it to its end, of which nobody knows how many are written
+pub record Full (most at : ℕ) (old new : List ℕ) : Type 0 where
+  pub put : Put most at 0 old new
+  pub whole : 4096 ≤ at + length put.bytes

@@ -57,7 +57,7 @@ fn refuse(out: &mut ReadBack, answer: Answer)
 }
 
 // 20 to 26 and 33 with the empty chart, or 0 and the chart for which the deriver writes this book: no roles, and no marking, which a book does not carry. It is
-// written where it stays, out of what is still empty: a caller that hands it back by value has no copy of it on the stack.
+// written into what is still empty, and there it stays: a caller that hands it back by value holds it once on its stack.
 // Cost: the passes of `judge::judge_book`, one over the rules and one over the texts that gather the chart, and one over the book that compares it.
 // Stack: that of `judge::judge_book`.
 pub fn read_back_into(book: &[u8], out: &mut ReadBack)

@@ -3,6 +3,9 @@ use Rattle.std.proofs.Common.{arith}
 use Rattle.printing.proofs.Filling.{put-then, put-more, full-then, full-more, full-last-call, on-err}
 use Rattle.book_check.proofs.order_line.Goals as goal
 
+pub returns-in_err-next-clause-err : goal.returns-in_err-next-clause-err
+returns-in_err-next-clause-err g c = on-err c.from_residual.result (full-more c.in_err-next.ensures.err (omega arith))
+
 pub returns-in_err-next-2-clause-err : goal.returns-in_err-next-2-clause-err
 returns-in_err-next-2-clause-err g c =
     on-err c.from_residual-in_err-next-2.result (full-more (full-then c.loop-i.invariant.2 c.in_err-next-2.ensures.err) (omega (arith, c.loop-i-test.true)))

@@ -3,6 +3,7 @@ use Rattle.std.proofs.Common.{ap}
 use Rattle.paper.specs.declared.Answer.{Answer}
 use Rattle.flat_chart.specs.Chart.{empty_chart}
 use Rattle.chart.specs.Flat.{Reading}
+use Rattle.chart.proofs.Returns.{reading-is}
 use Rattle.chart.proofs.read_into.Goals as goal
 
 pub put_chart-start-requires : goal.put_chart-start-requires
@@ -17,3 +18,6 @@ put_chart-start-requires c =
       ap (λ (r : Reading). r.chart.excludes) e,
       ap (λ (r : Reading). r.chart.roles) e,
     )
+
+pub returns : goal.returns
+returns c = reading-is _ c.judge-answer.ensures c.put_chart-start.ensures.0 c.put_chart-start.ensures.1

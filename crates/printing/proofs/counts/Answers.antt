@@ -3,6 +3,9 @@ use Rattle.std.proofs.Common.{arith}
 use Rattle.printing.proofs.Filling.{put-then, full-then, full-more, put-last-call, full-last-call, on-err}
 use Rattle.printing.proofs.counts.Goals as goal
 
+pub returns-in_err-a-clause-err : goal.returns-in_err-a-clause-err
+returns-in_err-a-clause-err g c = on-err c.from_residual.result (full-more c.in_err-a.ensures.err (omega arith))
+
 pub returns-in_err-b-clause-err : goal.returns-in_err-b-clause-err
 returns-in_err-b-clause-err g c =
     let puts = c.in_ok-a.ensures.put in

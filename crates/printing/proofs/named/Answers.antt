@@ -1,7 +1,10 @@
 -- The name is put, and then the digits, of which there are 20 at most. Assumes nothing.
 use Rattle.std.proofs.Common.{arith}
-use Rattle.printing.proofs.Filling.{put-last-call, full-last-call}
+use Rattle.printing.proofs.Filling.{full-more, put-last-call, full-last-call, on-err}
 use Rattle.printing.proofs.named.Goals as goal
+
+pub returns-in_err-next-clause-err : goal.returns-in_err-next-clause-err
+returns-in_err-next-clause-err g c = on-err c.from_residual.result (full-more c.in_err-next.ensures.err (omega arith))
 
 pub returns-clause-put : goal.returns-clause-put
 returns-clause-put g c =
