@@ -1,15 +1,15 @@
 -- Bytes that are put after others are put after all of them. Assumes nothing.
 use Rattle.std.proofs.Common.{ℕ, Bool, suc, ◌+◌, ◌≤◌, ◌<◌, ◌≡◌, cond, ltb, true, false, List, [], ◌∷◌, ◌++◌, length, slice_set, refl, sym, ◌∙◌, arith, length-append, lt-ltb, le-ltb, Result, Ok, Err, IfOk, OnErr}
 use Rattle.std.proofs.lemmas.Result.{IfOk-weaker, on_err_weaker}
-use Rattle.printing.specs.Filling.{place_behind, filled, place_after, Put, Full}
+use Rattle.printing.specs.Filling.{room, place_behind, filled, place_after, Put, Full}
 
-behind-within : {at : ℕ} → suc at < 4096 → place_behind at ≡ suc at
+behind-within : {at : ℕ} → suc at < room → place_behind at ≡ suc at
 unfolding place_behind
-behind-within {at} h = rw (lt-ltb (suc at) 4096 h)
+behind-within {at} h = rw (lt-ltb (suc at) room h)
 
-behind-last : {at : ℕ} → 4096 ≤ suc at → place_behind at ≡ 0
+behind-last : {at : ℕ} → room ≤ suc at → place_behind at ≡ 0
 unfolding place_behind
-behind-last {at} h = rw (le-ltb (suc at) 4096 h)
+behind-last {at} h = rw (le-ltb (suc at) room h)
 
 filled-more : (at : ℕ) (bs cs buffer : List ℕ) → filled at (bs ++ cs) buffer ≡ filled (place_after at bs) cs (filled at bs buffer)
 unfolding filled place_after
@@ -25,11 +25,11 @@ pub put-none : {at : ℕ} {old : List ℕ} → Put 0 at at old old
 unfolding filled place_after
 put-none = record { bytes = []; few = omega arith; place = refl; buffer = refl }
 
-pub put-within : {at next : ℕ} {old new : List ℕ} (b : ℕ) → suc at < 4096 → next ≡ suc at → new ≡ slice_set old at b → Put 1 at next old new
+pub put-within : {at next : ℕ} {old new : List ℕ} (b : ℕ) → suc at < room → next ≡ suc at → new ≡ slice_set old at b → Put 1 at next old new
 unfolding filled place_after
 put-within {at} b h n e = record { bytes = b ∷ []; few = omega arith; place = n ∙ sym (behind-within h); buffer = e }
 
-pub put-last : {at : ℕ} {old new : List ℕ} (b : ℕ) → 4096 ≤ suc at → new ≡ slice_set old at b → Put 1 at 0 old new
+pub put-last : {at : ℕ} {old new : List ℕ} (b : ℕ) → room ≤ suc at → new ≡ slice_set old at b → Put 1 at 0 old new
 unfolding filled place_after
 put-last {at} b h e = record { bytes = b ∷ []; few = omega arith; place = sym (behind-last h); buffer = e }
 
@@ -53,14 +53,14 @@ one-or-first false at = omega arith
 
 behind-near : (at : ℕ) → place_behind at ≤ suc at
 unfolding place_behind
-behind-near at = one-or-first (ltb (suc at) 4096) at
+behind-near at = one-or-first (ltb (suc at) room) at
 
 after-near : (at : ℕ) (bs : List ℕ) → place_after at bs ≤ at + length bs
 unfolding place_after
 after-near at [] = omega arith
 after-near at (b ∷ bs) = omega (arith, after-near (place_behind at) bs, behind-near at)
 
-pub full-last : {at : ℕ} {old new : List ℕ} (b : ℕ) → 4096 ≤ suc at → new ≡ slice_set old at b → Full 1 at old new
+pub full-last : {at : ℕ} {old new : List ℕ} (b : ℕ) → room ≤ suc at → new ≡ slice_set old at b → Full 1 at old new
 unfolding put-last
 full-last b h e = record { put = put-last b h e; whole = omega (arith, h) }
 

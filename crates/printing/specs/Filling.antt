@@ -1,9 +1,13 @@
--- What the writers put into the buffer, of 4,096 bytes, and where they leave it. Assumes nothing.
+-- What the writers put into the buffer, and how they leave it. Assumes nothing.
 use Rattle.std.specs.Prelude.{ℕ, suc, ◌+◌, ◌≤◌, ◌≡◌, cond, ltb, List, [], ◌∷◌, length, slice_set}
+
+-- the buffer's length, the code's `ROOM`
+abbrev pub room : ℕ
+room = 4096
 
 -- behind the last place it is the first one's turn
 unfoldable pub place_behind : ℕ → ℕ
-place_behind at = cond (ltb (suc at) 4096) (suc at) 0
+place_behind at = cond (ltb (suc at) room) (suc at) 0
 
 -- the buffer after bytes are put into it one behind the other, the first of them at the place `at`
 unfoldable pub filled : ℕ → List ℕ → List ℕ → List ℕ
@@ -25,4 +29,4 @@ pub record Put (most at next : ℕ) (old new : List ℕ) : Type 0 where
 -- what an error leaves: the buffer as bytes left it that filled it to its end, of which nobody knows how many are written
 pub record Full (most at : ℕ) (old new : List ℕ) : Type 0 where
   pub put : Put most at 0 old new
-  pub whole : 4096 ≤ at + length put.bytes
+  pub whole : room ≤ at + length put.bytes
