@@ -8,7 +8,5 @@ pub fn clear(rows: &mut [u64], n: usize)
     requires { n ≤ length rows.old }
     ensures { rows.new ≡ replicate n 0 ++ drop n rows.old }
 {
-    for i in 0..n {
-        rows[i] = 0;
-    }
+    rows[..n].fill(0);
 }

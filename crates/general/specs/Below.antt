@@ -1,5 +1,5 @@
 -- Tests over the numbers below k: every one passes, some one passes, the first that passes, how many pass. Assumes nothing.
-use Rattle.std.specs.Prelude.{◌≡◌, refl, ◌≢◌, Bool, true, false, not, cond, ◌&&◌, ◌||◌, ℕ, zero, suc, ◌+◌, ◌≤◌, ◌<◌, eqb}
+use Rattle.std.specs.Prelude.{◌≡◌, refl, ◌≢◌, Bool, true, false, not, cond, ◌&&◌, ◌||◌, ℕ, zero, suc, ◌+◌, ◌≤◌, ◌<◌, eqb, ltb, Option, Some, None}
 use Rattle.std.proofs.Common.{sym, ◌∙◌, add-one, arith, le_antisymm, lt_of_not-le, le_of_suc-le-suc, eqb-true, eq-eqb, ne_eqb}
 use Rattle.std.proofs.Math.Bool.{and-true}
 use Rattle.std.proofs.lemmas.Bool.{eqb-false}
@@ -60,6 +60,10 @@ some-step k f = rw add-one
 unfoldable pub first : ℕ → (ℕ → Bool) → ℕ
 first zero f = zero
 first (suc k) f = cond (eqb (first k f) k) (cond (f k) k (suc k)) (first k f)
+
+-- a number below k, or none where it is k, which says that there is none
+abbrev pub found : ℕ → ℕ → Option ℕ
+found k n = cond (ltb n k) (Some n) None
 
 pub record First (k : ℕ) (f : ℕ → Bool) (r : ℕ) : Type 0 where
   pub fits : r ≤ k

@@ -2,3 +2,4 @@
 pub mod Limits
 pub mod Answers
 pub mod Snapshots
+pub mod Refusals

@@ -3,6 +3,7 @@
 
 ghost use Rattle.std.specs.Prelude.{◌≡◌};
 ghost use Rattle.paper.specs.Answers.{granted, answer, place_of};
+ghost use Rattle.paper.specs.Refusals.{answer_of, answered};
 
 // ---- limits
 pub const MAX_NODES: usize = 512;
@@ -167,6 +168,98 @@ pub fn refused(code: u32, place: u32, other: u32) -> Answer
     ensures { result ≡ answer code place other }
 {
     Answer { code, place, other }
+}
+
+// What a call refuses, and what it names with it: the place, and for two of them another number.
+#[derive(Clone, Copy, PartialEq, Eq)]
+pub enum Refusal {
+    ChartShort,
+    ChartCount,
+    ChartLength,
+    // the node
+    BadNode(u32),
+    // the lowest node of the loops
+    ParentsLoop(u32),
+    // the group
+    GroupFlags(u32),
+    // how many there are
+    ManyEvents(u32),
+    // the relation
+    BadRelation(u32),
+    Unfit,
+    // the bytes that the book takes
+    BookRoom(u32),
+    BookShort,
+    BookCount,
+    BookLength,
+    // the rule
+    BadRule(u32),
+    // the condition
+    BadCondition(u32),
+    // the lowest mark targeted by a rule on a loop
+    Loop(u32),
+    // the lower rule, and the lowest that it clashes with
+    Clash(u32, u32),
+    OrderUnfit,
+    MarkAbove,
+    NoSuchStage,
+    StageClosed,
+    // how many rules count
+    OrderRoom(u32),
+    NotDerived,
+    IndexUnfit,
+    // the bytes that the index takes
+    IndexRoom(u32),
+    // the bytes that the chart takes, and those of the list
+    MendRoom(u32, u32),
+    // how long it is
+    LongList(u32),
+}
+
+impl From<Refusal> for Answer {
+    ghost from_gives = { λ refusal given. given ≡ answer_of refusal };
+
+    fn from(refusal: Refusal) -> Answer {
+        match refusal {
+            Refusal::ChartShort => refused(CHART_SHORT, 0, 0),
+            Refusal::ChartCount => refused(CHART_COUNT, 0, 0),
+            Refusal::ChartLength => refused(CHART_LENGTH, 0, 0),
+            Refusal::BadNode(place) => refused(BAD_NODE, place, 0),
+            Refusal::ParentsLoop(place) => refused(PARENTS_LOOP, place, 0),
+            Refusal::GroupFlags(place) => refused(GROUP_FLAGS, place, 0),
+            Refusal::ManyEvents(place) => refused(MANY_EVENTS, place, 0),
+            Refusal::BadRelation(place) => refused(BAD_RELATION, place, 0),
+            Refusal::Unfit => refused(UNFIT, 0, 0),
+            Refusal::BookRoom(place) => refused(BOOK_ROOM, place, 0),
+            Refusal::BookShort => refused(BOOK_SHORT, 0, 0),
+            Refusal::BookCount => refused(BOOK_COUNT, 0, 0),
+            Refusal::BookLength => refused(BOOK_LENGTH, 0, 0),
+            Refusal::BadRule(place) => refused(BAD_RULE, place, 0),
+            Refusal::BadCondition(place) => refused(BAD_CONDITION, place, 0),
+            Refusal::Loop(place) => refused(LOOP, place, 0),
+            Refusal::Clash(place, other) => refused(CLASH, place, other),
+            Refusal::OrderUnfit => refused(ORDER_UNFIT, 0, 0),
+            Refusal::MarkAbove => refused(MARK_ABOVE, 0, 0),
+            Refusal::NoSuchStage => refused(NO_SUCH_STAGE, 0, 0),
+            Refusal::StageClosed => refused(STAGE_CLOSED, 0, 0),
+            Refusal::OrderRoom(place) => refused(ORDER_ROOM, place, 0),
+            Refusal::NotDerived => refused(NOT_DERIVED, 0, 0),
+            Refusal::IndexUnfit => refused(INDEX_UNFIT, 0, 0),
+            Refusal::IndexRoom(place) => refused(INDEX_ROOM, place, 0),
+            Refusal::MendRoom(place, other) => refused(MEND_ROOM, place, other),
+            Refusal::LongList(place) => refused(LONG_LIST, place, 0),
+        }
+    }
+}
+
+// The answer of what is granted or refused.
+pub fn answered(judged: Result<(), Refusal>) -> Answer
+    ensures { result ≡ answered judged }
+{
+    match judged {
+        Ok(()) => granted(),
+        Err(refusal) => Answer::from(refusal),
+    }
 }
 
 const LAST_PLACE: usize = 4294967295;

@@ -24,6 +24,7 @@ pub struct Set {
     pub w3: u64,
 }
 
+#[tactic(auto, unfolding(crate::specs::Number::number))]
 pub fn empty() -> Set
     ensures { number result ≡ 0 }
 {
