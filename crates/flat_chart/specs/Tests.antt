@@ -99,6 +99,16 @@ module _ (roles : List ℕ) (from : ℕ) where
   pub roles-end : (e end s : ℕ) → e ≤ end → end ≤ e → s ≡ roles_from (e - from) → s ≡ roles_from (end - from)
   roles-end e end s h l p = let z : e ≡ end = omega arith in p ∙ ap (λ (m : ℕ). roles_from (m - from)) z
 
+-- the same of a chart's five tables: what event e's sets hold, what k rows from one on add, and what the first k rows spill
+abbrev pub held_at : FlatChart → ℕ → ℕ
+held_at c e = row_held (get_or c.conditions e 0) (get_or c.responses e 0) (get_or c.milestones e 0) (get_or c.includes e 0) (get_or c.excludes e 0)
+
+abbrev pub spilled : FlatChart → ℕ → ℕ → ℕ → ℕ → ℕ
+spilled c allowed start from k = spill_rows allowed start from c.conditions c.responses c.milestones c.includes c.excludes k
+
+abbrev pub spill : FlatChart → ℕ → ℕ → ℕ
+spill c n k = spill_of n c.conditions c.responses c.milestones c.includes c.excludes k
+
 unfoldable pub fit_tables : ℕ → FlatChart → Bool
 fit_tables n c =
     eqb (spill_of n c.conditions c.responses c.milestones c.includes c.excludes max_events) 0 && eqb (roles_from c.roles n (max_events - n)) 0

@@ -1,13 +1,13 @@
 // The flat chart, the test that it is fit, and one event's own sets and roles.
 #![tactic(auto)]
 
-ghost use Rattle.std.specs.Prelude.{◌≡◌, ◌-◌, ◌<◌, ◌≤◌, get_or};
+ghost use Rattle.std.specs.Prelude.{◌≡◌, ◌-◌, ◌<◌, ◌≤◌};
 ghost use Rattle.paper.specs.Limits.{max_events};
-ghost use Rattle.wide.specs.Number.{number, rows_of};
-ghost use Rattle.flat_chart.specs.Numbers.{flat_of, row_numbers};
-ghost use Rattle.flat_chart.specs.Chart.{chart_of, row_of, empty_chart};
+ghost use Rattle.wide.specs.Number.{number};
+ghost use Rattle.flat_chart.specs.Numbers.{flat_of, lent_of, row_numbers};
+ghost use Rattle.flat_chart.specs.Chart.{row_of, empty_chart};
 ghost use Rattle.flat_chart.specs.Roles.{permits};
-ghost use Rattle.flat_chart.specs.Tests.{row_held, spill_rows, spill_of, roles_from, fit_chart};
+ghost use Rattle.flat_chart.specs.Tests.{held_at, spilled, spill, roles_from, fit_chart};
 
 use paper::{MAX_EVENTS, MAX_ROLES};
 use wide::{Set, TABLE};
@@ -37,109 +37,16 @@ pub struct Row {
     pub roles: u8,
 }
 
-// What event e's sets hold.
-fn row_held<'a>(
-    e: usize,
-    conditions: &'a [u64; TABLE],
-    responses: &'a [u64; TABLE],
-    milestones: &'a [u64; TABLE],
-    includes: &'a [u64; TABLE],
-    excludes: &'a [u64; TABLE],
-) -> Set
-    requires { e < max_events }
-    ensures { number result ≡ row_held (get_or (rows_of conditions.now) e 0) (get_or (rows_of responses.now) e 0) (get_or (rows_of milestones.now) e 0) (get_or (rows_of includes.now) e 0) (get_or (rows_of excludes.now) e 0) }
-{
-    let some = wide::join(wide::row(conditions, e), wide::row(responses, e));
-    let more = wide::join(some, wide::row(milestones, e));
-    wide::join(
-        wide::join(more, wide::row(includes, e)),
-        wide::row(excludes, e),
-    )
-}
-
-// What the rows from one to another add to a set, where each may hold what is allowed. The loop has no branch.
-fn spill_rows<'a>(
-    start: Set,
-    from: usize,
-    end: usize,
-    allowed: Set,
-    conditions: &'a [u64; TABLE],
-    responses: &'a [u64; TABLE],
-    milestones: &'a [u64; TABLE],
-    includes: &'a [u64; TABLE],
-    excludes: &'a [u64; TABLE],
-) -> Set
-    requires { (from ≤ end) × (end ≤ max_events) }
-    ensures { number result ≡ spill_rows (number allowed) (number start) from (rows_of conditions.now) (rows_of responses.now) (rows_of milestones.now) (rows_of includes.now) (rows_of excludes.now) (end - from) }
-{
-    let mut over = start;
-    let mut e = from;
-    while e < end {
-        let held = row_held(e, conditions, responses, milestones, includes, excludes);
-        over = wide::join(over, wide::less(held, allowed));
-        e += 1;
-    }
-    over
-}
-
-// Every row's spill in one set: an event's sets may hold all events, and past the count nothing.
-fn spill<'a>(
-    n: usize,
-    conditions: &'a [u64; TABLE],
-    responses: &'a [u64; TABLE],
-    milestones: &'a [u64; TABLE],
-    includes: &'a [u64; TABLE],
-    excludes: &'a [u64; TABLE],
-) -> Set
-    requires { n ≤ max_events }
-    ensures { number result ≡ spill_of n (rows_of conditions.now) (rows_of responses.now) (rows_of milestones.now) (rows_of includes.now) (rows_of excludes.now) max_events }
-{
-    let all = wide::all_below(n);
-    let none = wide::empty();
-    let over = spill_rows(
-        none, 0, n, all, conditions, responses, milestones, includes, excludes,
-    );
-    spill_rows(
-        over, n, MAX_EVENTS, none, conditions, responses, milestones, includes, excludes,
-    )
-}
-
-// The roles that the events from n on name.
-fn roles_past<'a>(n: usize, roles: &'a [u8; MAX_EVENTS]) -> u8
-    requires { n ≤ max_events }
-    ensures { result ≡ roles_from roles.now n (max_events - n) }
-{
-    let mut all: u8 = 0;
-    let mut e = n;
-    while e < MAX_EVENTS {
-        all = all | roles[e];
-        e += 1;
-    }
-    all
-}
-
-// Whether the chart of this count and these tables is fit.
-pub fn tables_fit<'a>(
-    count: u32,
-    conditions: &'a [u64; TABLE],
-    responses: &'a [u64; TABLE],
-    milestones: &'a [u64; TABLE],
-    includes: &'a [u64; TABLE],
-    excludes: &'a [u64; TABLE],
-    roles: &'a [u8; MAX_EVENTS],
-) -> bool
-    ensures { result ≡ fit_chart (chart_of count (rows_of conditions.now) (rows_of responses.now) (rows_of milestones.now) (rows_of includes.now) (rows_of excludes.now) roles.now) }
-{
-    let n = count as usize;
-    if n < 1 {
-        return false;
-    }
-    if MAX_EVENTS < n {
-        return false;
-    }
-    let over = spill(n, conditions, responses, milestones, includes, excludes);
-    let named = roles_past(n, roles);
-    wide::is_empty(over) & (named == 0)
+// A flat chart that is lent: its count, and its tables where they stand, so that no call copies them.
+#[derive(Clone, Copy)]
+pub struct LentChart<'a> {
+    pub count: u32,
+    pub conditions: &'a [u64; TABLE],
+    pub responses: &'a [u64; TABLE],
+    pub milestones: &'a [u64; TABLE],
+    pub includes: &'a [u64; TABLE],
+    pub excludes: &'a [u64; TABLE],
+    pub roles: &'a [u8; MAX_EVENTS],
 }
 
 // Whether a role may execute an event that names these; an event that names none is open to roles 0 to 7.
@@ -149,26 +56,77 @@ pub fn permits(roles: u8, role: u32) -> bool
     (role < MAX_ROLES) & ((roles == 0) | sets::member(roles as u64, role as usize))
 }
 
-// The sets and the roles of event e, out of lent tables.
-pub fn row_at<'a>(
-    e: usize,
-    conditions: &'a [u64; TABLE],
-    responses: &'a [u64; TABLE],
-    milestones: &'a [u64; TABLE],
-    includes: &'a [u64; TABLE],
-    excludes: &'a [u64; TABLE],
-    roles: &'a [u8; MAX_EVENTS],
-) -> Row
-    requires { e < max_events }
-    ensures { row_numbers result ≡ row_of (chart_of 0 (rows_of conditions.now) (rows_of responses.now) (rows_of milestones.now) (rows_of includes.now) (rows_of excludes.now) roles.now) e }
-{
-    Row {
-        conditions: wide::row(conditions, e),
-        responses: wide::row(responses, e),
-        milestones: wide::row(milestones, e),
-        includes: wide::row(includes, e),
-        excludes: wide::row(excludes, e),
-        roles: roles[e],
+impl<'a> LentChart<'a> {
+    // What event e's sets hold.
+    fn held(self, e: usize) -> Set
+        requires { e < max_events }
+        ensures { number result ≡ held_at (lent_of self.entry) e }
+    {
+        let some = wide::join(wide::row(self.conditions, e), wide::row(self.responses, e));
+        let more = wide::join(some, wide::row(self.milestones, e));
+        wide::join(
+            wide::join(more, wide::row(self.includes, e)),
+            wide::row(self.excludes, e),
+        )
+    }
+
+    // What the rows from one to another add to a set, where each may hold what is allowed. The loop has no branch.
+    fn spilled(self, start: Set, from: usize, end: usize, allowed: Set) -> Set
+        requires { (from ≤ end) × (end ≤ max_events) }
+        ensures { number result ≡ spilled (lent_of self.entry) (number allowed) (number start) from (end - from) }
+    {
+        let mut over = start;
+        for e in from..end {
+            over = wide::join(over, wide::less(self.held(e), allowed));
+        }
+        over
+    }
+
+    // Every row's spill in one set: an event's sets may hold all events, and past the count nothing.
+    fn spill(self, n: usize) -> Set
+        requires { n ≤ max_events }
+        ensures { number result ≡ spill (lent_of self.entry) n max_events }
+    {
+        let none = wide::empty();
+        let over = self.spilled(none, 0, n, wide::all_below(n));
+        self.spilled(over, n, MAX_EVENTS, none)
+    }
+
+    // The roles that the events from n on name.
+    fn roles_past(self, n: usize) -> u8
+        requires { n ≤ max_events }
+        ensures { result ≡ roles_from (lent_of self.entry).roles n (max_events - n) }
+    {
+        let mut all = 0;
+        for e in n..MAX_EVENTS {
+            all |= self.roles[e];
+        }
+        all
+    }
+
+    pub fn is_fit(self) -> bool
+        ensures { result ≡ fit_chart (lent_of self.entry) }
+    {
+        let n = self.count as usize;
+        if n < 1 || MAX_EVENTS < n {
+            return false;
+        }
+        wide::is_empty(self.spill(n)) & (self.roles_past(n) == 0)
+    }
+
+    // The sets and the roles of event e.
+    pub fn row(self, e: usize) -> Row
+        requires { e < max_events }
+        ensures { row_numbers result ≡ row_of (lent_of self.entry) e }
+    {
+        Row {
+            conditions: wide::row(self.conditions, e),
+            responses: wide::row(self.responses, e),
+            milestones: wide::row(self.milestones, e),
+            includes: wide::row(self.includes, e),
+            excludes: wide::row(self.excludes, e),
+            roles: self.roles[e],
+        }
     }
 }
 
@@ -178,26 +136,32 @@ impl FlatChart {
     {
         FlatChart {
             count: 0,
-            conditions: [0u64; TABLE],
-            responses: [0u64; TABLE],
-            milestones: [0u64; TABLE],
-            includes: [0u64; TABLE],
-            excludes: [0u64; TABLE],
-            roles: [0u8; MAX_EVENTS],
+            conditions: [0; TABLE],
+            responses: [0; TABLE],
+            milestones: [0; TABLE],
+            includes: [0; TABLE],
+            excludes: [0; TABLE],
+            roles: [0; MAX_EVENTS],
+        }
+    }
+
+    pub fn lend(&self) -> LentChart<'_>
+        ensures { lent_of result ≡ flat_of self.now }
+    {
+        LentChart {
+            count: self.count,
+            conditions: &self.conditions,
+            responses: &self.responses,
+            milestones: &self.milestones,
+            includes: &self.includes,
+            excludes: &self.excludes,
+            roles: &self.roles,
         }
     }
 
     pub fn is_fit(self) -> bool
         ensures { result ≡ fit_chart (flat_of self) }
     {
-        tables_fit(
-            self.count,
-            &self.conditions,
-            &self.responses,
-            &self.milestones,
-            &self.includes,
-            &self.excludes,
-            &self.roles,
-        )
+        self.lend().is_fit()
     }
 }

@@ -3,15 +3,14 @@
 
 pub mod steps;
 
-ghost use Rattle.std.specs.Prelude.{◌≡◌};
-ghost use Rattle.wide.specs.Number.{rows_of};
-ghost use Rattle.flat_chart.specs.Chart.{chart_of};
+ghost use Rattle.std.specs.Prelude.{◌≡◌, eqb};
+ghost use Rattle.sets.specs.Set.{inter};
+ghost use Rattle.flat_chart.specs.Numbers.{lent_of};
 ghost use Rattle.graph.specs.Numbers.{marks_of};
 ghost use Rattle.graph.specs.Fitness.{empty_marking, fit_marking, fit};
 
-use flat_chart::tables_fit;
-use paper::MAX_EVENTS;
-use wide::{Set, TABLE};
+use flat_chart::LentChart;
+use wide::Set;
 
 // Ex, Re and In.
 #[repr(C)]
@@ -23,6 +22,7 @@ pub struct Marking {
 }
 
 impl Marking {
+    // No event in any set: what a refused reading gives.
     pub fn empty() -> Marking
         ensures { marks_of result ≡ empty_marking }
     {
@@ -34,6 +34,7 @@ impl Marking {
     }
 
     // Whether no bit stands outside a count of events.
+    #[tactic(auto, unfolding(crate::specs::Fitness::fit_marking))]
     pub fn is_fit(self, count: u32) -> bool
         ensures { result ≡ fit_marking count (marks_of self) }
     {
@@ -44,21 +45,17 @@ impl Marking {
     }
 
     // Whether the chart is fit, and the marking for it.
-    pub fn fits<'a>(
-        self,
-        count: u32,
-        conditions: &'a [u64; TABLE],
-        responses: &'a [u64; TABLE],
-        milestones: &'a [u64; TABLE],
-        includes: &'a [u64; TABLE],
-        excludes: &'a [u64; TABLE],
-        roles: &'a [u8; MAX_EVENTS],
-    ) -> bool
-        ensures { result ≡ fit (chart_of count (rows_of conditions.now) (rows_of responses.now) (rows_of milestones.now) (rows_of includes.now) (rows_of excludes.now) roles.now) (marks_of self) }
+    #[tactic(auto, unfolding(crate::specs::Fitness::fit))]
+    pub fn fits(self, chart: LentChart<'_>) -> bool
+        ensures { result ≡ fit (lent_of chart.entry) (marks_of self) }
     {
-        self.is_fit(count)
-            & tables_fit(
-                count, conditions, responses, milestones, includes, excludes, roles,
-            )
+        self.is_fit(chart.count) && chart.is_fit()
+    }
+
+    // "A marking is finished if no event is both in In and in Re."
+    pub fn is_finished(self) -> bool
+        ensures { result ≡ eqb (inter (marks_of self).included (marks_of self).pending) 0 }
+    {
+        wide::is_empty(wide::meet(self.included, self.pending))
     }
 }

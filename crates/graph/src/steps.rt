@@ -1,17 +1,17 @@
 // Steps of a flat chart: the open rule, the open test, executing, counting what is open, the finished test.
-ghost use Rattle.std.specs.Prelude.{◌≡◌, ◌<◌, ◌≤◌};
+ghost use Rattle.std.specs.Prelude.{◌≡◌, true, ◌<◌, ◌≤◌};
 ghost use Rattle.paper.specs.Limits.{max_events};
-ghost use Rattle.wide.specs.Number.{number, rows_of};
-ghost use Rattle.flat_chart.specs.Chart.{chart_of};
-ghost use Rattle.flat_chart.specs.Numbers.{flat_of, row_numbers};
+ghost use Rattle.wide.specs.Number.{number};
+ghost use Rattle.flat_chart.specs.Numbers.{flat_of, lent_of, row_numbers};
+ghost use Rattle.graph.specs.Fitness.{fit};
 ghost use Rattle.graph.specs.Numbers.{marks_of, blocking_numbers, test_of, step_of};
 ghost use Rattle.graph.specs.Steps.{unmet_of, awaited_of, blocking_of, shut, blocked, testing, opening};
-ghost use Rattle.graph.specs.Steps.{free_with, after_with, refusing, handed_on, stepping_by, open_among, executing, counting, finishing};
+ghost use Rattle.graph.specs.Steps.{free_with, after_with, refusing, handed_on, stepping_by, open_set, executing, counting, finishing};
 
 use crate::Marking;
-use flat_chart::{FlatChart, Row, permits, row_at};
+use flat_chart::{FlatChart, LentChart, Row, permits};
 use paper::{Answer, MAX_EVENTS};
-use wide::{Set, TABLE};
+use wide::Set;
 
 // What holds an event back: its included conditions that are not executed, and its included milestones that are pending.
 #[derive(Clone, Copy)]
@@ -48,6 +48,7 @@ pub struct OpenCount {
     pub lowest: u32,
 }
 
+// Whether a marking is finished, or why that is not told.
 #[repr(C)]
 #[derive(Clone, Copy)]
 pub struct Finished {
@@ -68,12 +69,10 @@ fn shut(code: u32) -> OpenTest
 fn blocked(code: u32, place: u32, by: Blocking) -> OpenTest
     ensures { test_of result ≡ blocked code place (blocking_numbers by) }
 {
-    let conditions = by.conditions;
-    let milestones = by.milestones;
     OpenTest {
         answer: paper::refused(code, place, 0),
-        conditions,
-        milestones,
+        conditions: by.conditions,
+        milestones: by.milestones,
     }
 }
 
@@ -81,19 +80,17 @@ fn blocked(code: u32, place: u32, by: Blocking) -> OpenTest
 fn handed_on(test: OpenTest, marking: Marking) -> Step
     ensures { step_of result ≡ handed_on (test_of test) (marks_of marking) }
 {
-    let answer = test.answer;
-    let conditions = test.conditions;
-    let milestones = test.milestones;
     Step {
-        answer,
+        answer: test.answer,
         marking,
-        conditions,
-        milestones,
+        conditions: test.conditions,
+        milestones: test.milestones,
     }
 }
 
 impl Marking {
     // Which of an event's conditions are included and not executed.
+    #[tactic(auto, unfolding(crate::specs::Steps::unmet_of))]
     fn unmet(self, conditions: Set) -> Set
         ensures { number result ≡ unmet_of (marks_of self) (number conditions) }
     {
@@ -101,6 +98,7 @@ impl Marking {
     }
 
     // Which of an event's milestones are included and pending.
+    #[tactic(auto, unfolding(crate::specs::Steps::awaited_of))]
     fn awaited(self, milestones: Set) -> Set
         ensures { number result ≡ awaited_of (marks_of self) (number milestones) }
     {
@@ -118,6 +116,7 @@ impl Marking {
     }
 
     // Whether nothing holds an event back: it is open if it is included too.
+    #[tactic(auto, unfolding(crate::specs::Steps::free_with))]
     pub fn is_free(self, conditions: Set, milestones: Set) -> bool
         ensures { result ≡ free_with (marks_of self) (number conditions) (number milestones) }
     {
@@ -126,6 +125,7 @@ impl Marking {
     }
 
     // The marking after e, which excludes before it includes.
+    #[tactic(auto, unfolding(crate::specs::Steps::after_with))]
     pub fn after(self, e: usize, responses: Set, includes: Set, excludes: Set) -> Marking
         requires { e < max_events }
         ensures { marks_of result ≡ after_with (marks_of self) e (number responses) (number includes) (number excludes) }
@@ -150,6 +150,7 @@ impl Marking {
     }
 
     // The open test of event e, of a chart and a marking that are known to be fit: 11, 12, 13, or open.
+    #[tactic(auto, unfolding(crate::specs::Steps::testing))]
     pub fn test(self, e: usize, row: Row) -> OpenTest
         requires { e < max_events }
         ensures { test_of result ≡ testing (marks_of self) e (row_numbers row) }
@@ -171,52 +172,30 @@ impl Marking {
         }
     }
 
-    // The open test over lent tables: what `open_test` does, with no copy of the chart.
-    pub fn open_test_in<'a>(
-        self,
-        count: u32,
-        conditions: &'a [u64; TABLE],
-        responses: &'a [u64; TABLE],
-        milestones: &'a [u64; TABLE],
-        includes: &'a [u64; TABLE],
-        excludes: &'a [u64; TABLE],
-        roles: &'a [u8; MAX_EVENTS],
-        event: u32,
-    ) -> OpenTest
-        ensures { test_of result ≡ opening (chart_of count (rows_of conditions.now) (rows_of responses.now) (rows_of milestones.now) (rows_of includes.now) (rows_of excludes.now) roles.now) (marks_of self) event }
+    // The open test over a lent chart: what `open_test` does, with no copy of it.
+    #[tactic(auto, using(crate::specs::Steps::fit_few), unfolding(crate::specs::Steps::opening))]
+    pub fn open_test_in(self, chart: LentChart<'_>, event: u32) -> OpenTest
+        ensures { test_of result ≡ opening (lent_of chart.entry) (marks_of self) event }
     {
-        if !self.fits(
-            count, conditions, responses, milestones, includes, excludes, roles,
-        ) {
+        if !self.fits(chart) {
             return shut(paper::UNFIT);
         }
-        if count <= event {
+        if chart.count <= event {
             return shut(paper::NO_SUCH_EVENT);
         }
         let e = event as usize;
-        let row = row_at(
-            e, conditions, responses, milestones, includes, excludes, roles,
-        );
-        self.test(e, row)
+        self.test(e, chart.row(e))
     }
 
     // Whether an event is open, and if not, all that holds it back.
     pub fn open_test(self, chart: FlatChart, event: u32) -> OpenTest
         ensures { test_of result ≡ opening (flat_of chart) (marks_of self) event }
     {
-        self.open_test_in(
-            chart.count,
-            &chart.conditions,
-            &chart.responses,
-            &chart.milestones,
-            &chart.includes,
-            &chart.excludes,
-            &chart.roles,
-            event,
-        )
+        self.open_test_in(chart.lend(), event)
     }
 
     // A step of event e by a role, of a chart and a marking that are known to be fit: 32, 11, 12, 13, or the next marking.
+    #[tactic(auto, unfolding(crate::specs::Steps::stepping_by, crate::specs::Steps::stepping))]
     pub fn step(self, e: usize, row: Row, role: u32) -> Step
         requires { e < max_events }
         ensures { step_of result ≡ stepping_by (marks_of self) e (row_numbers row) role }
@@ -234,95 +213,67 @@ impl Marking {
         )
     }
 
-    // Executing over lent tables: what `execute` does, with no copy of the chart.
-    pub fn execute_in<'a>(
-        self,
-        count: u32,
-        conditions: &'a [u64; TABLE],
-        responses: &'a [u64; TABLE],
-        milestones: &'a [u64; TABLE],
-        includes: &'a [u64; TABLE],
-        excludes: &'a [u64; TABLE],
-        roles: &'a [u8; MAX_EVENTS],
-        event: u32,
-        role: u32,
-    ) -> Step
-        ensures { step_of result ≡ executing (chart_of count (rows_of conditions.now) (rows_of responses.now) (rows_of milestones.now) (rows_of includes.now) (rows_of excludes.now) roles.now) (marks_of self) event role }
+    // A step of a chart and a marking that are known to be fit: 10 too, and else what `step` gives.
+    #[tactic(auto, using(crate::specs::Steps::fit_few), unfolding(crate::specs::Steps::executing))]
+    pub fn step_in(self, chart: LentChart<'_>, event: u32, role: u32) -> Step
+        requires { fit (lent_of chart) (marks_of self) ≡ true }
+        ensures { step_of result ≡ executing (lent_of chart.entry) (marks_of self) event role }
     {
-        if !self.fits(
-            count, conditions, responses, milestones, includes, excludes, roles,
-        ) {
-            return self.refused(paper::UNFIT);
-        }
-        if count <= event {
+        if chart.count <= event {
             return self.refused(paper::NO_SUCH_EVENT);
         }
         let e = event as usize;
-        let row = row_at(
-            e, conditions, responses, milestones, includes, excludes, roles,
-        );
-        self.step(e, row, role)
+        self.step(e, chart.row(e), role)
     }
 
+    // Executing over a lent chart: what `execute` does, with no copy of it.
+    #[tactic(auto, unfolding(crate::specs::Steps::executing))]
+    pub fn execute_in(self, chart: LentChart<'_>, event: u32, role: u32) -> Step
+        ensures { step_of result ≡ executing (lent_of chart.entry) (marks_of self) event role }
+    {
+        if !self.fits(chart) {
+            return self.refused(paper::UNFIT);
+        }
+        self.step_in(chart, event, role)
+    }
+
+    // Executes an event by a role: the next marking, or the old one beside the refusal and all that holds the event back.
     pub fn execute(self, chart: FlatChart, event: u32, role: u32) -> Step
         ensures { step_of result ≡ executing (flat_of chart) (marks_of self) event role }
     {
-        self.execute_in(
-            chart.count,
-            &chart.conditions,
-            &chart.responses,
-            &chart.milestones,
-            &chart.includes,
-            &chart.excludes,
-            &chart.roles,
-            event,
-            role,
-        )
+        self.execute_in(chart.lend(), event, role)
     }
 
-    // The open events among the first n.
-    pub fn open_among<'a>(
-        self,
-        n: usize,
-        conditions: &'a [u64; TABLE],
-        milestones: &'a [u64; TABLE],
-    ) -> Set
-        requires { n ≤ max_events }
-        ensures { number result ≡ open_among (marks_of self) (rows_of conditions.now) (rows_of milestones.now) n }
+    // The open events of a chart whose count is in range.
+    #[tactic(auto, using(crate::specs::Steps::free_none, crate::specs::Steps::free_more))]
+    pub fn open_among(self, chart: LentChart<'_>) -> Set
+        requires { chart.count ≤ max_events }
+        ensures { number result ≡ open_set (lent_of chart.entry) (marks_of self) }
     {
         let mut all = wide::empty();
-        let mut e = 0;
-        while e < n {
-            let free = self.is_free(wide::row(conditions, e), wide::row(milestones, e));
+        for e in 0..chart.count as usize {
+            let free = self.is_free(
+                wide::row(chart.conditions, e),
+                wide::row(chart.milestones, e),
+            );
             all = wide::put_if(all, e, free);
-            e += 1;
         }
         wide::meet(all, self.included)
     }
 
-    // Counting over lent tables.
-    pub fn count_in<'a>(
-        self,
-        count: u32,
-        conditions: &'a [u64; TABLE],
-        responses: &'a [u64; TABLE],
-        milestones: &'a [u64; TABLE],
-        includes: &'a [u64; TABLE],
-        excludes: &'a [u64; TABLE],
-        roles: &'a [u8; MAX_EVENTS],
-    ) -> OpenCount
-        ensures { result ≡ counting (chart_of count (rows_of conditions.now) (rows_of responses.now) (rows_of milestones.now) (rows_of includes.now) (rows_of excludes.now) roles.now) (marks_of self) }
+    // Counting over a lent chart: what `count_open` does, with no copy of it.
+    #[tactic(auto, using(crate::specs::Steps::fit_few), unfolding(crate::specs::Steps::counting))]
+    pub fn count_in(self, chart: LentChart<'_>) -> OpenCount
+        ensures { result ≡ counting (lent_of chart.entry) (marks_of self) }
     {
-        if !self.fits(
-            count, conditions, responses, milestones, includes, excludes, roles,
-        ) {
+        if !self.fits(chart) {
             return OpenCount {
                 answer: paper::refused(paper::UNFIT, 0, 0),
                 count: 0,
                 lowest: MAX_EVENTS as u32,
             };
         }
-        let open = self.open_among(count as usize, conditions, milestones);
+        let open = self.open_among(chart);
         OpenCount {
             answer: paper::granted(),
             count: wide::count(open),
@@ -330,36 +281,19 @@ impl Marking {
         }
     }
 
+    // How many events are open, and the lowest of them.
     pub fn count_open(self, chart: FlatChart) -> OpenCount
         ensures { result ≡ counting (flat_of chart) (marks_of self) }
     {
-        self.count_in(
-            chart.count,
-            &chart.conditions,
-            &chart.responses,
-            &chart.milestones,
-            &chart.includes,
-            &chart.excludes,
-            &chart.roles,
-        )
+        self.count_in(chart.lend())
     }
 
-    // The finished test over lent tables: whether no event is both included and pending.
-    pub fn finished_in<'a>(
-        self,
-        count: u32,
-        conditions: &'a [u64; TABLE],
-        responses: &'a [u64; TABLE],
-        milestones: &'a [u64; TABLE],
-        includes: &'a [u64; TABLE],
-        excludes: &'a [u64; TABLE],
-        roles: &'a [u8; MAX_EVENTS],
-    ) -> Finished
-        ensures { result ≡ finishing (chart_of count (rows_of conditions.now) (rows_of responses.now) (rows_of milestones.now) (rows_of includes.now) (rows_of excludes.now) roles.now) (marks_of self) }
+    // The finished test over a lent chart: what `finished` does, with no copy of it.
+    #[tactic(auto, unfolding(crate::specs::Steps::finishing))]
+    pub fn finished_in(self, chart: LentChart<'_>) -> Finished
+        ensures { result ≡ finishing (lent_of chart.entry) (marks_of self) }
     {
-        if !self.fits(
-            count, conditions, responses, milestones, includes, excludes, roles,
-        ) {
+        if !self.fits(chart) {
             return Finished {
                 answer: paper::refused(paper::UNFIT, 0, 0),
                 yes: false,
@@ -367,21 +301,14 @@ impl Marking {
         }
         Finished {
             answer: paper::granted(),
-            yes: wide::is_empty(wide::meet(self.included, self.pending)),
+            yes: self.is_finished(),
         }
     }
 
+    // Whether no event is both included and pending.
     pub fn finished(self, chart: FlatChart) -> Finished
         ensures { result ≡ finishing (flat_of chart) (marks_of self) }
     {
-        self.finished_in(
-            chart.count,
-            &chart.conditions,
-            &chart.responses,
-            &chart.milestones,
-            &chart.includes,
-            &chart.excludes,
-            &chart.roles,
-        )
+        self.finished_in(chart.lend())
     }
 }

@@ -1,24 +1,21 @@
 // Request (vii): how far a record of steps is allowed, and whether it is allowed without one of them.
 #![tactic(auto)]
 
-ghost use Rattle.std.specs.Prelude.{◌≡◌, true, ◌≤◌, ◌<◌, ◌*◌, ◌/◌, length, get_or, eqb};
+ghost use Rattle.std.specs.Prelude.{◌≡◌, true, ◌≤◌, ◌<◌, ◌*◌, ◌/◌, length, eqb};
 ghost use Rattle.paper.specs.Limits.{max_events};
-ghost use Rattle.sets.specs.Set.{inter};
-ghost use Rattle.wide.specs.Number.{number, rows_of};
-ghost use Rattle.flat_chart.specs.Chart.{chart_of};
-ghost use Rattle.flat_chart.specs.Numbers.{flat_of};
+ghost use Rattle.flat_chart.specs.Numbers.{flat_of, lent_of};
 ghost use Rattle.graph.specs.Fitness.{fit};
 ghost use Rattle.graph.specs.Numbers.{marks_of, step_of};
-ghost use Rattle.graph.specs.Steps.{executing, after_with};
+ghost use Rattle.graph.specs.Steps.{executing, after};
 ghost use Rattle.replay.specs.Numbers.{replayed_of, struck_of, walked_of};
 ghost use Rattle.replay.specs.Recorded.{record_of};
 ghost use Rattle.replay.specs.Replaying.{walking, walking_without, replaying, not_struck, stopped_by, striking};
 
-use flat_chart::{FlatChart, permits, row_at};
+use flat_chart::{FlatChart, LentChart, permits};
 use graph::Marking;
 use graph::steps::Step;
-use paper::{Answer, MAX_EVENTS};
-use wide::{Set, TABLE};
+use paper::Answer;
+use wide::Set;
 
 // What a replay gives: how many steps of the record are allowed, the code of the next one, 0 where there is none, the marking there, and all that
 // blocks that step.
@@ -51,120 +48,52 @@ struct Walked {
     stop: Step,
 }
 
-// A step of a chart and a marking that are known to be fit.
-fn step_in<'a>(
-    marking: Marking,
-    count: u32,
-    conditions: &'a [u64; TABLE],
-    responses: &'a [u64; TABLE],
-    milestones: &'a [u64; TABLE],
-    includes: &'a [u64; TABLE],
-    excludes: &'a [u64; TABLE],
-    roles: &'a [u8; MAX_EVENTS],
-    event: u32,
-    role: u32,
-) -> Step
-    requires { fit (chart_of count (rows_of conditions.now) (rows_of responses.now) (rows_of milestones.now) (rows_of includes.now) (rows_of excludes.now) roles.now) (marks_of marking) ≡ true }
-    ensures { step_of result ≡ executing (chart_of count (rows_of conditions.now) (rows_of responses.now) (rows_of milestones.now) (rows_of includes.now) (rows_of excludes.now) roles.now) (marks_of marking) event role }
-{
-    if count <= event {
-        return Step {
-            answer: paper::refused(paper::NO_SUCH_EVENT, 0, 0),
-            marking,
-            conditions: wide::empty(),
-            milestones: wide::empty(),
-        };
-    }
-    let e = event as usize;
-    let row = row_at(
-        e, conditions, responses, milestones, includes, excludes, roles,
-    );
-    marking.step(e, row, role)
-}
-
 // Whether a step is allowed, of a chart and a marking that are known to be fit: what a whole step gives is large, and most steps of a record are allowed.
-fn is_allowed<'a>(
-    marking: Marking,
-    count: u32,
-    conditions: &'a [u64; TABLE],
-    responses: &'a [u64; TABLE],
-    milestones: &'a [u64; TABLE],
-    includes: &'a [u64; TABLE],
-    excludes: &'a [u64; TABLE],
-    roles: &'a [u8; MAX_EVENTS],
-    event: u32,
-    role: u32,
-) -> bool
-    requires { fit (chart_of count (rows_of conditions.now) (rows_of responses.now) (rows_of milestones.now) (rows_of includes.now) (rows_of excludes.now) roles.now) (marks_of marking) ≡ true }
-    ensures { result ≡ eqb (executing (chart_of count (rows_of conditions.now) (rows_of responses.now) (rows_of milestones.now) (rows_of includes.now) (rows_of excludes.now) roles.now) (marks_of marking) event role).answer.code 0 }
+#[tactic(auto, using(graph::specs::Steps::fit_few), unfolding(graph::specs::Steps::executing, graph::specs::Steps::stepping_by, graph::specs::Steps::stepping, graph::specs::Steps::testing, graph::specs::Steps::free_with))]
+fn is_allowed(marking: Marking, chart: LentChart<'_>, event: u32, role: u32) -> bool
+    requires { fit (lent_of chart) (marks_of marking) ≡ true }
+    ensures { result ≡ eqb (executing (lent_of chart.entry) (marks_of marking) event role).answer.code 0 }
 {
-    if event >= count {
-        return false;
-    }
     let e = event as usize;
-    if !permits(roles[e], role) {
-        return false;
-    }
-    if !wide::member(marking.included, e) {
-        return false;
-    }
-    marking.is_free(wide::row(conditions, e), wide::row(milestones, e))
+    event < chart.count
+        && permits(chart.roles[e], role)
+        && wide::member(marking.included, e)
+        && marking.is_free(
+            wide::row(chart.conditions, e),
+            wide::row(chart.milestones, e),
+        )
 }
 
 // The marking behind an allowed step.
-fn moved<'a>(
-    marking: Marking,
-    responses: &'a [u64; TABLE],
-    includes: &'a [u64; TABLE],
-    excludes: &'a [u64; TABLE],
-    event: u32,
-) -> Marking
+fn moved(marking: Marking, chart: LentChart<'_>, event: u32) -> Marking
     requires { event < max_events }
-    ensures { marks_of result ≡ after_with (marks_of marking) event (get_or (rows_of responses.now) event 0) (get_or (rows_of includes.now) event 0) (get_or (rows_of excludes.now) event 0) }
+    ensures { marks_of result ≡ after (lent_of chart.entry) (marks_of marking) event }
 {
     let e = event as usize;
     marking.after(
         e,
-        wide::row(responses, e),
-        wide::row(includes, e),
-        wide::row(excludes, e),
+        wide::row(chart.responses, e),
+        wide::row(chart.includes, e),
+        wide::row(chart.excludes, e),
     )
 }
 
 // The steps from one position to another, each from the marking that the ones before it gave, up to the first that is not allowed.
-fn walk<'a>(
-    marking: Marking,
-    count: u32,
-    conditions: &'a [u64; TABLE],
-    responses: &'a [u64; TABLE],
-    milestones: &'a [u64; TABLE],
-    includes: &'a [u64; TABLE],
-    excludes: &'a [u64; TABLE],
-    roles: &'a [u8; MAX_EVENTS],
-    recorded: &'a [u32],
-    from: usize,
-    end: usize,
-) -> Walked
-    requires { (fit (chart_of count (rows_of conditions.now) (rows_of responses.now) (rows_of milestones.now) (rows_of includes.now) (rows_of excludes.now) roles.now) (marks_of marking) ≡ true) × (from ≤ end) × (end * 2 ≤ length recorded.now) }
-    ensures { walked_of result ≡ walking (chart_of count (rows_of conditions.now) (rows_of responses.now) (rows_of milestones.now) (rows_of includes.now) (rows_of excludes.now) roles.now) (marks_of marking) (record_of recorded.now) from end }
+fn walk(marking: Marking, chart: LentChart<'_>, recorded: &[u32], from: usize, end: usize) -> Walked
+    requires { (fit (lent_of chart) (marks_of marking) ≡ true) × (from ≤ end) × (end * 2 ≤ length recorded.now) }
+    ensures { walked_of result ≡ walking (lent_of chart.entry) (marks_of marking) (record_of recorded.now) from end }
 {
     let mut reached = marking;
-    let mut at = from;
-    while at < end {
+    for at in from..end {
         let event = recorded[at * 2];
         let role = recorded[at * 2 + 1];
-        if !is_allowed(
-            reached, count, conditions, responses, milestones, includes, excludes, roles, event,
-            role,
-        ) {
-            let step = step_in(
-                reached, count, conditions, responses, milestones, includes, excludes, roles,
-                event, role,
-            );
-            return Walked { at, stop: step };
+        if !is_allowed(reached, chart, event, role) {
+            return Walked {
+                at,
+                stop: reached.step_in(chart, event, role),
+            };
         }
-        reached = moved(reached, responses, includes, excludes, event);
-        at += 1;
+        reached = moved(reached, chart, event);
     }
     Walked {
         at: end,
@@ -177,30 +106,12 @@ fn walk<'a>(
     }
 }
 
-// "A marking is finished if no event is both in In and in Re."
-fn is_finished(marking: Marking) -> bool
-    ensures { result ≡ eqb (inter (number marking.included) (number marking.pending)) 0 }
+// Replay over a lent chart: what `replay` does, with no copy of it.
+#[tactic(auto, using(crate::proofs::Calls::walk_whole, crate::proofs::Calls::told_finished), unfolding(crate::specs::Replaying::replaying))]
+pub fn replay_in(chart: LentChart<'_>, marking: Marking, recorded: &[u32]) -> Replayed
+    ensures { replayed_of result ≡ replaying (lent_of chart.entry) (marks_of marking) recorded.now }
 {
-    wide::is_empty(wide::meet(marking.included, marking.pending))
-}
-
-// Replay over lent tables: what `replay` does, with no copy of the chart.
-pub fn replay_in<'a>(
-    count: u32,
-    conditions: &'a [u64; TABLE],
-    responses: &'a [u64; TABLE],
-    milestones: &'a [u64; TABLE],
-    includes: &'a [u64; TABLE],
-    excludes: &'a [u64; TABLE],
-    roles: &'a [u8; MAX_EVENTS],
-    marking: Marking,
-    recorded: &'a [u32],
-) -> Replayed
-    ensures { replayed_of result ≡ replaying (chart_of count (rows_of conditions.now) (rows_of responses.now) (rows_of milestones.now) (rows_of includes.now) (rows_of excludes.now) roles.now) (marks_of marking) recorded.now }
-{
-    if !marking.fits(
-        count, conditions, responses, milestones, includes, excludes, roles,
-    ) {
+    if !marking.fits(chart) {
         return Replayed {
             answer: paper::refused(paper::UNFIT, 0, 0),
             code: 0,
@@ -211,73 +122,33 @@ pub fn replay_in<'a>(
             milestones: wide::empty(),
         };
     }
-    let walked = walk(
-        marking,
-        count,
-        conditions,
-        responses,
-        milestones,
-        includes,
-        excludes,
-        roles,
-        recorded,
-        0,
-        recorded.len() / 2,
-    );
-    let stop = walked.stop;
-    let there = stop.marking;
-    let unexecuted = stop.conditions;
-    let awaited = stop.milestones;
+    let walked = walk(marking, chart, recorded, 0, recorded.len() / 2);
     Replayed {
         answer: paper::granted(),
-        code: stop.answer.code,
+        code: walked.stop.answer.code,
         steps: walked.at as u64,
-        marking: there,
-        finished: is_finished(there),
-        conditions: unexecuted,
-        milestones: awaited,
+        marking: walked.stop.marking,
+        finished: walked.stop.marking.is_finished(),
+        conditions: walked.stop.conditions,
+        milestones: walked.stop.milestones,
     }
 }
 
 // The walk over the whole record without the step at one position.
-fn walk_without<'a>(
-    marking: Marking,
-    count: u32,
-    conditions: &'a [u64; TABLE],
-    responses: &'a [u64; TABLE],
-    milestones: &'a [u64; TABLE],
-    includes: &'a [u64; TABLE],
-    excludes: &'a [u64; TABLE],
-    roles: &'a [u8; MAX_EVENTS],
-    recorded: &'a [u32],
-    struck: usize,
-    steps: usize,
-) -> Walked
-    requires { (fit (chart_of count (rows_of conditions.now) (rows_of responses.now) (rows_of milestones.now) (rows_of includes.now) (rows_of excludes.now) roles.now) (marks_of marking) ≡ true) × (struck < steps) × (steps ≡ length recorded.now / 2) }
-    ensures { walked_of result ≡ walking_without (chart_of count (rows_of conditions.now) (rows_of responses.now) (rows_of milestones.now) (rows_of includes.now) (rows_of excludes.now) roles.now) (marks_of marking) (record_of recorded.now) struck }
+#[tactic(auto, using(crate::proofs::Calls::without_stopped, crate::proofs::Calls::without_went))]
+fn walk_without(marking: Marking, chart: LentChart<'_>, recorded: &[u32], struck: usize) -> Walked
+    requires { (fit (lent_of chart) (marks_of marking) ≡ true) × (struck < length recorded.now / 2) }
+    ensures { walked_of result ≡ walking_without (lent_of chart.entry) (marks_of marking) (record_of recorded.now) struck }
 {
-    let before = walk(
-        marking, count, conditions, responses, milestones, includes, excludes, roles, recorded, 0,
-        struck,
-    );
+    let before = walk(marking, chart, recorded, 0, struck);
     if before.stop.answer.code != 0 {
         return before;
     }
-    walk(
-        before.stop.marking,
-        count,
-        conditions,
-        responses,
-        milestones,
-        includes,
-        excludes,
-        roles,
-        recorded,
-        struck + 1,
-        steps,
-    )
+    let there = before.stop.marking;
+    walk(there, chart, recorded, struck + 1, recorded.len() / 2)
 }
 
+// A refusal of the whole call: the start marking comes back, and nothing blocks.
 fn not_struck(marking: Marking, code: u32, place: u32) -> Struck
     ensures { struck_of result ≡ not_struck code place (marks_of marking) }
 {
@@ -293,87 +164,49 @@ fn not_struck(marking: Marking, code: u32, place: u32) -> Struck
 fn stopped_by(marking: Marking, stop: Step, place: u32) -> Struck
     ensures { struck_of result ≡ stopped_by (step_of stop) place (marks_of marking) }
 {
-    let conditions = stop.conditions;
-    let milestones = stop.milestones;
     Struck {
         answer: paper::refused(stop.answer.code, place, 0),
         marking,
-        conditions,
-        milestones,
+        conditions: stop.conditions,
+        milestones: stop.milestones,
     }
 }
 
-// Strike over lent tables: what `strike` does, with no copy of the chart.
-pub fn strike_in<'a>(
-    count: u32,
-    conditions: &'a [u64; TABLE],
-    responses: &'a [u64; TABLE],
-    milestones: &'a [u64; TABLE],
-    includes: &'a [u64; TABLE],
-    excludes: &'a [u64; TABLE],
-    roles: &'a [u8; MAX_EVENTS],
-    marking: Marking,
-    recorded: &'a [u32],
-    position: u32,
-) -> Struck
-    ensures { struck_of result ≡ striking (chart_of count (rows_of conditions.now) (rows_of responses.now) (rows_of milestones.now) (rows_of includes.now) (rows_of excludes.now) roles.now) (marks_of marking) recorded.now position }
+// Strike over a lent chart: what `strike` does, with no copy of it.
+#[tactic(auto, using(crate::proofs::Calls::strike_walked))]
+pub fn strike_in(chart: LentChart<'_>, marking: Marking, recorded: &[u32], position: u32) -> Struck
+    ensures { struck_of result ≡ striking (lent_of chart.entry) (marks_of marking) recorded.now position }
 {
-    if !marking.fits(
-        count, conditions, responses, milestones, includes, excludes, roles,
-    ) {
+    if !marking.fits(chart) {
         return not_struck(marking, paper::UNFIT, 0);
     }
-    let steps = recorded.len() / 2;
     let left_out = position as usize;
-    if steps <= left_out {
+    if recorded.len() / 2 <= left_out {
         return not_struck(marking, paper::NO_SUCH_POSITION, 0);
     }
-    let walked = walk_without(
-        marking, count, conditions, responses, milestones, includes, excludes, roles, recorded,
-        left_out, steps,
-    );
+    let walked = walk_without(marking, chart, recorded, left_out);
     let stop = walked.stop;
-    let shortened = stop.marking;
     if stop.answer.code != 0 {
         return stopped_by(marking, stop, paper::place_of(walked.at));
     }
     Struck {
         answer: paper::granted(),
-        marking: shortened,
+        marking: stop.marking,
         conditions: wide::empty(),
         milestones: wide::empty(),
     }
 }
 
+// How far a record of steps is allowed, and the marking there.
 pub fn replay(chart: FlatChart, marking: Marking, recorded: &[u32]) -> Replayed
     ensures { replayed_of result ≡ replaying (flat_of chart) (marks_of marking) recorded.now }
 {
-    replay_in(
-        chart.count,
-        &chart.conditions,
-        &chart.responses,
-        &chart.milestones,
-        &chart.includes,
-        &chart.excludes,
-        &chart.roles,
-        marking,
-        recorded,
-    )
+    replay_in(chart.lend(), marking, recorded)
 }
 
+// Whether a record of steps is allowed without the one at a position, and then its marking.
 pub fn strike(chart: FlatChart, marking: Marking, recorded: &[u32], position: u32) -> Struck
     ensures { struck_of result ≡ striking (flat_of chart) (marks_of marking) recorded.now position }
 {
-    strike_in(
-        chart.count,
-        &chart.conditions,
-        &chart.responses,
-        &chart.milestones,
-        &chart.includes,
-        &chart.excludes,
-        &chart.roles,
-        marking,
-        recorded,
-        position,
-    )
+    strike_in(chart.lend(), marking, recorded, position)
 }
