@@ -1,31 +1,38 @@
 -- The law for each return of the reader: the answer at hand is what the definition of reading gives, and so are the tables that are filled with it. Assumes nothing.
 use Prim.Native.Nat.{ℕ, ◌≤◌, ◌<◌}
 use mathlib.Core.Path.{◌≡◌, refl, sym, ap, ◌∙◌}
-use mathlib.Core.Bool.{Bool, true, false, ◌||◌}
+use mathlib.Core.Bool.{Bool, true, false}
 use mathlib.Core.List.{List}
 use native.Mathlib.Omega.{arith}
-use lib.ListN.{length, replicate}
-use lib.Dec.{eqb, ltb}
-use borrow.Author.Tests.{lt-ltb, le-ltb, eqb-false, eqb-true, not-false, ltb-false}
-use Rattle.paper.specs.Limits.{max_nodes, max_relations, max_events, chart_header, chart_short, chart_count, chart_length, bad_node, parents_loop, group_flags, many_events, bad_relation}
-use Rattle.paper.specs.Answers.{answer, granted, refusal}
+use lib.ListN.{length}
+use lib.Dec.{ltb}
+use borrow.Author.Tests.{lt-ltb, le-ltb}
+use Rattle.paper.specs.Limits.{max_nodes, max_relations, max_events, chart_header, bad_node, parents_loop, group_flags, many_events, bad_relation}
+use Rattle.paper.specs.Answers.{answer, granted}
 use Rattle.paper.specs.declared.Answer.{Answer}
-use Rattle.general.specs.Cases.{neither, all3, not_so}
+use Rattle.paper.specs.declared.Refusal.{Refusal}
+use Rattle.paper.specs.declared.Refusal.TheVariants.{ChartShort, ChartCount, ChartLength, BadNode, ParentsLoop, GroupFlags, ManyEvents, BadRelation, Unfit, BookRoom, BookShort, BookCount, BookLength, BadRule, BadCondition, Loop, Clash, OrderUnfit, MarkAbove, NoSuchStage, StageClosed, OrderRoom, NotDerived, IndexUnfit, IndexRoom, MendRoom, LongList}
+use Rattle.paper.specs.Refusals.{answer_of}
+use Rattle.general.specs.Cases.{not_so}
 use Rattle.general.specs.Below.{some, some_of, some-none, first, first-is, tally}
-use Rattle.flat_chart.specs.Chart.{condition, response, milestone, include, exclude, chart_of, empty_chart}
 use Rattle.flat_chart.specs.Flat.{FlatChart}
 use Rattle.graph.specs.Flat.{Marking}
-use Rattle.graph.specs.Fitness.{empty_marking}
-use Rattle.records.specs.Image.{nodes, relations, nodes_offset, relations_offset, node_at, relation_at, out_of_range, misplaced, bad_node_at, bad_relation_at, Whole}
-use Rattle.nesting.specs.Nesting.{is_event, on_loop_at, flagged_group_at, event_count}
+use Rattle.records.specs.Image.{nodes, relations, out_of_range, misplaced, bad_node_at, bad_relation_at, Whole}
+use Rattle.nesting.specs.Nesting.{is_event, on_loop_at, flagged_group_at}
+use Rattle.nesting.specs.Climbing.{Straight}
 use Rattle.nesting.specs.Tables.{Groups, is_event_in, flagged_in, EventNodes}
-use Rattle.flattening.specs.Flattening.{flat_table, role_table, flat_chart, start_marking}
+use Rattle.flattening.specs.Flattening.{flat_chart, start_marking}
 use Rattle.flattening.specs.Rows.{good_of}
 use Rattle.flattening.specs.Meaning.{Ground, flags-are, count-is, nodes-are}
 use Rattle.chart.specs.Flat.{Reading}
 use Rattle.chart.specs.Reading.{refused, granted_reading, refuse_if, refuse_first, reading_relations, reading_nodes, reading}
-use Rattle.chart.specs.Conditions.{loop-so, relation-bad}
-use Rattle.chart.specs.Outcome.{AllRight}
+use Rattle.chart.specs.Conditions.{loop-so, relation-bad, range-right, laid-right}
+use Rattle.chart.specs.Outcome.{HeaderRight, AllRight}
+use Rattle.std.specs.Prelude.{Result}
+use Rattle.std.specs.Result.{IsErrAnd}
+use Rattle.std.proofs.lemmas.Result.{err_from_is_err_and}
+use Rattle.records.specs.declared.ChartImage.{ChartImage}
+use Rattle.chart.specs.Headed.{Judged, HeaderWrong, short, counted, laid}
 use Rattle.chart.specs.ReadingGives.{refused-empty, granted-right}
 
 -- ---- a scan that stops before n has found one, and one that comes to n has not
@@ -57,51 +64,30 @@ module _ (code : ℕ) (rest : Reading) {limit r m : ℕ} (e : r ≡ m) where
 -- ---- 1 to 3
 
 module _ (image : List ℕ) where
-  pub read_short : {a : Answer} → a ≡ refusal chart_short → length image < chart_header → a ≡ (reading image).answer
+  pub read_header : {a : Answer} → HeaderWrong image a → a ≡ (reading image).answer
   unfolding reading
-  read_short e h = e ∙ rw (lt-ltb (length image) chart_header h)
+  read_header (short h) = rw (lt-ltb (length image) chart_header h)
+  read_header (counted l t) = rw (le-ltb (length image) chart_header l, t)
+  read_header (laid l o t) = rw (le-ltb (length image) chart_header l, o, t)
 
-  module _ (l : chart_header ≤ length image) {range : Bool} (o : range ≡ out_of_range image) where
-    pub read-range : {a : Answer} → a ≡ refusal chart_count → range ≡ true → a ≡ (reading image).answer
-    unfolding reading
-    read-range e h = e ∙ rw (le-ltb (length image) chart_header l, ← o, h)
+  pub read_nodes : {a : Answer} → HeaderRight image → a ≡ (reading_nodes image).answer → a ≡ (reading image).answer
+  unfolding reading
+  read_nodes h e = e ∙ rw (le-ltb (length image) chart_header h.long, (range-right image).1 h.range, (laid-right image).1 h.laid)
 
-    module _ (i : range ≡ false) {wrong : Bool} (m : wrong ≡ misplaced image) where
-      pub read-misplaced : {a : Answer} → a ≡ refusal chart_length → wrong ≡ true → a ≡ (reading image).answer
-      unfolding reading
-      read-misplaced e h = e ∙ rw (le-ltb (length image) chart_header l, ← o, i, ← m, h)
+  -- what a `?` hands on is what reading answers
+  pub judged-thrown : (r : Result ChartImage Refusal) (e : Refusal) → IsErrAnd r (λ x. x ≡ e) → answer_of e ≡ (reading image).answer → Judged image r
+  judged-thrown r e h f = let p = err_from_is_err_and r h in rw (p.1, p.2) f
 
-      pub read-on : {a : Answer} → wrong ≡ false → a ≡ (reading_nodes image).answer → a ≡ (reading image).answer
-      unfolding reading
-      read-on h e = e ∙ rw (le-ltb (length image) chart_header l, ← o, i, ← m, h)
+  module _ (l : chart_header ≤ length image) {range : Bool} (o : range ≡ out_of_range image) (t : range ≡ false) where
+    pub counts-in : (n k : ℕ) → n ≡ nodes image → k ≡ relations image → (n ≤ max_nodes) × (k ≤ max_relations)
+    counts-in n k p q = let i = (range-right image).0 (sym o ∙ t) in (rw p i.few, rw q i.few_relations)
 
--- the counts are in range
-pub record Counts (image : List ℕ) (n k : ℕ) : Type 0 where
-  pub nodes : n ≡ nodes image
-  pub relations : k ≡ relations image
-  pub some : 1 ≤ n
-  pub few : n ≤ max_nodes
-  pub few_relations : k ≤ max_relations
+    pub header-right : {wrong : Bool} → wrong ≡ misplaced image → wrong ≡ false → HeaderRight image
+    header-right m u = record { long = l; range = (range-right image).0 (sym o ∙ t); laid = (laid-right image).0 (sym m ∙ u) }
 
-pub counts-are : {image : List ℕ} {n k : ℕ} {range : Bool} → n ≡ nodes image → k ≡ relations image → range ≡ out_of_range image → range ≡ false → Counts image n k
-unfolding out_of_range
-counts-are {image} {n} {k} p q o h =
-    let t = neither (eqb (nodes image) 0 || ltb max_nodes (nodes image)) (ltb max_relations (relations image)) (sym o ∙ h) in
-    let u = neither (eqb (nodes image) 0) (ltb max_nodes (nodes image)) t.0 in
-    let z : nodes image ≡ 0 → ⊥ = eqb-false (nodes image) 0 u.0 in
-    let a = ltb-false max_nodes (nodes image) u.1 in
-    let b = ltb-false max_relations (relations image) t.1 in
-    record { nodes = p; relations = q; some = omega arith; few = omega arith; few_relations = omega arith }
-
-pub whole_is : {image : List ℕ} {n k : ℕ} {wrong : Bool} → Counts image n k → wrong ≡ misplaced image → wrong ≡ false → Whole image n k
-unfolding misplaced
-whole_is {image} {n} {k} c m h =
-    let t = all3 (eqb (nodes_offset image) chart_header) (eqb (relations_offset image) (node_at (nodes image))) (eqb (length image) (relation_at (nodes image) (relations image)))
-    (not-false _ (sym m ∙ h)) in
-    let p = c.nodes in
-    let q = c.relations in
-    let e : length image ≡ relation_at (nodes image) (relations image) = eqb-true (length image) (relation_at (nodes image) (relations image)) t.2 in
-    record { nodes = p; relations = q; some = c.some; few = c.few; few_relations = c.few_relations; whole = e ∙ rw (← p, ← q) }
+pub whole_is : {image : List ℕ} {n k : ℕ} → n ≡ nodes image → k ≡ relations image → HeaderRight image → Whole image n k
+whole_is p q h =
+    record { nodes = p; relations = q; some = rw p h.range.some; few = rw p h.range.few; few_relations = rw q h.range.few_relations; whole = rw (p, q) h.laid.exact }
 
 -- ---- 4 to 7
 
@@ -164,59 +150,76 @@ module _ {image : List ℕ} {n k bad : ℕ} (w : Whole image n k) (b : bad ≡ f
 
 -- ---- what is known of an image that is accepted
 
-module _ {image : List ℕ} {n k : ℕ} (h : AllRight image) (p : n ≡ nodes image) (q : k ≡ relations image) where
-  pub whole-right : Whole image n k
-  whole-right =
-      let r = h.nodes_right.header.range in
-      let s = r.some in
-      let f = r.few in
-      let g = r.few_relations in
-      record { nodes = p; relations = q; some = omega arith; few = omega arith; few_relations = omega arith; whole = h.nodes_right.header.laid.exact ∙ rw (← p, ← q) }
+pub accepted : (image : List ℕ) → granted ≡ (reading image).answer → AllRight image
+accepted image e = (granted-right image (ap (λ (a : Answer). a.code) (sym e))).0
+
+module _ {image : List ℕ} {n k : ℕ} (h : AllRight image) (w : Whole image n k) where
+  pub straight-right : Straight image
+  straight-right a l = not_so (λ t. h.nodes_right.straight a l ((loop-so image a).0 t))
 
   module _ {groups : List Bool} (m : Groups image n groups) where
     -- so many events have room
     pub room_for : tally n (is_event_in groups) ≤ max_events
-    room_for = let e = count-is whole-right m refl in let f = h.nodes_right.few in omega arith
+    room_for = let e = count-is w m refl in let f = h.nodes_right.few in omega arith
 
     pub ground-right : {places : List ℕ} {events : ℕ} → events ≡ tally n (is_event_in groups) → EventNodes groups n places → Ground image n k places events
     ground-right e v =
-        let c = count-is whole-right m e in
+        let c = count-is w m e in
         let f = h.nodes_right.few in
+        let q = w.relations in
         record {
-          whole = whole-right;
-          straight = λ a l. not_so (λ t. h.nodes_right.straight a l ((loop-so image a).0 t));
-          goods = λ r l. good_of whole-right (not_so (λ t. h.records r (omega arith) ((relation-bad image r).0 t)));
+          whole = w;
+          straight = straight-right;
+          goods = λ r l. good_of w (not_so (λ t. h.records r (omega arith) ((relation-bad image r).0 t)));
           count = c;
           few = omega arith;
-          placed = λ x l. nodes-are whole-right m v x (omega arith);
+          placed = λ x l. nodes-are w m v x (omega arith);
         }
 
--- ---- the chart and the marking that are filled in
-
-module _ (image : List ℕ) {code : ℕ} (e : code ≡ (reading image).answer.code) where
-  refused-is : (code ≡ 0 → ⊥) → reading image ≡ refused (reading image).answer
-  refused-is n = refused-empty image (λ z. n (e ∙ z))
-
-  module _ {a b d i x o : List ℕ} where
-    pub chart-refused : (code ≡ 0 → ⊥) → (a ≡ replicate max_events 0) × (b ≡ replicate max_events 0) × (d ≡ replicate max_events 0) × (i ≡ replicate max_events 0) × (x ≡ replicate max_events 0)
-        × (o ≡ replicate max_events 0) → chart_of 0 a b d i x o ≡ (reading image).chart
-    unfolding empty_chart
-    chart-refused n t = rw (t.0, t.1, t.2, t.3, t.4, t.5) (sym (ap (λ (r : Reading). r.chart) (refused-is n)))
-
-    pub chart-granted : {events : ℕ} → code ≡ 0 → events ≡ event_count image
-        → (a ≡ flat_table image condition) × (b ≡ flat_table image response) × (d ≡ flat_table image milestone) × (i ≡ flat_table image include) × (x ≡ flat_table image exclude)
-        → o ≡ role_table image → chart_of events a b d i x o ≡ (reading image).chart
-    unfolding flat_chart
-    chart-granted z c t u = rw (c, t.0, t.1, t.2, t.3, t.4, u) (sym (ap (λ (r : Reading). r.chart) (granted-right image (sym e ∙ z)).1))
-
-  pub marking-refused : {m : Marking} → (code ≡ 0 → ⊥) → m ≡ empty_marking → m ≡ (reading image).marking
-  marking-refused n q = q ∙ sym (ap (λ (r : Reading). r.marking) (refused-is n))
-
-  pub marking-granted : {m : Marking} → code ≡ 0 → m ≡ start_marking image → m ≡ (reading image).marking
-  marking-granted z q = q ∙ sym (ap (λ (r : Reading). r.marking) (granted-right image (sym e ∙ z)).1)
-
-  pub accepted : code ≡ 0 → AllRight image
-  accepted z = (granted-right image (sym e ∙ z)).0
+-- ---- what is filled in
 
 pub reading-is : (r : Reading) {a : Answer} {c : FlatChart} {m : Marking} → a ≡ r.answer → c ≡ r.chart → m ≡ r.marking → record { answer = a; chart = c; marking = m } ≡ r
 reading-is r p q s = rw (p, q, s)
+
+module _ (image : List ℕ) {o : Reading} (p : o ≡ refused granted) where
+  -- an empty reading stays so with a refusal
+  pub reading-refused : (r : Refusal) {a : Answer} → a ≡ answer_of r → answer_of r ≡ (reading image).answer → record { answer = a; chart = o.chart; marking = o.marking } ≡ reading image
+  reading-refused r x q =
+      let e = refused-empty image (λ z. told r (ap (λ (a : Answer). a.code) q ∙ z)) in
+      reading-is (reading image) (x ∙ q) (ap (λ (r : Reading). r.chart) (p) ∙ sym (ap (λ (r : Reading). r.chart) e))
+      (ap (λ (r : Reading). r.marking) (p) ∙ sym (ap (λ (r : Reading). r.marking) e))
+    where
+      told : (r : Refusal) → (answer_of r).code ≡ 0 → ⊥
+      told ChartShort e = omega arith
+      told ChartCount e = omega arith
+      told ChartLength e = omega arith
+      told (BadNode _) e = omega arith
+      told (ParentsLoop _) e = omega arith
+      told (GroupFlags _) e = omega arith
+      told (ManyEvents _) e = omega arith
+      told (BadRelation _) e = omega arith
+      told Unfit e = omega arith
+      told (BookRoom _) e = omega arith
+      told BookShort e = omega arith
+      told BookCount e = omega arith
+      told BookLength e = omega arith
+      told (BadRule _) e = omega arith
+      told (BadCondition _) e = omega arith
+      told (Loop _) e = omega arith
+      told (Clash _ _) e = omega arith
+      told OrderUnfit e = omega arith
+      told MarkAbove e = omega arith
+      told NoSuchStage e = omega arith
+      told StageClosed e = omega arith
+      told (OrderRoom _) e = omega arith
+      told NotDerived e = omega arith
+      told IndexUnfit e = omega arith
+      told (IndexRoom _) e = omega arith
+      told (MendRoom _ _) e = omega arith
+      told (LongList _) e = omega arith
+
+  pub reading-granted : {c : FlatChart} {m : Marking} → granted ≡ (reading image).answer → c ≡ flat_chart image → m ≡ start_marking image
+      → record { answer = o.answer; chart = c; marking = m } ≡ reading image
+  reading-granted q u v =
+      let e = (granted-right image (ap (λ (a : Answer). a.code) (sym q))).1 in
+      reading-is (reading image) (ap (λ (r : Reading). r.answer) p ∙ q) (u ∙ sym (ap (λ (r : Reading). r.chart) e)) (v ∙ sym (ap (λ (r : Reading). r.marking) e))

@@ -10,3 +10,4 @@ pub mod Examples
 pub mod Before
 pub mod Stored
 pub mod Larger
+pub mod Headed

@@ -10,7 +10,6 @@ use Rattle.std.proofs.Math.ListN.{get_or, get_or-eq_default}
 use Rattle.std.proofs.Math.Dec.{eqb}
 use Rattle.std.proofs.lemmas.Bool.{not-true}
 use Rattle.paper.specs.Limits.{max_events, max_roles, flags_byte, bad_relation, include_exclude}
-use Rattle.paper.specs.Answers.{answer}
 use Rattle.paper.specs.declared.Answer.{Answer}
 use Rattle.general.specs.Cases.{contra, cases, both, not_so, lt-suc}
 use Rattle.sets.specs.Set.{has}

@@ -1,27 +1,23 @@
 // Reading a chart image: the flat chart and the start marking, or a refusal.
 #![tactic(auto)]
 
-ghost use Rattle.std.specs.Prelude.{◌≡◌, replicate};
-ghost use Rattle.paper.specs.Limits.{max_events};
+ghost use Rattle.std.specs.Prelude.{◌≡◌};
 ghost use Rattle.paper.specs.Answers.{granted};
-ghost use Rattle.wide.specs.Number.{rows_of};
-ghost use Rattle.records.specs.Image.{Whole};
-ghost use Rattle.flat_chart.specs.Chart.{condition, response, milestone, include, exclude, chart_of};
+ghost use Rattle.paper.specs.Refusals.{answered};
+ghost use Rattle.flat_chart.specs.Numbers.{flat_of};
+ghost use Rattle.flat_chart.specs.Chart.{empty_chart};
 ghost use Rattle.graph.specs.Numbers.{marks_of};
-ghost use Rattle.flattening.specs.Flattening.{flat_table, start_marking};
-ghost use Rattle.flattening.specs.Order.{Ordered};
-ghost use Rattle.flattening.specs.Meaning.{Ground};
+ghost use Rattle.flattening.specs.Flattening.{flat_chart, start_marking};
 ghost use Rattle.chart.specs.Numbers.{reading_of};
 ghost use Rattle.chart.specs.Reading.{refused, reading_relations, reading_nodes, reading};
+ghost use Rattle.chart.specs.Outcome.{HeaderRight};
+ghost use Rattle.chart.specs.Headed.{Headed, Judged};
 
 use flat_chart::FlatChart;
-use flattening::{CONDITION, EXCLUDE, INCLUDE, MILESTONE, NODE_TABLE, RESPONSE, Size};
+use flattening::{Kind, Layout, NODE_TABLE};
 use graph::Marking;
-use paper::{
-    Answer, BAD_NODE, BAD_RELATION, CHART_COUNT, CHART_HEADER, CHART_LENGTH, CHART_SHORT,
-    GROUP_FLAGS, MANY_EVENTS, MAX_EVENTS, MAX_NODES, PARENTS_LOOP,
-};
-use wide::TABLE;
+use paper::{Answer, CHART_HEADER, MAX_EVENTS, MAX_NODES, Refusal};
+use records::ChartImage;
 
 #[repr(C)]
 #[derive(Clone, Copy)]
@@ -31,161 +27,114 @@ pub struct Reading {
     pub marking: Marking,
 }
 
-// 8, or granted.
-fn judge_relations(image: &[u8], n: usize, k: usize) -> Answer
-    requires { Whole image.now n k }
-    ensures { result ≡ (reading_relations image.now).answer }
+// 1 to 3, or the image with its counts.
+pub fn headed(bytes: &[u8]) -> Result<ChartImage<'_>, Refusal>
+    ensures { Headed bytes.now result }
 {
-    let bad = flattening::first_bad_relation(image, n, k);
-    if bad < k {
-        return paper::refused(BAD_RELATION, bad as u32, 0);
+    if bytes.len() < CHART_HEADER {
+        return Err(Refusal::ChartShort);
     }
-    paper::granted()
+    if records::out_of_range(bytes) {
+        return Err(Refusal::ChartCount);
+    }
+    let nodes = records::node_count(bytes);
+    let relations = records::relation_count(bytes);
+    if records::misplaced(bytes, nodes, relations) {
+        return Err(Refusal::ChartLength);
+    }
+    Ok(ChartImage {
+        bytes,
+        nodes,
+        relations,
+    })
+}
+
+// 8, or granted.
+fn judge_relations(image: ChartImage<'_>) -> Result<(), Refusal>
+    ensures { answered result ≡ (reading_relations image.entry.bytes.now).answer }
+{
+    match image.first_bad_relation() {
+        Some(bad) => Err(Refusal::BadRelation(bad as u32)),
+        None => Ok(()),
+    }
 }
 
 // 4 to 7, and what follows.
-fn judge_nodes(image: &[u8], n: usize, k: usize) -> Answer
-    requires { Whole image.now n k }
-    ensures { result ≡ (reading_nodes image.now).answer }
+fn judge_nodes(image: ChartImage<'_>) -> Result<(), Refusal>
+    ensures { answered result ≡ (reading_nodes image.entry.bytes.now).answer }
 {
-    let bad = records::first_bad_node(image, n, k);
-    if bad < n {
-        return paper::refused(BAD_NODE, bad as u32, 0);
+    if let Some(bad) = image.first_bad_node() {
+        return Err(Refusal::BadNode(bad as u32));
     }
-    let looped = nesting::lowest_on_loop(image, n, k);
-    if looped < n {
-        return paper::refused(PARENTS_LOOP, looped as u32, 0);
+    if let Some(looped) = nesting::lowest_on_loop(image) {
+        return Err(Refusal::ParentsLoop(looped as u32));
     }
-    let groups = nesting::groups_of(image, n, k);
-    let flags = nesting::first_flagged_group(image, n, k, &groups);
-    if flags < n {
-        return paper::refused(GROUP_FLAGS, flags as u32, 0);
+    let groups = nesting::groups_of(image);
+    if let Some(flagged) = nesting::first_flagged_group(image, &groups) {
+        return Err(Refusal::GroupFlags(flagged as u32));
     }
-    let events = nesting::count_events(&groups, n);
+    let events = nesting::count_events(&groups, image.nodes);
     if MAX_EVENTS < events {
-        return paper::refused(MANY_EVENTS, events as u32, 0);
+        return Err(Refusal::ManyEvents(events as u32));
     }
-    judge_relations(image, n, k)
+    judge_relations(image)
 }
 
-// What reading answers: the refusal that comes first, or granted.
-fn judge(image: &[u8]) -> Answer
-    ensures { result ≡ (reading image.now).answer }
+// The refusal that comes first, or the image, which reading accepts.
+fn judge(bytes: &[u8]) -> Result<ChartImage<'_>, Refusal>
+    ensures { Judged bytes.now result }
 {
-    if image.len() < CHART_HEADER {
-        return paper::refused(CHART_SHORT, 0, 0);
-    }
-    let n = records::node_count(image);
-    let k = records::relation_count(image);
-    if records::out_of_range(image) {
-        return paper::refused(CHART_COUNT, 0, 0);
-    }
-    if records::misplaced(image, n, k) {
-        return paper::refused(CHART_LENGTH, 0, 0);
-    }
-    judge_nodes(image, n, k)
+    let image = headed(bytes)?;
+    judge_nodes(image)?;
+    Ok(image)
 }
 
-// The five tables, one after another, each into room of zeros. The two tables of a set for each node are made once and lent.
-fn put_tables(
-    image: &[u8],
-    size: Size,
-    nodes: &[usize; MAX_EVENTS],
-    order: &[u16; MAX_NODES],
-    conditions: &mut [u64; TABLE],
-    responses: &mut [u64; TABLE],
-    milestones: &mut [u64; TABLE],
-    includes: &mut [u64; TABLE],
-    excludes: &mut [u64; TABLE],
-)
-    requires { (Ground image.now size.n size.k nodes.now size.events) × (Ordered image.now order.now size.groups) × (rows_of conditions.old ≡ replicate max_events 0) × (rows_of responses.old ≡ replicate max_events 0) × (rows_of milestones.old ≡ replicate max_events 0) × (rows_of includes.old ≡ replicate max_events 0) × (rows_of excludes.old ≡ replicate max_events 0) }
-    ensures { (rows_of conditions.new ≡ flat_table image.now condition) × (rows_of responses.new ≡ flat_table image.now response) × (rows_of milestones.new ≡ flat_table image.now milestone) × (rows_of includes.new ≡ flat_table image.now include) × (rows_of excludes.new ≡ flat_table image.now exclude) }
+// The flat chart into an empty one. The two tables of a set for each node are made once and lent.
+fn put_chart(layout: Layout<'_>, chart: &mut FlatChart)
+    requires { flat_of chart.old ≡ empty_chart }
+    ensures { flat_of chart.new ≡ flat_chart layout.entry.image.bytes.now }
 {
     let mut below = [0u64; NODE_TABLE];
-    flattening::put_members(image, size, nodes, order, &mut below);
+    layout.put_members(&mut below);
     let mut room = [0u64; NODE_TABLE];
-    flattening::put_table(
-        image, size, nodes, order, &below, &mut room, CONDITION, conditions,
-    );
-    flattening::put_table(
-        image, size, nodes, order, &below, &mut room, RESPONSE, responses,
-    );
-    flattening::put_table(
-        image, size, nodes, order, &below, &mut room, MILESTONE, milestones,
-    );
-    flattening::put_table(
-        image, size, nodes, order, &below, &mut room, INCLUDE, includes,
-    );
-    flattening::put_table(
-        image, size, nodes, order, &below, &mut room, EXCLUDE, excludes,
-    );
+    layout.put_table(&below, &mut room, Kind::Condition, &mut chart.conditions);
+    layout.put_table(&below, &mut room, Kind::Response, &mut chart.responses);
+    layout.put_table(&below, &mut room, Kind::Milestone, &mut chart.milestones);
+    layout.put_table(&below, &mut room, Kind::Include, &mut chart.includes);
+    layout.put_table(&below, &mut room, Kind::Exclude, &mut chart.excludes);
+    layout.put_roles(&mut chart.roles);
+    chart.count = layout.events as u32;
 }
 
-fn start_marking(
-    image: &[u8],
-    n: usize,
-    k: usize,
-    nodes: &[usize; MAX_EVENTS],
-    events: usize,
-) -> Marking
-    requires { Ground image.now n k nodes.now events }
-    ensures { marks_of result ≡ start_marking image.now }
+fn start_marking(layout: Layout<'_>) -> Marking
+    ensures { marks_of result ≡ start_marking layout.entry.image.bytes.now }
 {
     Marking {
-        executed: flattening::flagged(image, nodes, events, 0),
-        pending: flattening::flagged(image, nodes, events, 1),
-        included: flattening::flagged(image, nodes, events, 2),
+        executed: layout.flagged(0),
+        pending: layout.flagged(1),
+        included: layout.flagged(2),
     }
 }
 
-// What a reading has beside its answer and its tables.
-#[derive(Clone, Copy)]
-struct Start {
-    count: u32,
-    marking: Marking,
-}
-
-// The tables and the role bytes of an image that gets this code, into room of zeros; with a refusal they stay so.
-fn put_chart(
-    image: &[u8],
-    code: u32,
-    conditions: &mut [u64; TABLE],
-    responses: &mut [u64; TABLE],
-    milestones: &mut [u64; TABLE],
-    includes: &mut [u64; TABLE],
-    excludes: &mut [u64; TABLE],
-    roles: &mut [u8; MAX_EVENTS],
-) -> Start
-    requires { (code ≡ (reading image.now).answer.code) × (rows_of conditions.old ≡ replicate max_events 0) × (rows_of responses.old ≡ replicate max_events 0) × (rows_of milestones.old ≡ replicate max_events 0) × (rows_of includes.old ≡ replicate max_events 0) × (rows_of excludes.old ≡ replicate max_events 0) × (roles.old ≡ replicate max_events 0) }
-    ensures { (chart_of result.count (rows_of conditions.new) (rows_of responses.new) (rows_of milestones.new) (rows_of includes.new) (rows_of excludes.new) roles.new ≡ (reading image.now).chart) × (marks_of result.marking ≡ (reading image.now).marking) }
+// What an image that is accepted gives, into a reading that is still empty.
+fn fill(image: ChartImage<'_>, out: &mut Reading)
+    requires { (granted ≡ (reading image.bytes.now).answer) × (reading_of out.old ≡ refused granted) }
+    ensures { reading_of out.new ≡ reading image.entry.bytes.now }
 {
-    if code != 0 {
-        return Start {
-            count: 0,
-            marking: Marking::empty(),
-        };
-    }
-    let n = records::node_count(image);
-    let k = records::relation_count(image);
-    let groups = nesting::groups_of(image, n, k);
-    let events = nesting::count_events(&groups, n);
-    let nodes = nesting::event_nodes(&groups, n);
+    let groups = nesting::groups_of(image);
+    let events = nesting::count_events(&groups, image.nodes);
+    let nodes = nesting::event_nodes(&groups, image.nodes);
     let mut order = [0u16; MAX_NODES];
-    let ordered = flattening::order::put_order(image, n, k, &mut order);
-    let size = Size {
-        n,
-        k,
+    let placed = flattening::order::put_order(image, &mut order);
+    let layout = Layout {
+        image,
+        nodes: &nodes,
         events,
-        groups: ordered,
+        order: &order,
+        groups: placed,
     };
-    put_tables(
-        image, size, &nodes, &order, conditions, responses, milestones, includes, excludes,
-    );
-    flattening::put_roles(image, size, &nodes, &order, roles);
-    Start {
-        count: events as u32,
-        marking: start_marking(image, n, k, &nodes, events),
-    }
+    put_chart(layout, &mut out.chart);
+    out.marking = start_marking(layout);
 }
 
 // The flat chart and the start marking of an image, or the refusal that comes first, into a reading that is still empty. There it stays: a caller that hands it back by
@@ -196,21 +145,10 @@ pub fn read_into(image: &[u8], out: &mut Reading)
     requires { reading_of out.old ≡ refused granted }
     ensures { reading_of out.new ≡ reading image.now }
 {
-    let answer = judge(image);
-    let start = put_chart(
-        image,
-        answer.code,
-        &mut out.chart.conditions,
-        &mut out.chart.responses,
-        &mut out.chart.milestones,
-        &mut out.chart.includes,
-        &mut out.chart.excludes,
-        &mut out.chart.roles,
-    );
-    let count = start.count;
-    out.answer = answer;
-    out.chart.count = count;
-    out.marking = start.marking;
+    match judge(image) {
+        Ok(accepted) => fill(accepted, out),
+        Err(refusal) => out.answer = Answer::from(refusal),
+    }
 }
 
 // The same, handed back. Stack: 41 KiB more.

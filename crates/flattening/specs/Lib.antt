@@ -3,3 +3,4 @@ pub mod Flattening
 pub mod Order
 pub mod Rows
 pub mod Meaning
+pub mod Kinds

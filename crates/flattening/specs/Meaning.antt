@@ -1,6 +1,6 @@
 -- What the reader's tables say of the image: each is what the definitions name. Assumes nothing.
-use Prim.Native.Nat.{ℕ, ◌+◌, ◌≤◌, ◌<◌}
-use Rattle.std.specs.Prelude.{◌≡◌, ◌&&◌, List, length}
+use Prim.Native.Nat.{ℕ, ◌≤◌, ◌<◌}
+use Rattle.std.specs.Prelude.{◌≡◌, ◌&&◌, List}
 use Rattle.std.proofs.Math.Path.{refl, sym, ap, ap₂, subst}
 use Rattle.std.proofs.Common.{◌∙◌, arith}
 use Rattle.std.proofs.Math.Bool.{Bool, true, false, cond, and-false, and_comm}
@@ -16,7 +16,7 @@ use Rattle.general.specs.Below.{some, some_of, some_at, some-none, some_same, fi
 use Rattle.general.specs.Tables.{tabulate, length-tabulate, get_or-tabulate}
 use Rattle.sets.specs.Collecting.{collect-same}
 use Rattle.general.specs.Numbering.{tally-find, first-numbered}
-use Rattle.records.specs.Image.{nodes as nodes-of, relations, from_of, to_of, kind_of, flags_of, roles_at, node_at, parent_of, Whole}
+use Rattle.records.specs.Image.{nodes as nodes-of, from_of, to_of, kind_of, flags_of, roles_at, parent_of, Whole}
 use Rattle.nesting.specs.Nesting.{parent, at_or_above, is_group, is_event, number, event_count, event_node, flagged_group_at}
 use Rattle.nesting.specs.Climbing.{Straight, from_up}
 use Rattle.nesting.specs.Tables.{Groups, is_event_in, flagged_in, EventNodes}
@@ -105,9 +105,6 @@ pub record Ground (image : List ℕ) (n k : ℕ) (nodes : List ℕ) (events : �
   pub placed : (e : ℕ) → e < events → (get_or nodes e 0 ≡ event_node image e) × (get_or nodes e 0 < n)
 
 module _ {image : List ℕ} {n k : ℕ} {nodes : List ℕ} {events : ℕ} (g : Ground image n k nodes events) where
-  pub flags-in : (e : ℕ) → e < events → node_at (get_or nodes e 0) + 4 ≤ length image
-  flags-in e h = let l = (g.placed e h).1 in let f = g.whole.whole in omega arith
-
   pub flagged-is : (digit s : ℕ) → s ≡ flagged_by image nodes digit events → s ≡ flagged image digit
   unfolding flagged
   flagged-is digit s e =

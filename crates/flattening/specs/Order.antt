@@ -1,13 +1,12 @@
 -- Groups in an order in which each stands behind its parent: how climbs that mark what they meet make one. Assumes nothing.
 use Rattle.std.specs.Prelude.{ℕ, suc, ◌+◌, ◌-◌, ◌≤◌, ◌<◌, ◌≡◌, refl, Bool, true, false, cond, ◌||◌, List, length, get_or, set, replicate, eqb, ltb}
-use Rattle.std.proofs.Common.{sym, ap, ◌∙◌, subst, arith, length-set, get_or-set_same, get_or-set_other, lt-ltb, le-ltb, ltb-true, ltb-false, eq-eqb, ne_eqb, eqb-true}
+use Rattle.std.proofs.Common.{sym, ◌∙◌, subst, arith, length-set, get_or-set_same, get_or-set_other, lt-ltb, le-ltb, ltb-true, ltb-false, eq-eqb, eqb-true}
 use Rattle.std.proofs.Math.Bool.{or-false}
 use Rattle.std.proofs.lemmas.List.{length-replicate, get_or-replicate}
 use Rattle.std.proofs.lemmas.Bool.{eqb-false}
 use Rattle.paper.specs.Limits.{max_nodes}
-use Rattle.general.specs.Cases.{contra, cases, either, or_left, or_right, same_test}
-use Rattle.general.specs.Below.{some, some_of, some_at, some-none, some_same, some-step, tally, tally-le, tally-less, tally-none}
-use Rattle.general.specs.Scan.{at-end}
+use Rattle.general.specs.Cases.{cases, either, or_left, or_right, same_test}
+use Rattle.general.specs.Below.{some, some_of, some_at, some_same, some-step, tally, tally-le, tally-less, tally-none}
 use Rattle.records.specs.Image.{nodes, parent_of, Whole}
 use Rattle.nesting.specs.Climbing.{steps}
 
@@ -161,33 +160,6 @@ pub record Appended (old path : List ℕ) (m count j : ℕ) (new : List ℕ) : T
   pub size : length new ≡ max_nodes
   pub kept : (x : ℕ) → x < m → get_or new x 0 ≡ get_or old x 0
   pub added : (x y : ℕ) → x < j → x + y + 1 ≡ count → get_or new (m + x) 0 ≡ get_or path y 0
-
-pub append-none : {old path : List ℕ} {m count : ℕ} → length old ≡ max_nodes → Appended old path m count 0 old
-append-none s = record { size = s; kept = λ x h. refl; added = λ x y h. absurd (omega arith) }
-
-pub append-more : {old path new : List ℕ} {m count j : ℕ} → Appended old path m count j new → j < count → m + count ≤ max_nodes
-    → Appended old path m count (j + 1) (set new (m + j) (get_or path (count - 1 - j) 0))
-append-more {old} {path} {new} {m} {count} {j} a h l =
-    record {
-      size = length-set new (m + j) v ∙ a.size;
-      kept = λ x o. get_or-set_other new (m + j) x v 0 (λ z. omega arith) ∙ a.kept x o;
-      added = λ x y o e.
-          cases (eqb x j)
-          (λ t.
-          let q : x ≡ j = eqb-true x j t in
-          let r : count - 1 - j ≡ y = omega arith in
-          rw (q, get_or-set_same new (m + j) v 0 (let s = a.size in omega arith), r))
-          (λ t. let q = eqb-false x j t in get_or-set_other new (m + j) (m + x) v 0 (λ z. q (omega arith)) ∙ a.added x y (omega-lt x q o) e);
-    }
-  where
-    v : ℕ
-    v = get_or path (count - 1 - j) 0
-
-    omega-lt : (x : ℕ) → (x ≡ j → ⊥) → x < j + 1 → x < j
-    omega-lt x n o = cases (ltb x j) (λ t. ltb-true x j t) (λ t. absurd (n (let y = ltb-false x j t in omega arith)))
-
-pub append-end : {old path new : List ℕ} {m count j : ℕ} → j ≤ count → count ≤ j → Appended old path m count j new → Appended old path m count count new
-append-end {old} {path} {new} {m} {count} = at-end (λ (j : ℕ). Appended old path m count j new)
 
 -- ---- the whole order
 

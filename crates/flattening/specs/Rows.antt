@@ -3,7 +3,7 @@
 use Rattle.std.specs.Prelude.{ℕ, ◌+◌, ◌*◌, ◌-◌, ◌≤◌, ◌<◌, ◌≡◌, Bool, true, false, cond, ◌&&◌, ◌||◌, List, length, get_or, set, replicate, eqb, leb, ltb}
 use Rattle.std.proofs.Math.Path.{refl, sym}
 use Rattle.std.proofs.Common.{ap, subst, ◌∙◌, arith, length-set, get_or-set_same, get_or-set_other}
-use Rattle.std.proofs.Math.Bool.{and-true, and-false, or-false, or_assoc}
+use Rattle.std.proofs.Math.Bool.{and-false, or-false}
 use Rattle.std.proofs.lemmas.List.{length-replicate}
 use Rattle.std.proofs.Math.ListN.{get_or-eq_default}
 use Rattle.std.proofs.Math.Seq.{set_out}
@@ -13,7 +13,7 @@ use Rattle.general.specs.Cases.{cases, both, either, neither, or_left, or_right,
 use Rattle.sets.specs.Set.{has, union, only, put_if, collect}
 use Rattle.sets.specs.Laws.{has-union, has-only, has-empty, above}
 use Rattle.general.specs.Below.{some, some_of, some_at, some-none, some-step}
-use Rattle.general.specs.Tables.{tabulate, length-tabulate, zeros-at}
+use Rattle.general.specs.Tables.{length-tabulate, zeros-at}
 use Rattle.general.specs.Scan.{at-end, ltb-more}
 use Rattle.sets.specs.Collecting.{collect-more}
 use Rattle.wide.specs.Number.{number, row_of, rows_in, rows_of, row_at, rows-put, put_row}
@@ -61,9 +61,6 @@ pub record Cleared (rows : List ℕ) (i : ℕ) : Type 0 where
 abbrev pub Empty : List ℕ → Type 0
 Empty rows = (g : ℕ) → get_or rows g 0 ≡ 0
 
-pub clear_none : (rows : List ℕ) → Cleared rows 0
-clear_none rows = record { each = λ g h. absurd (omega arith) }
-
 pub clear-more : (t : List ℕ) {u : List ℕ} {n i : ℕ} (s : Set) → Cleared (node_rows n t) i → i < n → n * 4 ≤ length t → number s ≡ 0 → u ≡ put_row t i s → Cleared (node_rows n u) (i + 1)
 clear-more t {u} {n} {i} s m h l z q =
     rw (q, rows-put t i s n l h, z) (record {
@@ -90,10 +87,6 @@ pub record Entered (image nodes : List ℕ) (n e : ℕ) (all : List ℕ) : Type 
 pub enter-none : {image nodes all : List ℕ} {n : ℕ} → length all ≡ n → Empty all → Entered image nodes n 0 all
 enter-none s z = record { size = s; each = λ g f. rw (z g, le-ltb f 0 (omega arith)) (has-empty f) }
 
-pub enter-both : (image old mid : List ℕ) {new : List ℕ} (i p e s : ℕ) → s ≡ only e → mid ≡ take_in old i s → p ≡ parent_of image i → new ≡ take_in mid p s
-    → new ≡ take_in (take_in old i (only e)) (parent_of image i) (only e)
-enter-both image old mid i p e s o a b q = q ∙ rw (a, b, o)
-
 pub enter-more : {image nodes all next : List ℕ} {n e i p one : ℕ} → Entered image nodes n e all → i ≡ get_or nodes e 0 → p ≡ parent_of image i → one ≡ only e
     → next ≡ take_in (take_in all i one) p one → Entered image nodes n (e + 1) next
 enter-more {image} {nodes} {all} {next} {n} {e} {i} {p} {one} m a b o q =
@@ -117,9 +110,6 @@ enter-more {image} {nodes} {all} {next} {n} {e} {i} {p} {one} m a b o q =
 
     none : (a x y : Bool) → ((a || (x && false)) || (y && false)) ≡ a
     none a x y = rw (and-false x, and-false y, or-false a) (or-false a)
-
-pub enter-end : {image nodes all : List ℕ} {n events e : ℕ} → e ≤ events → events ≤ e → Entered image nodes n e all → Entered image nodes n events all
-enter-end {image} {nodes} {all} {n} = at-end (λ (e : ℕ). Entered image nodes n e all)
 
 pub record Members (image nodes : List ℕ) (events : ℕ) (all : List ℕ) : Type 0 where
   pub each : (g f : ℕ) → has (get_or all g 0) f ≡ (ltb f events && from_up image (get_or nodes f 0) g)
@@ -353,9 +343,6 @@ gather-more {image} {members} {old} {new} {n} {κ} {r} o m e =
     }))
     (λ t. rw t (record { size = m.size; each = λ g f. rw (some-step r (enters_at image members κ g f), ← m.each g f, t) (sym (or-false (has (get_or old g 0) f))) })))
 
-pub gather-end : {image members gathered : List ℕ} {n κ k r : ℕ} → r ≤ k → k ≤ r → Gathered image members n κ r gathered → Gathered image members n κ k gathered
-gather-end {image} {members} {gathered} {n} {κ} = at-end (λ (r : ℕ). Gathered image members n κ r gathered)
-
 -- ---- what an event takes from its node and the groups above it
 
 -- some node at c or above it passes the test
@@ -433,9 +420,6 @@ module _ {image order : List ℕ} {test : ℕ → ℕ → Bool} where
     where
       get_or-has : (i f : ℕ) → (get_or order i 0 ≡ c → ⊥) → has (get_or (set rows c s) (get_or order i 0) 0) f ≡ has (get_or rows (get_or order i 0) 0) f
       get_or-has i f x = rw (get_or-set_other rows c (get_or order i 0) s 0 x)
-
-  pub hand_end : {rows : List ℕ} {groups j : ℕ} → j ≤ groups → groups ≤ j → Handed image order test j rows → Handed image order test groups rows
-  hand_end {rows} = at-end (λ (j : ℕ). Handed image order test j rows)
 
   module _ {n k : ℕ} (w : Whole image n k) {rows : List ℕ} {j : ℕ} (m : Handed image order test j rows) where
     -- the parent, if it has taken in what stands above it, has all that c takes from above

@@ -1,11 +1,10 @@
 -- Once round a loop: the way from a node of it back to that node, and the lowest that it passes. Assumes nothing.
-use Rattle.std.specs.Prelude.{ℕ, ◌+◌, ◌≤◌, ◌<◌, ◌≡◌, refl, ◌≢◌, ◌⊎◌, true, not, List, length, eqb}
-use Rattle.std.proofs.Common.{inl, inr, ⊎_elim, arith, eq-eqb, eqb-true}
+use Rattle.std.specs.Prelude.{ℕ, ◌≤◌, ◌<◌, ◌≡◌, refl, ◌≢◌, ◌⊎◌, true, not, List, eqb, ltb, min}
+use Rattle.std.proofs.Common.{inl, inr, ⊎_elim, arith, eq-eqb, eqb-true, ltb-true, ltb-false}
 use Rattle.std.proofs.lemmas.Bool.{eqb-false, not-true}
-use Rattle.paper.specs.Limits.{node_size}
 use Rattle.general.specs.Cases.{contra, cases, both}
 use Rattle.closure.specs.Closure.{Way, hop, via, join}
-use Rattle.records.specs.Image.{nodes, node_at, parent_of, Whole}
+use Rattle.records.specs.Image.{parent_of, Whole}
 use Rattle.nesting.specs.Nesting.{parent, Nested, OnLoop}
 use Rattle.nesting.specs.Loops.{loop-back, loop-on}
 use Rattle.nesting.specs.Ahead.{one_parent, first-link, onward, onward-is, Ahead, ahead, behind-first, ahead-less}
@@ -16,9 +15,13 @@ pub record LowestRound (image : List ℕ) (met low : ℕ) : Type 0 where
   pub lowest : LowestOfLoop image low
   pub round : Nested image met low
 
--- a node on a loop has a record
-pub loop-room : {image : List ℕ} {n k c : ℕ} → Whole image n k → OnLoop image c → node_at c + node_size ≤ length image
-loop-room {image} w l = let h = start-in image l in let e = w.nodes in let t = w.whole in omega arith
+-- a node on a loop is one of the n nodes
+pub loop-in : {image : List ℕ} {n k c : ℕ} → Whole image n k → OnLoop image c → c < n
+loop-in {image} w l = let h = start-in image l in let e = w.nodes in omega arith
+
+-- the lower of two is one of them
+pub min-one : {m : ℕ} (a b : ℕ) → m ≡ min a b → (m ≡ a) ⊎ (m ≡ b)
+min-one a b e = cases (ltb a b) (λ t. let l = ltb-true a b t in inl (omega arith)) (λ t. let l = ltb-false a b t in inr (omega arith))
 
 module _ (image : List ℕ) (met : ℕ) where
   -- no way leaves met

@@ -1,5 +1,5 @@
 -- The walk that stamps each node once and finds each loop once: what the stamps say, and which nodes are noted. Assumes nothing.
-use Rattle.std.specs.Prelude.{ℕ, ◌+◌, ◌≤◌, ◌<◌, ◌≡◌, refl, ◌≢◌, ◌⊎◌, Bool, true, false, not, ◌&&◌, List, length, get_or, set, replicate, eqb, ltb}
+use Rattle.std.specs.Prelude.{ℕ, ◌+◌, ◌≤◌, ◌<◌, ◌≡◌, refl, ◌≢◌, ◌⊎◌, Bool, true, false, not, ◌&&◌, List, length, get_or, set, replicate, Option, Some, None, eqb, ltb}
 use Rattle.std.proofs.Common.{sym, ◌∙◌, inl, inr, ⊎_elim, arith, length-set, get_or-set_same, get_or-set_other, ltb-true, ltb-false, eq-eqb, ne_eqb, eqb-true}
 use Rattle.std.proofs.Math.Bool.{and-false}
 use Rattle.std.proofs.lemmas.List.{length-replicate, get_or-replicate}
@@ -49,6 +49,11 @@ pub record Climbed (image : List ℕ) (n a : ℕ) (before stamps : List ℕ) (r 
   pub kept : (x : ℕ) → x < n → stamp_of before x ≢ 0 → stamp_of stamps x ≢ 0
   pub fresh : (x : ℕ) → x < n → stamp_of before x ≡ 0 → stamp_of stamps x ≢ 0 → OnLoop image x → (r < n) × Nested image r x
   pub met : r < n → OnLoop image r × (stamp_of stamps r ≢ 0)
+
+-- the same of the node that it met, or of none
+abbrev pub ClimbedTo : List ℕ → ℕ → ℕ → List ℕ → List ℕ → Option ℕ → Type 0
+ClimbedTo image n a before stamps None = Climbed image n a before stamps n
+ClimbedTo image n a before stamps (Some r) = (r < n) × Climbed image n a before stamps r
 
 -- the nodes that have no stamp
 abbrev pub blank : List ℕ → ℕ → Bool
@@ -262,14 +267,5 @@ module _ {image : List ℕ} {n a : ℕ} {cut : List Bool} {before stamps : List 
             (join (parent image) (loop-back (parent image) (one_parent image) (c.met h).0 o.round) (c.fresh x j z s p.on).1)))));
       })
 
--- what round needs
-pub met-on : {image before stamps : List ℕ} {n a r : ℕ} → Climbed image n a before stamps r → r < n → OnLoop image r
-met-on c h = (c.met h).0
-
 pub low-in : {image : List ℕ} {n k r low : ℕ} → Whole image n k → LowestRound image r low → low < max_nodes
 low-in {image} w o = let t = start-in image o.lowest.on in let e = w.nodes in let f = w.few in omega arith
-
-pub noted-end : {image : List ℕ} {n a : ℕ} {cut : List Bool} {stamps : List ℕ} → Noted image n a cut stamps → n ≤ a → LowestCut image n cut
-noted-end {image} {n} {a} {cut} {stamps} m h =
-    let f = m.few in
-    record { size = m.size; each = λ x i. m.each x i ∙ rw (ne_eqb (stamp_of stamps x) 0 (m.stamped.done x (omega arith))) }

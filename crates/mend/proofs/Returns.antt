@@ -1,15 +1,15 @@
 -- The law for each return of the call: what is at hand is what the definition of mending gives. Assumes nothing.
-use Rattle.std.specs.Prelude.{ℕ, ◌+◌, ◌*◌, ◌≤◌, ◌<◌, ◌≡◌, Bool, true, false, ◌||◌, List, ◌++◌, ltb, length, drop}
+use Rattle.std.specs.Prelude.{ℕ, ◌+◌, ◌*◌, ◌≤◌, ◌<◌, ◌≡◌, Bool, List, ◌++◌, length, drop}
 use Rattle.std.proofs.Math.Path.{sym}
 use Rattle.std.proofs.Common.{ap, ◌∙◌, inl, inr, arith}
-use borrow.Author.Tests.{ltb-true, ne_eqb}
-use Rattle.paper.specs.Limits.{max_events, chart_header, chart_short, chart_count, chart_length, many_events, mend_room, change_size}
-use Rattle.paper.specs.Answers.{answer, granted, refusal}
+use borrow.Author.Tests.{ne_eqb}
+use Rattle.paper.specs.Limits.{max_events, chart_header, many_events, mend_room, change_size}
+use Rattle.paper.specs.Answers.{answer, granted}
 use Rattle.paper.specs.declared.Answer.{Answer}
-use Rattle.general.specs.Cases.{contra, either}
+use Rattle.general.specs.Cases.{contra}
 use Rattle.general.specs.Below.{tally}
 use Rattle.general.specs.Writing.{Wrote, wrote-whole}
-use Rattle.records.specs.Image.{out_of_range, misplaced, Whole}
+use Rattle.records.specs.Image.{Whole}
 use Rattle.nesting.specs.Tables.{is_event_in}
 use Rattle.mending.specs.OfImage.{relations_left, mended_runs, entries}
 use Rattle.mending.proofs.StepByStep.{mended-runs, entries-so}
@@ -17,11 +17,18 @@ use Rattle.mend_writer.specs.Groups.{GroupsLeft}
 use Rattle.mend_writer.specs.Steps.{list_runs}
 use Rattle.chart.specs.Conditions.{range-right, laid-right}
 use Rattle.chart.specs.Outcome.{HeaderRight}
+use Rattle.chart.specs.Headed.{HeaderWrong, short, counted, laid}
+use Rattle.std.specs.Prelude.{Result, refl, ◌⊎◌}
+use Rattle.std.specs.Result.{IsErrAnd}
+use Rattle.std.proofs.lemmas.Result.{err_from_is_err_and}
+use Rattle.std.proofs.Math.Logic.{⊎_elim}
+use Rattle.paper.specs.Refusals.{answer_of}
+use Rattle.paper.specs.declared.Refusal.{Refusal}
 use Rattle.mend.specs.declared.Mended.{Mended}
 use Rattle.mend.specs.Calling.{mended_image, changes_of, list_bytes, mend_answer, mending}
 use Rattle.mend.specs.Table.{Mendable, Mends, is_short, is_out_of_range, is_misplaced, is_many, is_narrow, is_mended, mend-written, mend-kept, refused_by}
 use Rattle.mend.proofs.Table.{mends-only}
-use Rattle.mend.specs.Returns.{Gives, events-are, chart-bytes, list-bytes, list-runs, chart-long, list-long, chart-fits, list-fits}
+use Rattle.mend.specs.Returns.{Gives, mended_of, events-are, chart-bytes, list-bytes, list-runs, chart-long, list-long, chart-fits, list-fits}
 
 module _ (image chart list : List ℕ) where
   refused-so : {a : Answer} {r : Mended} → Mends image (length chart) (length list) a → (a.code ≡ 0 → ⊥) → r ≡ refused_by a → Gives image chart list r chart list
@@ -42,22 +49,20 @@ module _ (image chart list : List ℕ) where
 
   -- ---- 1 to 3
 
-  pub mend-short : {r : Mended} → length image < chart_header → r ≡ refused_by (refusal chart_short) → Gives image chart list r chart list
-  mend-short h e = refused-so (is_short h) (λ z. omega arith) e
+  pub mend_header : {a : Answer} → HeaderWrong image a → Gives image chart list (refused_by a) chart list
+  mend_header (short h) = refused-so (is_short h) (λ z. omega arith) refl
+  mend_header (counted l t) = refused-so (is_out_of_range l (λ i. contra t ((range-right image).1 i))) (λ z. omega arith) refl
+  mend_header (laid l o t) = refused-so (is_misplaced l ((range-right image).0 o) (λ i. contra t ((laid-right image).1 i))) (λ z. omega arith) refl
 
-  module _ (l : chart_header ≤ length image) {range : Bool} (o : range ≡ out_of_range image) where
-    pub mend-range : {r : Mended} → range ≡ true → r ≡ refused_by (refusal chart_count) → Gives image chart list r chart list
-    mend-range t e = refused-so (is_out_of_range l (λ i. contra (sym o ∙ t) ((range-right image).1 i))) (λ z. omega arith) e
-
-    module _ (t : range ≡ false) {wrong : Bool} (m : wrong ≡ misplaced image) where
-      pub mend-misplaced : {r : Mended} → wrong ≡ true → r ≡ refused_by (refusal chart_length) → Gives image chart list r chart list
-      mend-misplaced u e = refused-so (is_misplaced l ((range-right image).0 (sym o ∙ t)) (λ i. contra (sym m ∙ u) ((laid-right image).1 i))) (λ z. omega arith) e
+  -- what a `?` hands on is told as it was
+  pub mend-thrown : (r : Result ℕ Refusal) (e : Refusal) → IsErrAnd r (λ x. x ≡ e) → {c l : List ℕ} → Gives image chart list (refused_by (answer_of e)) c l → Gives image chart list (mended_of r) c l
+  mend-thrown r e h g = let p = err_from_is_err_and r h in rw (p.1, p.2) g
 
 -- ---- 7
 
 module _ {image : List ℕ} {n k e : ℕ} {groups : List Bool} (w : Whole image n k) (g : GroupsLeft image n groups) (q : e ≡ tally n (is_event_in groups)) where
-  pub mend-many : (chart list : List ℕ) {r : Mended} → HeaderRight image → max_events < e → r ≡ refused_by (answer many_events e 0) → Gives image chart list r chart list
-  mend-many chart list h m p = refused-so image chart list (is_many h (rw (← (events-are w g q)) m)) (λ z. omega arith) (rw (events-are w g q) at p)
+  pub mend-many : (chart list : List ℕ) → HeaderRight image → max_events < e → Gives image chart list (refused_by (answer many_events e 0)) chart list
+  mend-many chart list h m = refused-so image chart list (is_many h (rw (← (events-are w g q)) m)) (λ z. omega arith) (rw (events-are w g q))
 
 -- ---- 37, and what is granted
 
@@ -69,15 +74,13 @@ module _ (image : List ℕ) (n k l m : ℕ) (w : Whole image n k) (e : l ≡ rel
   list_need = change_size * m
 
   module _ (chart list : List ℕ) (ok : Mendable image) where
-    pub mend-narrow : {r : Mended} → (ltb (length chart) chart_need || ltb (length list) list_need) ≡ true → r ≡ refused_by (answer mend_room chart_need list_need)
-        → Gives image chart list r chart list
-    mend-narrow t p =
-        refused-so image chart list (is_narrow ok (either (ltb (length chart) chart_need) (ltb (length list) list_need) t
-        (λ u. inl (rw (chart-bytes image n k l m w e f) (ltb-true (length chart) chart_need u))) (λ u. inr (rw (list-bytes image n k l m w e f) (ltb-true (length list) list_need u))))) (λ z. omega arith) (rw (chart-bytes image n k l m w e f, list-bytes image n k l m w e f) p)
+    pub mend-narrow : (length chart < chart_need) ⊎ (length list < list_need) → Gives image chart list (refused_by (answer mend_room chart_need list_need)) chart list
+    mend-narrow t =
+        refused-so image chart list (is_narrow ok (⊎_elim (λ u. inl (rw (chart-bytes image n k l m w e f) u)) (λ u. inr (rw (list-bytes image n k l m w e f) u)) t))
+        (λ z. omega arith) (rw (chart-bytes image n k l m w e f, list-bytes image n k l m w e f))
 
-    module _ (t : (ltb (length chart) chart_need || ltb (length list) list_need) ≡ false) where
-      pub mend-done : (p q : ℕ) (c d : List ℕ) (r : Answer) → Wrote chart 0 (mended_runs image) p c → Wrote list 0 (list_runs image n k) q d → r ≡ granted
-          → Gives image chart list (record { answer = r; entries = m }) c d
-      mend-done p q c d r a b g =
-          granted-so image chart list (is_mended ok (chart-long image n k l m w e f chart list ok t) (list-long image n k l m w e f chart list ok t)) (rw g) (f ∙ ap length (sym (entries-so image w)))
-          (rw (mended-runs image w) (wrote-whole a (chart-fits image n k l m w e f chart list ok t))) (rw (list-runs image n k l m w e f) (wrote-whole b (list-fits image n k l m w e f chart list ok t)))
+    module _ (a : chart_need ≤ length chart) (b : list_need ≤ length list) where
+      pub mend-done : {p q : ℕ} {c d : List ℕ} → Wrote chart 0 (mended_runs image) p c → Wrote list 0 (list_runs image n k) q d → Gives image chart list (record { answer = granted; entries = m }) c d
+      mend-done u v =
+          granted-so image chart list (is_mended ok (chart-long image n k l m w e f chart list ok a b) (list-long image n k l m w e f chart list ok a b)) refl (f ∙ ap length (sym (entries-so image w)))
+          (rw (mended-runs image w) (wrote-whole u (chart-fits image n k l m w e f chart list ok a b))) (rw (list-runs image n k l m w e f) (wrote-whole v (list-fits image n k l m w e f chart list ok a b)))

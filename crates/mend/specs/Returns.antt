@@ -1,14 +1,15 @@
 -- The law for each return of the call: what is at hand is what the definition of mending gives. Assumes nothing.
-use Rattle.std.specs.Prelude.{ℕ, ◌+◌, ◌*◌, ◌≤◌, ◌≡◌, Bool, false, not, ◌||◌, List, ltb, length}
+use Rattle.std.specs.Prelude.{ℕ, ◌+◌, ◌*◌, ◌≤◌, ◌≡◌, Bool, not, List, length, Result, Ok, Err}
 use Rattle.std.proofs.Math.Path.{sym}
 use Rattle.std.proofs.Common.{ap, ◌∙◌, arith}
-use borrow.Author.Tests.{ltb-false}
-use Rattle.paper.specs.Limits.{max_nodes, max_relations, max_events, chart_header, change_size}
-use Rattle.general.specs.Cases.{neither}
+use Rattle.paper.specs.Answers.{granted}
+use Rattle.paper.specs.Refusals.{answer_of}
+use Rattle.paper.specs.declared.Refusal.{Refusal}
+use Rattle.paper.specs.Limits.{max_nodes, max_events, chart_header, change_size}
 use Rattle.general.specs.Below.{tally, tally-same, tally-le}
 use Rattle.general.specs.Lists.{length-packed}
 use Rattle.general.specs.Writing.{Fits}
-use Rattle.records.specs.Image.{nodes, relations, out_of_range, misplaced, Whole}
+use Rattle.records.specs.Image.{Whole}
 use Rattle.nesting.specs.Nesting.{event_count}
 use Rattle.nesting.specs.Tables.{is_event_in}
 use Rattle.mending.specs.Mending.{change_bytes}
@@ -17,26 +18,19 @@ use Rattle.mending.specs.StepByStep.{events-left, length-change}
 use Rattle.mending.proofs.StepByStep.{mended-runs, length_runs, entries-so}
 use Rattle.mend_writer.specs.Groups.{GroupsLeft}
 use Rattle.mend_writer.specs.Steps.{list_runs, list-so}
-use Rattle.chart.specs.Conditions.{range-right, laid-right}
 use Rattle.chart.specs.Outcome.{HeaderRight}
 use Rattle.mend.specs.declared.Mended.{Mended}
 use Rattle.mend.specs.Calling.{mended_image, changes_of, list_bytes, mending, mended_room, changes_room}
-use Rattle.mend.specs.Table.{Mendable}
+use Rattle.mend.specs.Table.{Mendable, refused_by}
 
 -- what the call gives and leaves
 abbrev pub Gives : List ℕ → List ℕ → List ℕ → Mended → List ℕ → List ℕ → Type 0
 Gives image chart list r c l = (r ≡ mending image (length chart) (length list)) × (c ≡ mended_room image chart list) × (l ≡ changes_room image chart list)
 
-module _ (image : List ℕ) (l : chart_header ≤ length image) {range : Bool} (o : range ≡ out_of_range image) (t : range ≡ false) where
-  pub counts-in : (n k : ℕ) → n ≡ nodes image → k ≡ relations image → (n ≤ max_nodes) × (k ≤ max_relations)
-  counts-in n k p q = let i = (range-right image).0 (sym o ∙ t) in (rw p i.few, rw q i.few_relations)
-
-  pub header-right : {wrong : Bool} → wrong ≡ misplaced image → wrong ≡ false → HeaderRight image
-  header-right m u = record { long = l; range = (range-right image).0 (sym o ∙ t); laid = (laid-right image).0 (sym m ∙ u) }
-
-pub whole_is : {image : List ℕ} {n k : ℕ} → n ≡ nodes image → k ≡ relations image → HeaderRight image → Whole image n k
-whole_is p q h =
-    record { nodes = p; relations = q; some = rw p h.range.some; few = rw p h.range.few; few_relations = rw q h.range.few_relations; whole = rw (p, q) h.laid.exact }
+-- what is told: how many entries are written, or the refusal
+abbrev pub mended_of : Result ℕ Refusal → Mended
+mended_of (Ok n) = record { answer = granted; entries = n }
+mended_of (Err r) = refused_by (answer_of r)
 
 -- ---- 7
 
@@ -69,12 +63,12 @@ module _ (image : List ℕ) (n k l m : ℕ) (w : Whole image n k) (e : l ≡ rel
   list-runs = rw (entries-so image w) (list-so image n k w)
 
   module _ (chart list : List ℕ) (ok : Mendable image) where
-    module _ (t : (ltb (length chart) chart_need || ltb (length list) list_need) ≡ false) where
+    module _ (a : chart_need ≤ length chart) (b : list_need ≤ length list) where
       pub chart-long : length (mended_image image) ≤ length chart
-      chart-long = rw chart-bytes (ltb-false (length chart) chart_need (neither (ltb (length chart) chart_need) (ltb (length list) list_need) t).0)
+      chart-long = rw chart-bytes a
 
       pub list-long : length (list_bytes image) ≤ length list
-      list-long = rw list-bytes (ltb-false (length list) list_need (neither (ltb (length chart) chart_need) (ltb (length list) list_need) t).1)
+      list-long = rw list-bytes b
 
       pub chart-fits : Fits chart 0 (mended_runs image)
       chart-fits = rw (← mended-runs image w) (let h = chart-long in omega arith)

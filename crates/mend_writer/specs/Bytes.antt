@@ -1,16 +1,16 @@
 -- What each writer leaves behind, and each return, in the form in which the code meets it. Assumes nothing.
-use Rattle.std.specs.Prelude.{ℕ, ◌+◌, ◌-◌, ◌*◌, ◌/◌, ◌%◌, ◌≤◌, ◌<◌, ◌≡◌, refl, Bool, true, false, not, cond, ◌&&◌, ◌||◌, List, [], ◌∷◌, ◌++◌, eqb, ltb, length, get_or}
-use Rattle.std.proofs.Common.{sym, ap, ◌∙◌, append-nil, add-one}
+use Rattle.std.specs.Prelude.{ℕ, ◌+◌, ◌-◌, ◌*◌, ◌/◌, ◌%◌, ◌≤◌, ◌<◌, ◌≡◌, refl, Bool, true, false, not, cond, ◌&&◌, ◌||◌, List, [], ◌∷◌, ◌++◌, eqb, leb, ltb, length, get_or}
+use Rattle.std.proofs.Common.{sym, ◌∙◌, append-nil, add-one}
 use native.Mathlib.Omega.{arith}
-use borrow.Author.Tests.{eq-eqb, ne_eqb, le-leb, lt-leb, not-true, not-false}
+use borrow.Author.Tests.{ne_eqb, le-leb, lt-leb, ltb-true, ltb-false, not-true, not-false}
 use mir.Val.{bool_byte}
 use Rattle.paper.specs.Limits.{max_nodes, max_relations, chart_header, node_size, no_parent, flags_byte, mend_parent, mend_flags, mend_loop, mend_group, mend_relation}
 use Rattle.general.specs.Below.{tally, tally-le}
 use Rattle.general.specs.Numbering.{tally-more, tally-end}
-use Rattle.general.specs.Lists.{total, total-step, flat, packed, packed-one}
-use Rattle.general.specs.Writing.{Fits, Wrote, wrote_none, then, fits-first, fits-then}
+use Rattle.general.specs.Lists.{total, flat, packed, packed-one}
+use Rattle.general.specs.Writing.{Fits, Wrote, Runs, runs-start, runs-fits, runs-more, runs_done, wrote_none, then, fits-first, fits-then}
 use Rattle.wire.specs.Wire.{put16, bytes16}
-use Rattle.records.specs.Image.{nodes, relations, flags_of, parent_of, from_of, to_of, kind_of, bad_relation_at, Whole}
+use Rattle.records.specs.Image.{flags_of, parent_of, from_of, to_of, kind_of, bad_relation_at, Whole}
 use Rattle.loop_cuts.specs.Walking.{LowestCut}
 use Rattle.mending.specs.Records.{Relation, node_bytes, relation_bytes, header_bytes}
 use Rattle.mending.specs.Mending.{Change, change_bytes, state_flags, known_flags, lowest_of_loop}
@@ -151,21 +151,16 @@ left-all {image} {n} {k} {i} {c} w h l e =
 pub count-more : (image : List ℕ) (step i c : ℕ) (b : Bool) → c ≡ tally i (changed_at image step) → b ≡ changed_at image step i → c + bool_byte b ≡ tally (i + 1) (changed_at image step)
 count-more image step i c b e q = rw q (tally-more (changed_at image step) i c e)
 
-pub count-all : (image : List ℕ) (step n i c : ℕ) → i ≤ n → n ≤ i → c ≡ tally i (changed_at image step) → (c ≡ tally n (changed_at image step)) × (c ≤ n)
-count-all image step n i c h l e = let q = tally-end (changed_at image step) n i c h l e in (q, omega (arith, tally-le n (changed_at image step)))
+pub count-all : (image : List ℕ) (step n i c : ℕ) → n ≤ max_nodes → i ≤ n → n ≤ i → c ≡ tally i (changed_at image step) → (c ≡ tally n (changed_at image step)) × (c ≤ max_nodes)
+count-all image step n i c m h l e = let q = tally-end (changed_at image step) n i c h l e in (q, omega (arith, tally-le n (changed_at image step)))
 
 abbrev pub step_count : List ℕ → ℕ → ℕ → ℕ
 step_count image n s = tally n (changed_at image (s + 1))
 
-pub steps-none : (image : List ℕ) (n : ℕ) → 0 ≡ total 0 (step_count image n)
+pub four-steps : (image : List ℕ) (n : ℕ) {a b c d : ℕ} → a ≡ step_count image n 0 → b ≡ step_count image n 1 → c ≡ step_count image n 2 → d ≡ step_count image n 3
+    → a + b + c + d ≡ total mend_group (step_count image n)
 unfolding total
-steps-none image n = refl
-
-pub steps-more : (image : List ℕ) (n d c r : ℕ) → c ≡ total d (step_count image n) → r ≡ tally n (changed_at image (d + 1)) → c + r ≡ total (d + 1) (step_count image n)
-steps-more image n d c r e q = rw (total-step d (step_count image n), e, q)
-
-pub steps_all : (image : List ℕ) (n d c : ℕ) → d ≤ mend_group → mend_group ≤ d → c ≡ total d (step_count image n) → c ≡ total mend_group (step_count image n)
-steps_all image n d c h l e = let q : d ≡ mend_group = omega arith in e ∙ ap (λ (x : ℕ). total x (step_count image n)) q
+four-steps image n p q r s = rw (p, q, r, s) (omega arith)
 
 pub entries-all : (image : List ℕ) (n k a l : ℕ) → Whole image n k → a ≡ total mend_group (step_count image n) → a ≤ mend_group * max_nodes → l ≡ relations_left image
     → (a + (k - l) ≡ length (entries image)) × (a + (k - l) ≤ mend_group * max_nodes + max_relations)
@@ -173,53 +168,57 @@ entries-all image n k a l w e b f = let h = w.few_relations in (length-entries i
 
 -- ---- the returns of the functions that look at one node
 
-module _ (image : List ℕ) (step i : ℕ) where
-  pub changed-1 : {b : Bool} → step ≡ mend_parent → b ≡ missing_at image i → b ≡ changed_at image step i
+module _ (image : List ℕ) (i : ℕ) where
+  pub changed-parent : {b : Bool} → b ≡ missing_at image i → b ≡ changed_at image mend_parent i
   unfolding changed_at
-  changed-1 p e = rw (eq-eqb step mend_parent p) e
+  changed-parent e = e
 
-  pub changed-2 : (f g : ℕ) → (step ≡ mend_parent → ⊥) → step ≡ mend_flags → f ≡ flags_of image i → g ≡ known_flags f → not (eqb g f) ≡ changed_at image step i
+  pub changed-flags : (f g : ℕ) → f ≡ flags_of image i → g ≡ known_flags f → not (eqb g f) ≡ changed_at image mend_flags i
   unfolding changed_at unknown_at
-  changed-2 f g m p e q = rw (ne_eqb step mend_parent m, eq-eqb step mend_flags p, q, e)
+  changed-flags f g e q = rw (q, e)
 
-  pub changed-3 : (n : ℕ) (cut : List Bool) → LowestCut image n cut → i < n → (step ≡ mend_parent → ⊥) → (step ≡ mend_flags → ⊥) → step ≡ mend_loop
-      → get_or cut i false ≡ changed_at image step i
+  pub changed-loop : {n : ℕ} {cut : List Bool} → LowestCut image n cut → i < n → get_or cut i false ≡ changed_at image mend_loop i
   unfolding changed_at
-  changed-3 n cut c h m l p = rw (ne_eqb step mend_parent m, ne_eqb step mend_flags l, eq-eqb step mend_loop p) (c.each i h)
+  changed-loop c h = c.each i h
 
-  pub changed-4 : (n f : ℕ) (groups : List Bool) → GroupsLeft image n groups → i < n → (step ≡ mend_parent → ⊥) → (step ≡ mend_flags → ⊥) → (step ≡ mend_loop → ⊥)
+  pub changed-group : (step : ℕ) {n f : ℕ} {groups : List Bool} → mend_loop < step → GroupsLeft image n groups → i < n
       → f ≡ flags_of image i → (get_or groups i false && not (eqb (f % state_flags) 0)) ≡ changed_at image step i
   unfolding changed_at flagged_at
-  changed-4 n f groups g h m l p e = rw (ne_eqb step mend_parent m, ne_eqb step mend_flags l, ne_eqb step mend_loop p, e, g.each i h)
+  changed-group step {n} {f} l g h e =
+      rw (ne_eqb step mend_parent (λ z. omega arith), ne_eqb step mend_flags (λ z. omega arith), ne_eqb step mend_loop (λ z. omega arith), e, g.each i h)
 
-module _ (image : List ℕ) (n step i : ℕ) (cut : List Bool) (c : LowestCut image n cut) (h : i < n) (m : Bool) (e : m ≡ missing_at image i) where
+module _ (image : List ℕ) (step i : ℕ) {n : ℕ} {cut : List Bool} (c : LowestCut image n cut) (h : i < n) {m a b : Bool}
+    (e : m ≡ missing_at image i) (p : a ≡ ltb mend_parent step) (q : b ≡ ltb mend_loop step) where
   abbrev gone : Bool
-  gone = (ltb mend_parent step && m) || (ltb mend_loop step && get_or cut i false)
+  gone = (a && m) || (b && get_or cut i false)
 
   gone-is : gone ≡ ((ltb mend_parent step && missing_at image i) || (ltb mend_loop step && lowest_of_loop image i))
-  gone-is = rw (e, c.each i h)
+  gone-is = rw (p, q, e, c.each i h)
 
   pub parent-gone : gone ≡ true → no_parent ≡ parent_before image step i
   unfolding parent_before
   parent-gone t = rw (← gone-is, t)
 
-  pub parent-stays : gone ≡ false → {p : ℕ} → p ≡ parent_of image i → p ≡ parent_before image step i
+  pub parent-stays : gone ≡ false → {x : ℕ} → x ≡ parent_of image i → x ≡ parent_before image step i
   unfolding parent_before
-  parent-stays t q = rw (← gone-is, t) q
+  parent-stays t r = rw (← gone-is, t) r
 
-module _ (image : List ℕ) (step i f : ℕ) (e : f ≡ flags_of image i) where
-  pub flags-first : step ≤ mend_flags → f ≡ flags_before image step i
+module _ (image : List ℕ) (step i f : ℕ) (e : f ≡ flags_of image i) {a : Bool} (p : a ≡ ltb mend_flags step) where
+  pub flags-first : a ≡ false → f ≡ flags_before image step i
   unfolding flags_before
-  flags-first h = rw (le-leb step mend_flags h) e
+  flags-first t = rw (le-leb step mend_flags (ltb-false mend_flags step (sym p ∙ t))) e
 
-  module _ (h : mend_flags < step) {n : ℕ} {groups : List Bool} (g : GroupsLeft image n groups) (l : i < n) where
-    pub flags-group : (ltb mend_group step && get_or groups i false) ≡ true → flags_byte * (f / flags_byte) ≡ flags_before image step i
-    unfolding flags_before
-    flags-group t = rw (lt-leb step mend_flags h, ← g.each i l, t, e)
+  module _ (t : a ≡ true) {b : Bool} (q : b ≡ ltb mend_group step) {n : ℕ} {groups : List Bool} (g : GroupsLeft image n groups) (l : i < n) where
+    after : leb step mend_flags ≡ false
+    after = lt-leb step mend_flags (ltb-true mend_flags step (sym p ∙ t))
 
-    pub flags-known : (ltb mend_group step && get_or groups i false) ≡ false → {s : ℕ} → s ≡ known_flags f → s ≡ flags_before image step i
+    pub flags-group : (b && get_or groups i false) ≡ true → flags_byte * (f / flags_byte) ≡ flags_before image step i
     unfolding flags_before
-    flags-known t q = rw (lt-leb step mend_flags h, ← g.each i l, t) (q ∙ rw e)
+    flags-group u = rw (after, ← g.each i l, ← q, u, e)
+
+    pub flags-known : (b && get_or groups i false) ≡ false → {s : ℕ} → s ≡ known_flags f → s ≡ flags_before image step i
+    unfolding flags_before
+    flags-known u r = rw (after, ← g.each i l, ← q, u) (r ∙ rw e)
 
 -- ---- the chart and the list, run behind run
 
@@ -250,6 +249,44 @@ module _ (image room : List ℕ) (n k l : ℕ) (w : Whole image n k) (e : l ≡ 
 
       pub chart-wrote : (p₃ : ℕ) (r₃ : List ℕ) → Wrote r₂ p₂ relation_run p₃ r₃ → Wrote room 0 (mended_runs image) p₃ r₃
       chart-wrote p₃ r₃ w₃ = rw runs (then w₁ (then w₂ w₃))
+
+-- the four steps over the nodes, one behind another
+module _ (image room : List ℕ) (n : ℕ) (h : Fits room 0 (steps_run image n)) where
+  abbrev part_of : ℕ → List ℕ
+  part_of s = flat n (entry_part image (s + 1))
+
+  abbrev Ran : ℕ → ℕ → List ℕ → Type 0
+  Ran = Runs part_of mend_group room 0
+
+  ran-0 : Ran 0 0 room
+  ran-0 = runs-start part_of mend_group room 0
+
+  on : (k : ℕ) → k < mend_group → {p q : ℕ} {r t : List ℕ} → Ran k p r → Wrote r p (part_of k) q t → Ran (k + 1) q t
+  on k l {p} {q} {r} {t} i w = runs-more part_of mend_group room 0 k p r i q t l w
+
+  room-for : (k : ℕ) → k < mend_group → {p : ℕ} {r : List ℕ} → Ran k p r → Fits r p (part_of k)
+  room-for k l {p} {r} i = runs-fits part_of mend_group room 0 k p r i l h
+
+  pub step-fits-1 : Fits room 0 (part_of 0)
+  step-fits-1 = room-for 0 (omega arith) ran-0
+
+  module _ {p₁ : ℕ} {r₁ : List ℕ} (w₁ : Wrote room 0 (part_of 0) p₁ r₁) where
+    pub step-fits-2 : Fits r₁ p₁ (part_of 1)
+    step-fits-2 = room-for 1 (omega arith) (on 0 (omega arith) ran-0 w₁)
+
+    module _ {p₂ : ℕ} {r₂ : List ℕ} (w₂ : Wrote r₁ p₁ (part_of 1) p₂ r₂) where
+      pub step-fits-3 : Fits r₂ p₂ (part_of 2)
+      step-fits-3 = room-for 2 (omega arith) (on 1 (omega arith) (on 0 (omega arith) ran-0 w₁) w₂)
+
+      module _ {p₃ : ℕ} {r₃ : List ℕ} (w₃ : Wrote r₂ p₂ (part_of 2) p₃ r₃) where
+        ran-3 : Ran 3 p₃ r₃
+        ran-3 = on 2 (omega arith) (on 1 (omega arith) (on 0 (omega arith) ran-0 w₁) w₂) w₃
+
+        pub step-fits-4 : Fits r₃ p₃ (part_of 3)
+        step-fits-4 = room-for 3 (omega arith) ran-3
+
+        pub steps-wrote : {p₄ : ℕ} {r₄ : List ℕ} → Wrote r₃ p₃ (part_of 3) p₄ r₄ → Wrote room 0 (steps_run image n) p₄ r₄
+        steps-wrote {p₄} {r₄} w₄ = runs_done part_of mend_group room 0 4 p₄ r₄ (on 3 (omega arith) ran-3 w₄) (omega arith)
 
 module _ (image room : List ℕ) (n k : ℕ) (h : Fits room 0 (list_runs image n k)) where
   pub list-fits-1 : Fits room 0 (steps_run image n)

@@ -1,14 +1,14 @@
 -- The groups that are left after the cuts: what their table holds, and what the writers have at hand. Assumes nothing.
-use Rattle.std.specs.Prelude.{ℕ, ◌+◌, ◌≤◌, ◌<◌, ◌≡◌, Bool, true, false, not, ◌&&◌, List, length, get_or, set, replicate, eqb, ltb}
+use Rattle.std.specs.Prelude.{ℕ, ◌+◌, ◌≤◌, ◌<◌, ◌≡◌, Bool, true, false, not, ◌&&◌, List, length, get_or, set, replicate, eqb}
 use Rattle.std.proofs.Common.{sym, ◌∙◌, arith, length-set, get_or-set_same, get_or-set_other}
 use Rattle.std.proofs.Math.Bool.{or-false, or-true}
 use Rattle.std.proofs.lemmas.List.{length-replicate, get_or-replicate}
-use borrow.Author.Tests.{lt-ltb, ltb-true, eqb-true, eqb-false}
+use borrow.Author.Tests.{lt-ltb, eqb-true, eqb-false}
 use Rattle.paper.specs.Limits.{max_nodes}
-use Rattle.general.specs.Cases.{cases, both}
+use Rattle.general.specs.Cases.{cases}
 use Rattle.general.specs.Below.{some, some-step}
 use Rattle.general.specs.Scan.{at-end}
-use Rattle.records.specs.Image.{nodes, parent_of, Whole}
+use Rattle.records.specs.Image.{parent_of, Whole}
 use Rattle.nesting.specs.Nesting.{parent}
 use Rattle.mending.specs.Mending.{lowest_of_loop}
 use Rattle.mending.specs.OfImage.{group_left}
@@ -43,29 +43,24 @@ module _ {image : List ℕ} {n k a p : ℕ} {cut groups : List Bool}
   unfolding parent
   link-is i l = rw (← w.nodes, ← q, lt-ltb a n h, lt-ltb i n l, c.each a h)
 
-  pub left-on : {next : List Bool} → (ltb p n && not (get_or cut a false)) ≡ true → next ≡ set groups p true → LeftMarks image n (a + 1) next
-  left-on t e =
-      let u = both (ltb p n) (not (get_or cut a false)) t in
-      let l = ltb-true p n u.0 in
+  pub left-on : {next : List Bool} → p < n → get_or cut a false ≡ false → next ≡ set groups p true → LeftMarks image n (a + 1) next
+  left-on l t e =
       rw e (record {
         size = length-set groups p true ∙ m.size;
         each = λ i j.
-            rw (some-step a (parent_left image i), ← m.each i j, link-is i j, u.1) (cases (eqb p i)
+            rw (some-step a (parent_left image i), ← m.each i j, link-is i j, t) (cases (eqb p i)
             (λ s. rw (s, ← eqb-true p i s) (get_or-set_same groups p true false (let z = m.size in let f = w.few in omega arith) ∙ sym (or-true (get_or groups p false))))
             (λ s. rw s (get_or-set_other groups p i true false (λ z. eqb-false p i s (sym z)) ∙ sym (or-false (get_or groups i false)))));
       })
 
-  pub left-off : {next : List Bool} → (ltb p n && not (get_or cut a false)) ≡ false → next ≡ groups → LeftMarks image n (a + 1) next
+  pub left-off : {next : List Bool} → (p < n → get_or cut a false ≡ true) → next ≡ groups → LeftMarks image n (a + 1) next
   left-off t e =
       rw e (record {
         size = m.size;
         each = λ i j.
-            let none : (eqb p i && not (get_or cut a false)) ≡ false = cases (eqb p i) (λ s. rw s (rw (eqb-true p i s, lt-ltb i n j) at t)) (λ s. rw s) in
+            let none : (eqb p i && not (get_or cut a false)) ≡ false = cases (eqb p i) (λ s. rw (s, t (rw (eqb-true p i s) j))) (λ s. rw s) in
             rw (some-step a (parent_left image i), ← m.each i j, link-is i j, none) (sym (or-false (get_or groups i false)));
       })
-
-pub left_in : (image : List ℕ) (n k p : ℕ) (b : Bool) → Whole image n k → (ltb p n && b) ≡ true → p < max_nodes
-left_in image n k p b w t = let l = ltb-true p n (both (ltb p n) b t).0 in let f = w.few in omega arith
 
 pub left_end : {image : List ℕ} {n k a : ℕ} {groups : List Bool} → Whole image n k → a ≤ n → n ≤ a → LeftMarks image n a groups → GroupsLeft image n groups
 unfolding group_left

@@ -2,3 +2,4 @@
 pub mod Steps
 pub mod Groups
 pub mod Bytes
+pub mod Numbers

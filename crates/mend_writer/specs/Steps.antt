@@ -4,7 +4,7 @@ use Rattle.std.specs.Prelude.{◌≡◌, Bool, cond, ◌&&◌, ◌||◌, eqb, le
 use Rattle.std.proofs.Math.Path.{refl, sym}
 use Rattle.std.proofs.Common.{ap, ◌∙◌, arith}
 use Rattle.std.proofs.Math.Bool.{not, and-false, or-false}
-use mathlib.Core.List.{List, [], ◌++◌, append_assoc}
+use mathlib.Core.List.{List, ◌++◌, append_assoc}
 use Rattle.std.proofs.Math.ListN.{length, length-append}
 use borrow.Author.Tests.{lt-leb}
 use Rattle.paper.specs.Limits.{no_parent, flags_byte, mend_parent, mend_flags, mend_loop, mend_group, mend_relation}
@@ -12,7 +12,7 @@ use Rattle.general.specs.Cases.{cases}
 use Rattle.general.specs.Below.{tally}
 use Rattle.general.specs.Lists.{total, total-same, flat, flat-same, length-flat, packed, packed-append}
 use Rattle.general.specs.Packing.{packed-flat-parts}
-use Rattle.records.specs.Image.{nodes, relations, parent_of, flags_of, from_of, to_of, kind_of, bad_relation_at, Whole}
+use Rattle.records.specs.Image.{nodes, parent_of, flags_of, from_of, to_of, kind_of, bad_relation_at, Whole}
 use Rattle.mending.specs.Mending.{Change, node_change, relation_change, change_bytes, known_flags, lowest_of_loop}
 use Rattle.mending.specs.OfImage.{missing_at, unknown_at, existing_parent, last_parent, group_left, flagged_at, last_flags, node, relations_left, entry_if, entry_at1, entry_at2, entry_at3, entry_at4, entry_at5, entries}
 use Rattle.mending.specs.StepByStep.{lowest-has}

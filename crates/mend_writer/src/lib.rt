@@ -1,37 +1,56 @@
 // What mending writes: the groups that are left after the cuts, how many entries the list has, the list, and the chart.
 #![tactic(auto)]
 
-ghost use Rattle.std.specs.Prelude.{◌≡◌, not, ◌+◌, ◌*◌, ◌<◌, ◌≤◌, length};
-ghost use Rattle.paper.specs.Limits.{max_nodes, max_relations, chart_header, node_size, relation_size, change_size, mend_group};
-ghost use Rattle.general.specs.Below.{tally};
-ghost use Rattle.general.specs.Lists.{total, flat};
-ghost use Rattle.general.specs.Writing.{Fits, Wrote};
-ghost use Rattle.records.specs.Image.{Whole};
+ghost use Rattle.std.specs.Prelude.{◌≡◌, ◌+◌, ◌≤◌, ◌<◌, length};
+ghost use Rattle.paper.specs.Limits.{max_nodes, max_relations, chart_header, relation_size, change_size};
+ghost use Rattle.general.specs.Writing.{Wrote};
 ghost use Rattle.loop_cuts.specs.Walking.{LowestCut};
 ghost use Rattle.mending.specs.Records.{relation_bytes, header_bytes};
-ghost use Rattle.mending.specs.Mending.{change_bytes, known_flags};
-ghost use Rattle.mending.specs.OfImage.{missing_at, relations_left, node_part, relation_part, mended_runs, entries};
+ghost use Rattle.mending.specs.Mending.{known_flags};
+ghost use Rattle.mending.specs.OfImage.{relations_left};
 ghost use Rattle.mend_writer.specs.Groups.{GroupsLeft, Ready};
-ghost use Rattle.mend_writer.specs.Steps.{parent_before, flags_before, changed_at, entry_part, drop_part, steps_run, list_runs};
-ghost use Rattle.mend_writer.specs.Bytes.{change, relation};
+ghost use Rattle.mend_writer.specs.Bytes.{relation};
 
-use paper::{
-    CHART_HEADER, FLAGS_BYTE, MAX_NODES, MEND_FLAGS, MEND_GROUP, MEND_LOOP, MEND_PARENT,
-    MEND_RELATION, NO_PARENT, NODE_SIZE,
-};
+mod step;
+
+use paper::{CHART_HEADER, FLAGS_BYTE, MAX_NODES, NO_PARENT, NODE_SIZE};
+use records::ChartImage;
+use step::Step;
 
 // The flags 1, 2 and 4 lie below it.
 const STATE_FLAGS: u16 = 8;
 
+// A chart that is mended: its image, which nodes are cut from their parents, which are groups after that, and how many relations stay.
+#[derive(Clone, Copy)]
+pub struct Repair<'a> {
+    pub image: ChartImage<'a>,
+    pub cut: &'a [bool; MAX_NODES],
+    pub groups: &'a [bool; MAX_NODES],
+    pub left: usize,
+    pub ghost ready: { Ready image.bytes.now image.nodes image.relations cut.now groups.now },
+    pub ghost stays: { left ≡ relations_left image.bytes.now },
+    pub ghost few: { left ≤ image.relations },
+}
+
+// An entry of the list: which step changes which record, and the three numbers of the record before that.
+#[derive(Clone, Copy)]
+struct Change {
+    step: Step,
+    number: u16,
+    first: u16,
+    second: u16,
+    third: u16,
+}
+
 // Which nodes are groups after the cuts.
-pub fn groups_left(image: &[u8], n: usize, k: usize, cut: &[bool; MAX_NODES]) -> [bool; MAX_NODES]
-    requires { Whole image.now n k × LowestCut image.now n cut.now }
-    ensures { GroupsLeft image.now n result }
+pub fn groups_left(image: ChartImage<'_>, cut: &[bool; MAX_NODES]) -> [bool; MAX_NODES]
+    requires { LowestCut image.bytes.now image.nodes cut.now }
+    ensures { GroupsLeft image.entry.bytes.now image.entry.nodes result }
 {
     let mut groups = [false; MAX_NODES];
-    for a in 0..n {
-        let p = records::parent_of(image, a) as usize;
-        if (p < n) & !cut[a] {
+    for a in 0..image.nodes {
+        let p = image.parent_of(a) as usize;
+        if p < image.nodes && !cut[a] {
             groups[p] = true;
         }
     }
@@ -39,278 +58,22 @@ pub fn groups_left(image: &[u8], n: usize, k: usize, cut: &[bool; MAX_NODES]) ->
 }
 
 // How many relations stay.
-pub fn relations_left(image: &[u8], n: usize, k: usize) -> usize
-    requires { Whole image.now n k }
-    ensures { (result ≡ relations_left image.now) × (result ≤ k) }
+pub fn relations_left(image: ChartImage<'_>) -> usize
+    ensures { (result ≡ relations_left image.entry.bytes.now) × (result ≤ image.entry.relations) }
 {
     let mut left: usize = 0;
-    for i in 0..k {
-        left += !records::bad_relation_at(image, n, i) as usize;
+    for k in 0..image.relations {
+        left += !image.bad_relation_at(k) as usize;
     }
     left
 }
 
-// ---- one node, before a step
-
+#[tactic(auto, unfolding(mending::specs::Mending::known_flags))]
 fn known_flags(flags: u16) -> u16
     ensures { result ≡ known_flags flags }
 {
     flags % STATE_FLAGS + FLAGS_BYTE * (flags / FLAGS_BYTE)
 }
-
-fn missing_at(image: &[u8], n: usize, k: usize, i: usize) -> bool
-    requires { Whole image.now n k × (i < n) }
-    ensures { result ≡ missing_at image.now i }
-{
-    let parent = records::parent_of(image, i);
-    (parent != NO_PARENT) & (n <= parent as usize)
-}
-
-// Whether the step changes node i.
-fn changed_at<'a>(
-    image: &[u8],
-    n: usize,
-    k: usize,
-    cut: &'a [bool; MAX_NODES],
-    groups: &'a [bool; MAX_NODES],
-    step: u16,
-    i: usize,
-) -> bool
-    requires { Ready image.now n k cut.now groups.now × (i < n) }
-    ensures { result ≡ changed_at image.now step i }
-{
-    if step == MEND_PARENT {
-        return missing_at(image, n, k, i);
-    }
-    let flags = records::flags_of(image, i);
-    if step == MEND_FLAGS {
-        return known_flags(flags) != flags;
-    }
-    if step == MEND_LOOP {
-        return cut[i];
-    }
-    groups[i] & (flags % STATE_FLAGS != 0)
-}
-
-fn parent_before(
-    image: &[u8],
-    n: usize,
-    k: usize,
-    cut: &[bool; MAX_NODES],
-    step: u16,
-    i: usize,
-) -> u16
-    requires { Whole image.now n k × LowestCut image.now n cut.now × (i < n) }
-    ensures { result ≡ parent_before image.now step i }
-{
-    let missing = missing_at(image, n, k, i);
-    if (MEND_PARENT < step) & missing | (MEND_LOOP < step) & cut[i] {
-        return NO_PARENT;
-    }
-    records::parent_of(image, i)
-}
-
-fn flags_before(
-    image: &[u8],
-    n: usize,
-    k: usize,
-    groups: &[bool; MAX_NODES],
-    step: u16,
-    i: usize,
-) -> u16
-    requires { Whole image.now n k × GroupsLeft image.now n groups.now × (i < n) }
-    ensures { result ≡ flags_before image.now step i }
-{
-    let flags = records::flags_of(image, i);
-    if step <= MEND_FLAGS {
-        return flags;
-    }
-    if (MEND_GROUP < step) & groups[i] {
-        return FLAGS_BYTE * (flags / FLAGS_BYTE);
-    }
-    known_flags(flags)
-}
-
-// ---- how many entries
-
-// How many nodes the step changes.
-fn count_step<'a>(
-    image: &[u8],
-    n: usize,
-    k: usize,
-    cut: &'a [bool; MAX_NODES],
-    groups: &'a [bool; MAX_NODES],
-    step: u16,
-) -> usize
-    requires { Ready image.now n k cut.now groups.now }
-    ensures { (result ≡ tally n (changed_at image.now step)) × (result ≤ n) }
-{
-    let mut count: usize = 0;
-    for i in 0..n {
-        count += changed_at(image, n, k, cut, groups, step, i) as usize;
-    }
-    count
-}
-
-// How many changes the four steps over the nodes make.
-fn count_steps<'a>(
-    image: &[u8],
-    n: usize,
-    k: usize,
-    cut: &'a [bool; MAX_NODES],
-    groups: &'a [bool; MAX_NODES],
-) -> usize
-    requires { Ready image.now n k cut.now groups.now }
-    ensures { (result ≡ total mend_group (λ s. tally n (changed_at image.now (s + 1)))) × (result ≤ mend_group * max_nodes) }
-{
-    let mut sum: usize = 0;
-    for done in 0..MEND_GROUP {
-        sum += count_step(image, n, k, cut, groups, done + 1);
-    }
-    sum
-}
-
-// How many entries the list has, where so many relations stay.
-pub fn count_entries<'a>(
-    image: &[u8],
-    n: usize,
-    k: usize,
-    left: usize,
-    cut: &'a [bool; MAX_NODES],
-    groups: &'a [bool; MAX_NODES],
-) -> usize
-    requires { Ready image.now n k cut.now groups.now × (left ≡ relations_left image.now) × (left ≤ k) }
-    ensures { (result ≡ length (entries image.now)) × (result ≤ mend_group * max_nodes + max_relations) }
-{
-    count_steps(image, n, k, cut, groups) + (k - left)
-}
-
-// ---- the list
-
-fn put_change(
-    list: &mut [u8],
-    at: usize,
-    step: u16,
-    number: u16,
-    first: u16,
-    second: u16,
-    third: u16,
-) -> usize
-    requires { at + change_size ≤ length list.old }
-    ensures { Wrote list.old at (change_bytes (change step number first second third)) result list.new }
-{
-    wire::put16(list, at, step);
-    wire::put16(list, at + 2, number);
-    wire::put16(list, at + 4, first);
-    wire::put16(list, at + 6, second);
-    wire::put16(list, at + 8, third);
-    at + 10
-}
-
-// The entry of node i, if the step changes it: the node as it stood before the step.
-fn put_entry<'a>(
-    list: &mut [u8],
-    at: usize,
-    image: &'a [u8],
-    n: usize,
-    k: usize,
-    cut: &'a [bool; MAX_NODES],
-    groups: &'a [bool; MAX_NODES],
-    step: u16,
-    i: usize,
-) -> usize
-    requires { Ready image.now n k cut.now groups.now × (i < n) × Fits list.old at (entry_part image.now step i) }
-    ensures { Wrote list.old at (entry_part image.now step i) result list.new }
-{
-    if !changed_at(image, n, k, cut, groups, step, i) {
-        return at;
-    }
-    let parent = parent_before(image, n, k, cut, step, i);
-    let flags = flags_before(image, n, k, groups, step, i);
-    put_change(list, at, step, i as u16, parent, flags, 0)
-}
-
-fn put_step<'a>(
-    list: &mut [u8],
-    at: usize,
-    image: &'a [u8],
-    n: usize,
-    k: usize,
-    cut: &'a [bool; MAX_NODES],
-    groups: &'a [bool; MAX_NODES],
-    step: u16,
-) -> usize
-    requires { Ready image.now n k cut.now groups.now × Fits list.old at (flat n (entry_part image.now step)) }
-    ensures { Wrote list.old at (flat n (entry_part image.now step)) result list.new }
-{
-    let mut next = at;
-    for i in 0..n {
-        next = put_entry(list, next, image, n, k, cut, groups, step, i);
-    }
-    next
-}
-
-// The entries of the four steps over the nodes.
-fn put_steps<'a>(
-    list: &mut [u8],
-    image: &'a [u8],
-    n: usize,
-    k: usize,
-    cut: &'a [bool; MAX_NODES],
-    groups: &'a [bool; MAX_NODES],
-) -> usize
-    requires { Ready image.now n k cut.now groups.now × Fits list.old 0 (steps_run image.now n) }
-    ensures { Wrote list.old 0 (steps_run image.now n) result list.new }
-{
-    let mut next: usize = 0;
-    for done in 0..MEND_GROUP {
-        next = put_step(list, next, image, n, k, cut, groups, done + 1);
-    }
-    next
-}
-
-// The entry of relation i, if it is dropped.
-fn put_drop(list: &mut [u8], at: usize, image: &[u8], n: usize, k: usize, i: usize) -> usize
-    requires { Whole image.now n k × (i < k) × Fits list.old at (drop_part image.now i) }
-    ensures { Wrote list.old at (drop_part image.now i) result list.new }
-{
-    if !records::bad_relation_at(image, n, i) {
-        return at;
-    }
-    let from = records::from_of(image, n, i);
-    let to = records::to_of(image, n, i);
-    let kind = records::kind_of(image, n, i);
-    put_change(list, at, MEND_RELATION, i as u16, from, to, kind)
-}
-
-fn put_drops(list: &mut [u8], at: usize, image: &[u8], n: usize, k: usize) -> usize
-    requires { Whole image.now n k × Fits list.old at (flat k (drop_part image.now)) }
-    ensures { Wrote list.old at (flat k (drop_part image.now)) result list.new }
-{
-    let mut next = at;
-    for i in 0..k {
-        next = put_drop(list, next, image, n, k, i);
-    }
-    next
-}
-
-// The whole list, step behind step.
-pub fn put_list<'a>(
-    list: &mut [u8],
-    image: &'a [u8],
-    n: usize,
-    k: usize,
-    cut: &'a [bool; MAX_NODES],
-    groups: &'a [bool; MAX_NODES],
-) -> usize
-    requires { Ready image.now n k cut.now groups.now × Fits list.old 0 (list_runs image.now n k) }
-    ensures { Wrote list.old 0 (list_runs image.now n k) result list.new }
-{
-    let drops = put_steps(list, image, n, k, cut, groups);
-    put_drops(list, drops, image, n, k)
-}
-
-// ---- the chart
 
 // Both counts, and where the parts lie.
 fn put_header(chart: &mut [u8], n: usize, left: usize) -> usize
@@ -324,45 +87,6 @@ fn put_header(chart: &mut [u8], n: usize, left: usize) -> usize
     CHART_HEADER
 }
 
-fn put_node<'a>(
-    chart: &mut [u8],
-    at: usize,
-    image: &'a [u8],
-    n: usize,
-    k: usize,
-    cut: &'a [bool; MAX_NODES],
-    groups: &'a [bool; MAX_NODES],
-    i: usize,
-) -> usize
-    requires { Ready image.now n k cut.now groups.now × (i < n) × (at + node_size ≤ length chart.old) }
-    ensures { Wrote chart.old at (node_part image.now i) result chart.new }
-{
-    let parent = parent_before(image, n, k, cut, MEND_RELATION, i);
-    let flags = flags_before(image, n, k, groups, MEND_RELATION, i);
-    wire::put16(chart, at, parent);
-    wire::put16(chart, at + 2, flags);
-    at + 4
-}
-
-fn put_nodes<'a>(
-    chart: &mut [u8],
-    at: usize,
-    image: &'a [u8],
-    n: usize,
-    k: usize,
-    cut: &'a [bool; MAX_NODES],
-    groups: &'a [bool; MAX_NODES],
-) -> usize
-    requires { Ready image.now n k cut.now groups.now × Fits chart.old at (flat n (node_part image.now)) }
-    ensures { Wrote chart.old at (flat n (node_part image.now)) result chart.new }
-{
-    let mut next = at;
-    for i in 0..n {
-        next = put_node(chart, next, image, n, k, cut, groups, i);
-    }
-    next
-}
-
 fn put_record(chart: &mut [u8], at: usize, from: u16, to: u16, kind: u16) -> usize
     requires { at + relation_size ≤ length chart.old }
     ensures { Wrote chart.old at (relation_bytes (relation from to kind)) result chart.new }
@@ -373,45 +97,251 @@ fn put_record(chart: &mut [u8], at: usize, from: u16, to: u16, kind: u16) -> usi
     at + 6
 }
 
-// Relation i, if it stays.
-fn put_relation(chart: &mut [u8], at: usize, image: &[u8], n: usize, k: usize, i: usize) -> usize
-    requires { Whole image.now n k × (i < k) × Fits chart.old at (relation_part image.now i) }
-    ensures { Wrote chart.old at (relation_part image.now i) result chart.new }
-{
-    if records::bad_relation_at(image, n, i) {
-        return at;
+impl Change {
+    ghost use Rattle.mending.specs.Mending.{change_bytes};
+    ghost use Rattle.mend_writer.specs.Numbers.{change_of};
+
+    fn put(self, list: &mut [u8], at: usize) -> usize
+        requires { at + change_size ≤ length list.old }
+        ensures { Wrote list.old at (change_bytes (change_of self)) result list.new }
+    {
+        wire::put16(list, at, self.step.number());
+        wire::put16(list, at + 2, self.number);
+        wire::put16(list, at + 4, self.first);
+        wire::put16(list, at + 6, self.second);
+        wire::put16(list, at + 8, self.third);
+        at + 10
     }
-    let from = records::from_of(image, n, i);
-    let to = records::to_of(image, n, i);
-    let kind = records::kind_of(image, n, i);
-    put_record(chart, at, from, to, kind)
 }
 
-fn put_relations(chart: &mut [u8], at: usize, image: &[u8], n: usize, k: usize) -> usize
-    requires { Whole image.now n k × Fits chart.old at (flat k (relation_part image.now)) }
-    ensures { Wrote chart.old at (flat k (relation_part image.now)) result chart.new }
-{
-    let mut next = at;
-    for i in 0..k {
-        next = put_relation(chart, next, image, n, k, i);
-    }
-    next
-}
+impl<'a> Repair<'a> {
+    ghost use Rattle.std.specs.Prelude.{◌*◌};
+    ghost use Rattle.paper.specs.Limits.{node_size, mend_group};
+    ghost use Rattle.general.specs.Below.{tally};
+    ghost use Rattle.general.specs.Lists.{total, flat};
+    ghost use Rattle.general.specs.Writing.{Fits};
+    ghost use Rattle.mending.specs.OfImage.{missing_at, node_part, relation_part, mended_runs, entries};
+    ghost use Rattle.mend_writer.specs.Steps.{parent_before, flags_before, changed_at, entry_part, drop_part, steps_run, list_runs};
+    ghost use Rattle.mend_writer.specs.Bytes.{step_count};
+    ghost use Rattle.mend_writer.specs.Numbers.{step_number};
 
-// The whole chart, where so many relations stay.
-pub fn put_chart<'a>(
-    chart: &mut [u8],
-    image: &'a [u8],
-    n: usize,
-    k: usize,
-    left: usize,
-    cut: &'a [bool; MAX_NODES],
-    groups: &'a [bool; MAX_NODES],
-) -> usize
-    requires { Ready image.now n k cut.now groups.now × (left ≡ relations_left image.now) × (left ≤ k) × Fits chart.old 0 (mended_runs image.now) }
-    ensures { Wrote chart.old 0 (mended_runs image.now) result chart.new }
-{
-    let nodes = put_header(chart, n, left);
-    let relations = put_nodes(chart, nodes, image, n, k, cut, groups);
-    put_relations(chart, relations, image, n, k)
+    // ---- one node, before a step
+
+    #[tactic(auto, unfolding(mending::specs::OfImage::missing_at))]
+    fn missing_at(self, i: usize) -> bool
+        requires { i < self.image.nodes }
+        ensures { result ≡ missing_at self.entry.image.bytes.now i }
+    {
+        let parent = self.image.parent_of(i);
+        (parent != NO_PARENT) & (self.image.nodes <= parent as usize)
+    }
+
+    // Whether the step changes node i.
+    fn changed_at(self, step: Step, i: usize) -> bool
+        requires { i < self.image.nodes }
+        ensures { result ≡ changed_at self.entry.image.bytes.now (step_number step) i }
+    {
+        let flags = self.image.flags_of(i);
+        match step {
+            Step::Parent => self.missing_at(i),
+            Step::Flags => known_flags(flags) != flags,
+            Step::Loop => self.cut[i],
+            Step::Group | Step::Relation => self.groups[i] & (flags % STATE_FLAGS != 0),
+        }
+    }
+
+    fn parent_before(self, step: Step, i: usize) -> u16
+        requires { i < self.image.nodes }
+        ensures { result ≡ parent_before self.entry.image.bytes.now (step_number step) i }
+    {
+        let missing = self.missing_at(i);
+        if step.is_after(Step::Parent) & missing | step.is_after(Step::Loop) & self.cut[i] {
+            return NO_PARENT;
+        }
+        self.image.parent_of(i)
+    }
+
+    fn flags_before(self, step: Step, i: usize) -> u16
+        requires { i < self.image.nodes }
+        ensures { result ≡ flags_before self.entry.image.bytes.now (step_number step) i }
+    {
+        let flags = self.image.flags_of(i);
+        if !step.is_after(Step::Flags) {
+            return flags;
+        }
+        if step.is_after(Step::Group) & self.groups[i] {
+            return FLAGS_BYTE * (flags / FLAGS_BYTE);
+        }
+        known_flags(flags)
+    }
+
+    // ---- how many entries
+
+    // How many nodes the step changes.
+    fn count_step(self, step: Step) -> usize
+        ensures { (result ≡ tally self.entry.image.nodes (changed_at self.entry.image.bytes.now (step_number step))) × (result ≤ max_nodes) }
+    {
+        let mut count: usize = 0;
+        for i in 0..self.image.nodes {
+            count += self.changed_at(step, i) as usize;
+        }
+        count
+    }
+
+    // How many changes the four steps over the nodes make.
+    fn count_steps(self) -> usize
+        ensures { (result ≡ total mend_group (step_count self.entry.image.bytes.now self.entry.image.nodes)) × (result ≤ mend_group * max_nodes) }
+    {
+        let parents = self.count_step(Step::Parent);
+        let flags = self.count_step(Step::Flags);
+        let loops = self.count_step(Step::Loop);
+        let groups = self.count_step(Step::Group);
+        parents + flags + loops + groups
+    }
+
+    // How many entries the list has.
+    pub fn count_entries(self) -> usize
+        ensures { (result ≡ length (entries self.entry.image.bytes.now)) × (result ≤ mend_group * max_nodes + max_relations) }
+    {
+        self.count_steps() + (self.image.relations - self.left)
+    }
+
+    // ---- the list
+
+    // The entry of node i, if the step changes it: the node as it stood before the step.
+    fn put_entry(self, list: &mut [u8], at: usize, step: Step, i: usize) -> usize
+        requires { (i < self.image.nodes) × Fits list.old at (entry_part self.image.bytes.now (step_number step) i) }
+        ensures { Wrote list.old at (entry_part self.entry.image.bytes.now (step_number step) i) result list.new }
+    {
+        if !self.changed_at(step, i) {
+            return at;
+        }
+        let change = Change {
+            step,
+            number: i as u16,
+            first: self.parent_before(step, i),
+            second: self.flags_before(step, i),
+            third: 0,
+        };
+        change.put(list, at)
+    }
+
+    fn put_step(self, list: &mut [u8], at: usize, step: Step) -> usize
+        requires { Fits list.old at (flat self.image.nodes (entry_part self.image.bytes.now (step_number step))) }
+        ensures { Wrote list.old at (flat self.entry.image.nodes (entry_part self.entry.image.bytes.now (step_number step))) result list.new }
+    {
+        let mut next = at;
+        for i in 0..self.image.nodes {
+            next = self.put_entry(list, next, step, i);
+        }
+        next
+    }
+
+    // The entries of the four steps over the nodes.
+    fn put_steps(self, list: &mut [u8]) -> usize
+        requires { Fits list.old 0 (steps_run self.image.bytes.now self.image.nodes) }
+        ensures { Wrote list.old 0 (steps_run self.entry.image.bytes.now self.entry.image.nodes) result list.new }
+    {
+        let parents = self.put_step(list, 0, Step::Parent);
+        let flags = self.put_step(list, parents, Step::Flags);
+        let loops = self.put_step(list, flags, Step::Loop);
+        self.put_step(list, loops, Step::Group)
+    }
+
+    // The entry of relation k, if it is dropped.
+    fn put_drop(self, list: &mut [u8], at: usize, k: usize) -> usize
+        requires { (k < self.image.relations) × Fits list.old at (drop_part self.image.bytes.now k) }
+        ensures { Wrote list.old at (drop_part self.entry.image.bytes.now k) result list.new }
+    {
+        if !self.image.bad_relation_at(k) {
+            return at;
+        }
+        let change = Change {
+            step: Step::Relation,
+            number: k as u16,
+            first: self.image.from_of(k),
+            second: self.image.to_of(k),
+            third: self.image.kind_of(k),
+        };
+        change.put(list, at)
+    }
+
+    fn put_drops(self, list: &mut [u8], at: usize) -> usize
+        requires { Fits list.old at (flat self.image.relations (drop_part self.image.bytes.now)) }
+        ensures { Wrote list.old at (flat self.entry.image.relations (drop_part self.entry.image.bytes.now)) result list.new }
+    {
+        let mut next = at;
+        for k in 0..self.image.relations {
+            next = self.put_drop(list, next, k);
+        }
+        next
+    }
+
+    // The whole list, step behind step.
+    pub fn put_list(self, list: &mut [u8]) -> usize
+        requires { Fits list.old 0 (list_runs self.image.bytes.now self.image.nodes self.image.relations) }
+        ensures { Wrote list.old 0 (list_runs self.entry.image.bytes.now self.entry.image.nodes self.entry.image.relations) result list.new }
+    {
+        let drops = self.put_steps(list);
+        self.put_drops(list, drops)
+    }
+
+    // ---- the chart
+
+    fn put_node(self, chart: &mut [u8], at: usize, i: usize) -> usize
+        requires { (i < self.image.nodes) × (at + node_size ≤ length chart.old) }
+        ensures { Wrote chart.old at (node_part self.entry.image.bytes.now i) result chart.new }
+    {
+        let parent = self.parent_before(Step::Relation, i);
+        let flags = self.flags_before(Step::Relation, i);
+        wire::put16(chart, at, parent);
+        wire::put16(chart, at + 2, flags);
+        at + 4
+    }
+
+    fn put_nodes(self, chart: &mut [u8], at: usize) -> usize
+        requires { Fits chart.old at (flat self.image.nodes (node_part self.image.bytes.now)) }
+        ensures { Wrote chart.old at (flat self.entry.image.nodes (node_part self.entry.image.bytes.now)) result chart.new }
+    {
+        let mut next = at;
+        for i in 0..self.image.nodes {
+            next = self.put_node(chart, next, i);
+        }
+        next
+    }
+
+    // Relation k, if it stays.
+    fn put_relation(self, chart: &mut [u8], at: usize, k: usize) -> usize
+        requires { (k < self.image.relations) × Fits chart.old at (relation_part self.image.bytes.now k) }
+        ensures { Wrote chart.old at (relation_part self.entry.image.bytes.now k) result chart.new }
+    {
+        if self.image.bad_relation_at(k) {
+            return at;
+        }
+        let from = self.image.from_of(k);
+        let to = self.image.to_of(k);
+        let kind = self.image.kind_of(k);
+        put_record(chart, at, from, to, kind)
+    }
+
+    fn put_relations(self, chart: &mut [u8], at: usize) -> usize
+        requires { Fits chart.old at (flat self.image.relations (relation_part self.image.bytes.now)) }
+        ensures { Wrote chart.old at (flat self.entry.image.relations (relation_part self.entry.image.bytes.now)) result chart.new }
+    {
+        let mut next = at;
+        for k in 0..self.image.relations {
+            next = self.put_relation(chart, next, k);
+        }
+        next
+    }
+
+    // The whole chart.
+    pub fn put_chart(self, chart: &mut [u8]) -> usize
+        requires { Fits chart.old 0 (mended_runs self.image.bytes.now) }
+        ensures { Wrote chart.old 0 (mended_runs self.entry.image.bytes.now) result chart.new }
+    {
+        let nodes = put_header(chart, self.image.nodes, self.left);
+        let relations = self.put_nodes(chart, nodes);
+        self.put_relations(chart, relations)
+    }
 }

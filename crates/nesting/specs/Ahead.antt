@@ -128,6 +128,3 @@ module _ {image : List ℕ} {n k a : ℕ} (w : Whole image n k) (h : a < n) wher
               let b = m.near t in
               omega arith;
         }
-
-    pub returning-end : n ≤ i → false ≡ on_loop_at image a
-    returning-end l = sym (not_so (λ t. let b = m.near t in omega arith))

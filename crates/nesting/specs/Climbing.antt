@@ -10,7 +10,7 @@ use Rattle.std.proofs.Math.Dec.{eqb}
 use borrow.Author.Tests.{lt-ltb, le-ltb, ltb-true, ltb-false, eq-eqb, ne_eqb, eqb-true, eqb-false, not-true, not-false}
 use Rattle.paper.specs.Limits.{max_nodes}
 use Rattle.general.specs.Cases.{contra, cases, both, all3, either, or_right, not_so, same_test}
-use Rattle.general.specs.Below.{some, some_of, some-none, first, first-is, first-none, tally, tally-less}
+use Rattle.general.specs.Below.{some, some_of, some-none, first, first-none, tally, tally-less}
 use Rattle.closure.specs.Closure.{Way, hop, via, trans, wider}
 use Rattle.records.specs.Image.{nodes, parent_of, Whole}
 use Rattle.nesting.specs.Nesting.{parent, nested, at_or_above, on_loop_at, nested-so}
@@ -100,9 +100,6 @@ module _ (image : List ℕ) where
       let e = tally-less (nodes image) (nested image c) (nested image p) p l (above p ∙ rw (eq-eqb p p refl)) (s p l) (λ g i n. above g ∙ rw (ne_eqb p g (λ z. n (sym z)))) in
       rw t (omega arith))
       (λ t. rw t (omega arith)))
-
-  pub straight-is : {n r : ℕ} → n ≡ nodes image → r ≡ first n (on_loop_at image) → n ≤ r → Straight image
-  straight-is {n} e f h a l = (first-is n (on_loop_at image)).lowest a (rw (← f) (omega arith))
 
 -- ---- stamps: a walk over the nodes that climbs from each, and stamps those that have no stamp yet
 

@@ -1,13 +1,12 @@
 -- What the tables hold that the reader fills on its way: the groups and the events' nodes. Assumes nothing.
 use Rattle.std.specs.Prelude.{ℕ, ◌+◌, ◌≤◌, ◌<◌, ◌≡◌, refl, Bool, true, false, not, cond, ◌&&◌, ◌||◌, List, length, get_or, set, replicate, eqb, ltb}
-use Rattle.std.proofs.Common.{sym, ◌∙◌, add-one, arith, length-set, get_or-set_same, get_or-set_other, lt-ltb, le-ltb, ltb-true, ltb-false, ne_eqb, eqb-true}
+use Rattle.std.proofs.Common.{sym, ◌∙◌, add-one, arith, length-set, get_or-set_same, get_or-set_other, lt-ltb, ltb-true, ltb-false, ne_eqb, eqb-true}
 use Rattle.std.proofs.Math.Bool.{or-false}
 use Rattle.std.proofs.lemmas.List.{length-replicate, get_or-replicate}
-use Rattle.std.proofs.lemmas.Bool.{eqb-false, not-true, not-false}
+use Rattle.std.proofs.lemmas.Bool.{eqb-false, not-true}
 use Rattle.paper.specs.Limits.{max_nodes, max_events}
 use Rattle.general.specs.Cases.{contra, cases, lt-suc}
 use Rattle.general.specs.Below.{some, some-step, tally}
-use Rattle.general.specs.Scan.{at-end}
 use Rattle.general.specs.Numbering.{tally-lt}
 use Rattle.records.specs.Image.{nodes, parent_of, state_of, Whole}
 use Rattle.nesting.specs.Nesting.{parent}
@@ -16,14 +15,6 @@ use Rattle.nesting.specs.Nesting.{parent}
 
 unfoldable pub mark_at : List Bool → ℕ → ℕ → List Bool
 mark_at groups n p = cond (ltb p n) (set groups p true) groups
-
-pub mark_on : (groups : List Bool) (n p : ℕ) → p < n → set groups p true ≡ mark_at groups n p
-unfolding mark_at
-mark_on groups n p h = rw (lt-ltb p n h)
-
-pub mark-off : (groups : List Bool) (n p : ℕ) → n ≤ p → groups ≡ mark_at groups n p
-unfolding mark_at
-mark-off groups n p h = rw (le-ltb p n h)
 
 -- the groups that the first a nodes have for parents
 pub record Marks (image : List ℕ) (n a : ℕ) (groups : List Bool) : Type 0 where
@@ -67,9 +58,6 @@ marks-more {image} {n} {k} {a} {p} {groups} {next} w m h q e =
     or-is-true true = refl
     or-is-true false = refl
 
-pub marks-end : {image : List ℕ} {n a : ℕ} {groups : List Bool} → a ≤ n → n ≤ a → Marks image n a groups → Groups image n groups
-marks-end {image} {n} {a} {groups} = at-end (λ (a : ℕ). Marks image n a groups)
-
 -- ---- the node of each event
 
 -- of the first i nodes, each event stands at its number
@@ -79,12 +67,6 @@ pub record EventNodes (groups : List Bool) (i : ℕ) (nodes : List ℕ) : Type 0
 
 pub numbered-none : (groups : List Bool) → EventNodes groups 0 (replicate max_events 0)
 numbered-none groups = record { size = length-replicate {A = ℕ} max_events 0; each = λ x h. absurd (omega arith) }
-
-pub put_on : (group : Bool) (old new : List ℕ) → not group ≡ true → new ≡ cond group old new
-put_on group old new h = rw (not-true group h)
-
-pub put-off : (group : Bool) (old new : List ℕ) → not group ≡ false → old ≡ cond group old new
-put-off group old new h = rw (not-false group h)
 
 -- one more number is below the limit, where the count of all is
 pub number_fits : (f : ℕ → Bool) (n i : ℕ) → i < n → f i ≡ true → tally n f ≤ max_events → tally i f < max_events
@@ -102,6 +84,3 @@ numbered_more {groups} {nodes} {next} {n} {i} {e} m q h l p =
           (λ z. rw (z, ← q) (get_or-set_same nodes e i 0 (let s = m.size in let y = number_fits (is_event_in groups) n i h (rw t) l in omega arith)))
           (λ o. get_or-set_other nodes e (tally x (is_event_in groups)) i 0 (λ z. let y = tally-lt (is_event_in groups) x i o g in omega arith) ∙ m.each x o g);
     })))
-
-pub numbered-end : {groups : List Bool} {nodes : List ℕ} {n i : ℕ} → i ≤ n → n ≤ i → EventNodes groups i nodes → EventNodes groups n nodes
-numbered-end {groups} {nodes} = at-end (λ (i : ℕ). EventNodes groups i nodes)

@@ -1,2 +1,3 @@
 -- The root of the crate's specs.
+pub mod Found
 pub mod Image
