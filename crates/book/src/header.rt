@@ -40,15 +40,16 @@ pub fn counts_at(image: &[u8]) -> Counts
     }
 }
 
+#[tactic(auto, unfolding(crate::specs::Judging::counts_fit))]
 pub fn counts_fit(h: Counts) -> bool
     ensures { result ≡ counts_fit h }
 {
-    (h.stages as usize <= MAX_EVENTS)
-        & (h.stages <= h.marks)
-        & (h.marks as usize <= MAX_MARKS)
-        & (h.rules as usize <= MAX_RULES)
-        & (h.conditions as usize <= MAX_CONDITIONS)
-        & (h.words as usize <= MAX_WORDS)
+    h.stages as usize <= MAX_EVENTS
+        && h.stages <= h.marks
+        && h.marks as usize <= MAX_MARKS
+        && h.rules as usize <= MAX_RULES
+        && h.conditions as usize <= MAX_CONDITIONS
+        && h.words as usize <= MAX_WORDS
 }
 
 // The byte at which the conditions begin.
@@ -65,14 +66,15 @@ pub fn words_from(rules: u32, conditions: u32) -> usize
     BOOK_HEADER + RULE_SIZE * (rules as usize) + CONDITION_SIZE * (conditions as usize)
 }
 
+#[tactic(auto, unfolding(crate::specs::Judging::layout_fits))]
 pub fn layout_fits(image: &[u8], h: Counts) -> bool
     requires { book_header ≤ length image.now }
     ensures { result ≡ layout_fits image.now h }
 {
     let words = words_from(h.rules, h.conditions);
     let end = words + WORD_SIZE * (h.words as usize);
-    (wire::u32_at(image, RULES_OFFSET_AT) as usize == BOOK_HEADER)
-        & (wire::u32_at(image, CONDITIONS_OFFSET_AT) as usize == conditions_from(h.rules))
-        & (wire::u32_at(image, WORDS_OFFSET_AT) as usize == words)
-        & (image.len() == end)
+    wire::u32_at(image, RULES_OFFSET_AT) as usize == BOOK_HEADER
+        && wire::u32_at(image, CONDITIONS_OFFSET_AT) as usize == conditions_from(h.rules)
+        && wire::u32_at(image, WORDS_OFFSET_AT) as usize == words
+        && image.len() == end
 }

@@ -62,6 +62,7 @@ pub struct Snapshot {
 
 impl Snapshot {
     // Every mark no.
+    #[tactic(auto, unfolding(crate::specs::Effects::empty_snapshot))]
     pub fn empty() -> Snapshot
         ensures { result ≡ empty_snapshot }
     {

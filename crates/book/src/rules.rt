@@ -43,50 +43,42 @@ pub const EFFECT_CLEAR: u8 = 0;
 
 pub const EFFECT_SET: u8 = 1;
 
+#[tactic(auto, unfolding(crate::specs::Judging::trigger_fits))]
 fn trigger_fits(kind: u8, n: u16, stages: u32, marks: u32) -> bool
     ensures { result ≡ trigger_fits stages marks kind n }
 {
     match kind {
         TRIGGER_NONE => n == 0,
         TRIGGER_COMPLETED => (n as u32) < stages,
-        TRIGGER_BECOME_YES => (n as u32) < marks,
-        TRIGGER_BECOME_NO => (n as u32) < marks,
+        TRIGGER_BECOME_YES | TRIGGER_BECOME_NO => (n as u32) < marks,
         _ => false,
     }
 }
 
+#[tactic(auto, unfolding(crate::specs::Judging::sense_fits))]
 fn sense_fits(sense: u8, c: u16, conditions: u32) -> bool
     ensures { result ≡ sense_fits conditions sense c }
 {
     match sense {
         SENSE_NONE => c == 0,
-        SENSE_AS_WRITTEN => (c as u32) < conditions,
-        SENSE_NEGATED => (c as u32) < conditions,
+        SENSE_AS_WRITTEN | SENSE_NEGATED => (c as u32) < conditions,
         _ => false,
     }
 }
 
+#[tactic(auto, unfolding(crate::specs::Judging::rule_fits))]
 fn rule_fits(image: &[u8], at: usize, stages: u32, marks: u32, conditions: u32) -> bool
     requires { at + rule_size ≤ length image.now }
     ensures { result ≡ rule_fits stages marks conditions image.now at }
 {
-    let trigger = trigger_fits(
-        image[at],
-        wire::u16_at(image, at + NUMBER_AT),
-        stages,
-        marks,
-    );
-    let sense = sense_fits(
-        image[at + SENSE_AT],
-        wire::u16_at(image, at + CONDITION_AT),
-        conditions,
-    );
+    let number = wire::u16_at(image, at + NUMBER_AT);
+    let condition = wire::u16_at(image, at + CONDITION_AT);
     let target = wire::u16_at(image, at + TARGET_AT) as u32;
-    trigger
-        & sense
-        & (image[at + EFFECT_AT] <= EFFECT_SET)
-        & (image[at + SPARE_AT] == 0)
-        & (target < marks)
+    trigger_fits(image[at], number, stages, marks)
+        && sense_fits(image[at + SENSE_AT], condition, conditions)
+        && image[at + EFFECT_AT] <= EFFECT_SET
+        && image[at + SPARE_AT] == 0
+        && target < marks
 }
 
 // The lowest rule that is bad, or the number of rules.
@@ -94,22 +86,16 @@ pub fn first_bad_rule(image: &[u8], rules: u32, stages: u32, marks: u32, conditi
     requires { book_header + rule_size * rules ≤ length image.now }
     ensures { result ≡ first rules (λ k. not (rule_fits stages marks conditions image.now (rule_place k))) }
 {
-    let mut r: u32 = 0;
-    while r < rules {
-        if !rule_fits(
-            image,
-            BOOK_HEADER + RULE_SIZE * (r as usize),
-            stages,
-            marks,
-            conditions,
-        ) {
+    for r in 0..rules {
+        let at = BOOK_HEADER + RULE_SIZE * (r as usize);
+        if !rule_fits(image, at, stages, marks, conditions) {
             return r;
         }
-        r += 1;
     }
-    r
+    rules
 }
 
+#[tactic(auto, unfolding(crate::specs::Image::trigger_from))]
 fn trigger_of(kind: u8, n: u16) -> Trigger
     ensures { result ≡ trigger_from kind n }
 {
@@ -121,6 +107,7 @@ fn trigger_of(kind: u8, n: u16) -> Trigger
     }
 }
 
+#[tactic(auto, unfolding(crate::specs::Image::sense_from))]
 fn sense_of(sense: u8, c: u16) -> Sense
     ensures { result ≡ sense_from sense c }
 {
@@ -131,6 +118,7 @@ fn sense_of(sense: u8, c: u16) -> Sense
     }
 }
 
+#[tactic(auto, unfolding(crate::specs::Image::rule_from))]
 pub fn rule_at(image: &[u8], i: usize) -> Rule
     requires { rule_place i + rule_size ≤ length image.now }
     ensures { result ≡ rule_from image.now (rule_place i) }

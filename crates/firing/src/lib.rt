@@ -10,7 +10,7 @@ ghost use Rattle.book.specs.Firing.{triggered, allowed, firing};
 ghost use Rattle.book.specs.WellRead.{trigger_exists, sense_exists, RuleFormed, Opened};
 
 use book::header::words_from;
-use book::reader::condition_in;
+use book::reader::BookReader;
 use book::{Counts, Rule, Sense, Trigger};
 use paper::{MAX_MARKS, WORD_SIZE};
 use texts::eval::text_holds;
@@ -20,16 +20,13 @@ pub fn condition_holds(image: &[u8], counts: Counts, c: usize, marks: &[bool; MA
     requires { (Opened image.now counts) × (c < conditions_in image.now) }
     ensures { result ≡ holds (snap_of marks.now) (text_of (book_of image.now) c) }
 {
-    let span = condition_in(image, counts, c);
-    let from = words_from(counts.rules, counts.conditions);
-    text_holds(
-        image,
-        from + WORD_SIZE * (span.start as usize),
-        span.count as usize,
-        marks,
-    )
+    let book = BookReader { image, counts };
+    let span = book.condition(c);
+    let at = words_from(counts.rules, counts.conditions) + WORD_SIZE * (span.start as usize);
+    text_holds(image, at, span.count as usize, marks)
 }
 
+#[tactic(auto, unfolding(book::specs::Firing::allowed, book::specs::WellRead::sense_exists))]
 pub fn sense_holds(image: &[u8], counts: Counts, sense: Sense, marks: &[bool; MAX_MARKS]) -> bool
     requires { (Opened image.now counts) × (sense_exists (conditions_in image.now) sense ≡ true) }
     ensures { result ≡ allowed (text_of (book_of image.now)) sense (snap_of marks.now) }
@@ -42,6 +39,7 @@ pub fn sense_holds(image: &[u8], counts: Counts, sense: Sense, marks: &[bool; MA
 }
 
 // The marks at the start of the call, and as they now stand.
+#[tactic(auto, unfolding(book::specs::Firing::triggered, book::specs::WellRead::trigger_exists))]
 pub fn trigger_holds<'a>(
     trigger: Trigger,
     stage: u32,
@@ -70,10 +68,6 @@ pub fn rule_fires<'a>(
     requires { (Opened image.now counts) × (RuleFormed (stages_in image.now) (marks_in image.now) (conditions_in image.now) rule) }
     ensures { result ≡ firing (text_of (book_of image.now)) (snap_of start.now) stage (snap_of marks.now) rule }
 {
-    let trigger = rule.trigger;
-    if !trigger_holds(trigger, stage, start, marks) {
-        return false;
-    }
-    let sense = rule.sense;
-    sense_holds(image, counts, sense, marks)
+    trigger_holds(rule.trigger, stage, start, marks)
+        && sense_holds(image, counts, rule.sense, marks)
 }

@@ -21,14 +21,14 @@ use Rattle.texts.specs.Noted.{Added, record_words, Named}
 -- ---- a word
 
 module _ (named : List ℕ) (w : ℕ) (l : length named ≡ mark_words) where
-  pub mark-added : (one word : ℕ) → w < max_marks → one ≡ only (w % word_bits) → word ≡ union (get_or named (w / word_bits) 0) one → Added named (w ∷ []) (set named (w / word_bits) word)
+  pub mark_added : (one word : ℕ) → w < max_marks → one ≡ only (w % word_bits) → word ≡ union (get_or named (w / word_bits) 0) one → Added named (w ∷ []) (set named (w / word_bits) word)
   unfolding elem
-  mark-added one word h o e =
+  mark_added one word h o e =
       rw (e, o) (record { long = length-set named (w / word_bits) _; names = λ m i. has-marked named w m (omega arith) ∙ rw (or-false (eqb m w)) })
 
-  pub none-added : max_marks ≤ w → Added named (w ∷ []) named
+  pub none_added : max_marks ≤ w → Added named (w ∷ []) named
   unfolding elem
-  none-added h = record { long = refl; names = λ m i. rw (ne_eqb m w (λ q. omega arith)) (sym (or-false (has_mark named m))) }
+  none_added h = record { long = refl; names = λ m i. rw (ne_eqb m w (λ q. omega arith)) (sym (or-false (has_mark named m))) }
 
 -- ---- a text
 
@@ -77,6 +77,3 @@ named_more s R Q k named after f a =
           ∙ rw (some-step k (λ c. elem m (record_words s (condition_place R Q) (condition_place R c))))
           (ap (λ (b : Bool). b || elem m (record_words s (condition_place R Q) (condition_place R k))) (f.names m h));
     }
-
-pub named-ends : (s : List ℕ) (R Q k : ℕ) (named : List ℕ) → Named s R Q k named → k ≤ Q → Q ≤ k → Named s R Q Q named
-named-ends s R Q k named f h l = let e : k ≡ Q = omega arith in rw e at f

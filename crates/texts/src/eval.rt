@@ -16,8 +16,7 @@ pub fn text_holds(image: &[u8], at: usize, count: usize, marks: &[bool; MAX_MARK
 {
     // One bit for each value, the top one lowest.
     let mut values: u32 = 0;
-    let mut i = 0;
-    while i < count {
+    for i in 0..count {
         let w = wire::u16_at(image, at + WORD_SIZE * i);
         values = match w {
             0..=LAST_MARK => (values << 1) | (marks[w as usize] as u32),
@@ -26,7 +25,6 @@ pub fn text_holds(image: &[u8], at: usize, count: usize, marks: &[bool; MAX_MARK
             // A good text has no other word.
             _ => values ^ 1,
         };
-        i += 1;
     }
     values == 1
 }

@@ -20,15 +20,15 @@ use book::header::{conditions_from, words_from};
 use paper::{CONDITION_SIZE, MAX_STACK, WORD_SIZE};
 
 // How deep the stack is after a word, or more than it may be where the word may not follow.
+#[tactic(auto, unfolding(book::specs::GoodTexts::next_depth, book::specs::GoodTexts::follows, book::specs::GoodTexts::depth_after))]
 fn next_depth(marks: u32, word: u16, depth: usize) -> usize
     requires { depth ≤ max_stack }
     ensures { result ≡ next_depth marks word depth }
 {
     match word {
-        paper::AND => if 2 <= depth { depth - 1 } else { MAX_STACK + 1 },
-        paper::OR => if 2 <= depth { depth - 1 } else { MAX_STACK + 1 },
+        paper::AND | paper::OR => if 2 <= depth { depth - 1 } else { MAX_STACK + 1 },
         paper::NOT => if 1 <= depth { depth } else { MAX_STACK + 1 },
-        _ => if ((word as u32) < marks) & (depth < MAX_STACK) {
+        _ => if (word as u32) < marks && depth < MAX_STACK {
             depth + 1
         } else {
             MAX_STACK + 1
@@ -49,20 +49,19 @@ fn text_fits(
     ensures added { result ≡ true → Added named.old (words_from image.now at count) named.new }
 {
     let mut depth: usize = 0;
-    let mut i = 0;
-    while i < count {
+    for i in 0..count {
         let word = wire::u16_at(image, at + WORD_SIZE * i);
         depth = next_depth(marks, word, depth);
         if MAX_STACK < depth {
             return false;
         }
         note(named, word);
-        i += 1;
     }
     depth == 1
 }
 
 // Whether the condition record at the byte `at` is good, where `words` words begin at the byte `from`.
+#[tactic(auto, unfolding(book::specs::Judging::condition_fits))]
 fn condition_fits(
     image: &[u8],
     at: usize,
@@ -77,13 +76,9 @@ fn condition_fits(
 {
     let start = wire::u32_at(image, at) as usize;
     let count = wire::u32_at(image, at + COUNT_AT) as usize;
-    if count < 1 {
-        return false;
-    }
-    if (words as usize) < start + count {
-        return false;
-    }
-    text_fits(image, from + WORD_SIZE * start, count, marks, named)
+    1 <= count
+        && start + count <= words as usize
+        && text_fits(image, from + WORD_SIZE * start, count, marks, named)
 }
 
 // The lowest condition that is bad, or the number of conditions, and then the set has the marks that the texts name. Each text is read once.
@@ -102,13 +97,11 @@ pub fn first_bad_condition(
     *named = [0; MARK_WORDS];
     let begin = conditions_from(rules);
     let from = words_from(rules, conditions);
-    let mut c: u32 = 0;
-    while c < conditions {
+    for c in 0..conditions {
         let at = begin + CONDITION_SIZE * (c as usize);
         if !condition_fits(image, at, from, marks, words, named) {
             return c;
         }
-        c += 1;
     }
-    c
+    conditions
 }

@@ -9,6 +9,7 @@ use paper::MAX_MARKS;
 pub const MARK_WORDS: usize = MAX_MARKS / 64;
 
 // The set takes in the mark that a word names. The words and, or, not lie above every mark.
+#[tactic(auto, using(crate::proofs::Naming::mark_added))]
 pub fn note(named: &mut [u64; MARK_WORDS], word: u16)
     requires { length named.old ≡ mark_words }
     ensures { Added named.old (word ∷ []) named.new }

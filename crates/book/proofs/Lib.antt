@@ -1,2 +1,0 @@
--- The root of the crate's shared laws for proofs.
-pub mod Scans
