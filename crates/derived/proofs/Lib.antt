@@ -1,4 +1,5 @@
 -- The root of the crate's proofs.
+pub mod Earlier
 pub mod Largest
 pub mod Meaning
 pub mod OneChart

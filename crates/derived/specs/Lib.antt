@@ -8,4 +8,5 @@ pub mod Sizes
 pub mod Largest
 pub mod WritingLoops
 pub mod Parts
+pub mod Putting
 pub mod RuleBytes

@@ -2,10 +2,12 @@
 use Rattle.std.specs.Prelude.{ℕ, ◌+◌, ◌<◌, ◌≡◌, true, List, [], ◌∷◌, length, get_or}
 use Rattle.paper.specs.Limits.{not_word, or_word, and_word}
 use Rattle.sets.specs.Set.{union, within}
-use Rattle.flat_chart.specs.Chart.{condition, response, milestone, Fit}
+use Rattle.flat_chart.specs.Chart.{condition, response, milestone, include, exclude, set_of, Fit}
 use Rattle.flat_chart.specs.Flat.{FlatChart}
 use Rattle.book.specs.Book.{Condition}
-use Rattle.general.specs.Lists.{flat}
+use Rattle.book.specs.ImageOf.{rule_bytes, condition_bytes}
+use Rattle.general.specs.Lists.{flat, packed}
+use Rattle.wire.specs.Wire.{bytes16}
 use Rattle.book.specs.declared.Rule.{Rule}
 use Rattle.derived.specs.Derived.{completion, text_for}
 use Rattle.derived.specs.Sizes.{set-within, both-within}
@@ -40,6 +42,44 @@ clause_from included base f = (included + f) ∷ (not_word ∷ ((base + f) ∷ (
 -- ---- a chart's own tables
 
 module _ (c : FlatChart) where
+  abbrev pub CompletionsKept : Type 0
+  CompletionsKept = CompletionsIn c.count c.includes c.excludes c.responses
+
+  abbrev pub TextsKept : Type 0
+  TextsKept = TextsIn c.count c.conditions c.milestones
+
+  -- of event e alone: what its completion names, and what its text asks about, are events of the chart
+  abbrev pub CompletionKept : ℕ → Type 0
+  CompletionKept e = (within c.count (union (set_of c include e) (set_of c exclude e)) ≡ true) × (within c.count (set_of c response e) ≡ true)
+
+  abbrev pub TextKept : ℕ → Type 0
+  TextKept e = (within c.count (set_of c condition e) ≡ true) × (within c.count (set_of c milestone e) ≡ true)
+
+  module _ (e : ℕ) (h : e < c.count) where
+    pub completion-kept : CompletionsKept → CompletionKept e
+    completion-kept ok = (ok.inclusions e h, ok.responses e h)
+
+    pub text-kept : TextsKept → TextKept e
+    text-kept ok = (ok.conditions e h, ok.milestones e h)
+
+  -- the bytes of what e's completion does, and of what all do
+  abbrev pub completion_of : ℕ → List ℕ
+  completion_of e = packed rule_bytes (completion_at c.count c.includes c.excludes c.responses e)
+
+  abbrev pub completions_of : List ℕ
+  completions_of = packed rule_bytes (flat c.count (completion_at c.count c.includes c.excludes c.responses))
+
+  -- the bytes of the condition records
+  abbrev pub records_of : List ℕ
+  records_of = packed condition_bytes (flat c.count (condition_part c.count c.conditions c.milestones))
+
+  -- the bytes of e's text, and of all texts
+  abbrev pub text_of : ℕ → List ℕ
+  text_of e = packed bytes16 (text_at c.count c.conditions c.milestones e)
+
+  abbrev pub texts_of : List ℕ
+  texts_of = packed bytes16 (flat c.count (text_at c.count c.conditions c.milestones))
+
   module _ (fit : Fit c) where
     pub completions-in : CompletionsIn c.count c.includes c.excludes c.responses
     completions-in = record { inclusions = both-within c fit; responses = set-within c fit response }

@@ -1,7 +1,7 @@
 -- What each writer leaves behind, in the form in which the code meets it. Assumes nothing.
 use Rattle.std.specs.Prelude.{ℕ, suc, ◌+◌, ◌*◌, ◌≤◌, ◌<◌, ◌≡◌, refl, Bool, true, false, get_or}
-use Rattle.std.proofs.Math.Path.{sym, ap}
-use Rattle.std.proofs.Common.{◌∙◌, add-one}
+use Rattle.std.proofs.Math.Path.{sym}
+use Rattle.std.proofs.Common.{◌∙◌, add-one, subst}
 use mathlib.Core.List.{List, [], ◌∷◌, ◌++◌, append-nil}
 use native.Mathlib.Omega.{arith}
 use Rattle.std.proofs.Math.ListN.{length, set}
@@ -18,8 +18,10 @@ use Rattle.book.specs.ImageOf.{effect_byte, rule_record, rule_bytes, length-rule
 use Rattle.book.specs.declared.Rule.{Rule}
 use Rattle.derived.specs.Derived.{answered_mark, listed, on, setting_executed, inclusion, responding, answering, completion, text_for, stage_rules}
 use Rattle.derived.specs.Members.{has_word, listed-words}
-use Rattle.derived.specs.Sizes.{effect, effects, inclusion-effects, responding-effects, completion_size, completion-le, completions_size, text_size, text-le, texts_size}
-use Rattle.derived.specs.Parts.{completion_at, CompletionsIn, text_at, TextsIn, condition_made, clause_from}
+use Rattle.derived.specs.Sizes.{effect, effects, inclusion-effects, responding-effects, completion_size, completion-le, completions_size, completion_rules, text_size, text-le, texts_size, text_words}
+use Rattle.derived.specs.Parts.{completion_at, CompletionsIn, CompletionKept, completion_of, text_at, TextsIn, TextKept, text_of, condition_made, clause_from}
+use Rattle.flat_chart.specs.Chart.{row_of}
+use Rattle.flat_chart.specs.Flat.{FlatChart, Row}
 use Rattle.general.specs.Writing.{Fits, Wrote, wrote_none, wrote-length, then, fits-first, fits-then}
 
 -- ---- one rule
@@ -191,45 +193,43 @@ stage-fits room at e h =
     let l : length (packed rule_bytes (stage_rules e)) ≡ 20 = length-packed rule_bytes rule_size length-rule (stage_rules e) in
     omega arith
 
--- ---- e's own sets out of the tables
+-- ---- e's own sets out of a chart's row
 
-module _ {n : ℕ} {i x r : List ℕ} (ok : CompletionsIn n i x r) (e : ℕ) {a b d : ℕ} (pa : a ≡ get_or i e 0) (pb : b ≡ get_or x e 0) (pd : d ≡ get_or r e 0) where
-  pub completion-rows : {v : ℕ} → v ≡ completion_size e a b d → v ≡ completion_size e (get_or i e 0) (get_or x e 0) (get_or r e 0)
-  completion-rows p = p ∙ rw (pa, pb, pd)
+module _ (c : FlatChart) (e : ℕ) {r : Row} (p : r ≡ row_of c e) where
+  pub row-rules : {v : ℕ} → v ≡ completion_size e r.includes r.excludes r.responses → v ≡ completion_rules c e
+  row-rules q = q ∙ rw p
 
-  pub completion-rows-inclusions : e < n → within n (union a b) ≡ true
-  completion-rows-inclusions h = rw (pa, pb) (ok.inclusions e h)
+  pub row-words : {v : ℕ} → v ≡ text_size r.conditions r.milestones → v ≡ text_words c e
+  row-words q = q ∙ rw p
 
-  pub completion-rows-responses : e < n → within n d ≡ true
-  completion-rows-responses h = rw pd (ok.responses e h)
+  pub row-inclusions : CompletionKept c e → within c.count (union r.includes r.excludes) ≡ true
+  row-inclusions ok = rw p ok.0
 
-  pub completion-rows-fit : (room : List ℕ) (at : ℕ) → Fits room at (packed rule_bytes (completion_at n i x r e)) → Fits room at (packed rule_bytes (completion n e a b d))
+  pub row-responses : CompletionKept c e → within c.count r.responses ≡ true
+  row-responses ok = rw p ok.1
+
+  pub row-conditions : TextKept c e → within c.count r.conditions ≡ true
+  row-conditions ok = rw p ok.0
+
+  pub row-milestones : TextKept c e → within c.count r.milestones ≡ true
+  row-milestones ok = rw p ok.1
+
+  pub row-completion : (room : List ℕ) (at : ℕ) → Fits room at (completion_of c e) → Fits room at (packed rule_bytes (completion c.count e r.includes r.excludes r.responses))
   unfolding completion_at
-  completion-rows-fit room at f = rw (pa, pb, pd) f
+  row-completion room at f = rw p f
 
-  pub completion-rows-wrote : {room after : List ℕ} {at next : ℕ} → Wrote room at (packed rule_bytes (completion n e a b d)) next after
-      → Wrote room at (packed rule_bytes (completion_at n i x r e)) next after
-  unfolding completion_at
-  completion-rows-wrote w = rw (← pa, ← pb, ← pd) w
-
-module _ {n : ℕ} {t m : List ℕ} (ok : TextsIn n t m) (e : ℕ) {a b : ℕ} (pa : a ≡ get_or t e 0) (pb : b ≡ get_or m e 0) where
-  pub text-rows : {v : ℕ} → v ≡ text_size a b → v ≡ text_size (get_or t e 0) (get_or m e 0)
-  text-rows p = p ∙ rw (pa, pb)
-
-  pub text-rows-conditions : e < n → within n a ≡ true
-  text-rows-conditions h = rw pa (ok.conditions e h)
-
-  pub text-rows-milestones : e < n → within n b ≡ true
-  text-rows-milestones h = rw pb (ok.milestones e h)
-
-  pub text-rows-fit : (room : List ℕ) (at : ℕ) → Fits room at (packed bytes16 (text_at n t m e)) → Fits room at (packed bytes16 (text_for n e a b))
+  pub row-text : (room : List ℕ) (at : ℕ) → Fits room at (text_of c e) → Fits room at (packed bytes16 (text_for c.count e r.conditions r.milestones))
   unfolding text_at
-  text-rows-fit room at f = rw (pa, pb) f
+  row-text room at f = rw p f
 
-  pub text-rows-wrote : {room after : List ℕ} {at next : ℕ} → Wrote room at (packed bytes16 (text_for n e a b)) next after
-      → Wrote room at (packed bytes16 (text_at n t m e)) next after
-  unfolding text_at
-  text-rows-wrote w = rw (← pa, ← pb) w
+  module _ {room after : List ℕ} {at next : ℕ} where
+    pub completion-row : Wrote room at (packed rule_bytes (completion c.count e r.includes r.excludes r.responses)) next after → Wrote room at (completion_of c e) next after
+    unfolding completion_at
+    completion-row w = subst (λ (r : Row). Wrote room at (packed rule_bytes (completion c.count e r.includes r.excludes r.responses)) next after) p w
+
+    pub text-row : Wrote room at (packed bytes16 (text_for c.count e r.conditions r.milestones)) next after → Wrote room at (text_of c e) next after
+    unfolding text_at
+    text-row w = subst (λ (r : Row). Wrote room at (packed bytes16 (text_for c.count e r.conditions r.milestones)) next after) p w
 
 -- ---- sizes, event by event
 
@@ -243,9 +243,6 @@ module _ (n : ℕ) (i x r : List ℕ) (few : n ≤ max_events) (ok : Completions
   unfolding completions_size
   completions-more s p = rw (p, q) (sym (total-step e _))
 
-pub completions-all : (n : ℕ) (i x r : List ℕ) (e s : ℕ) → e ≤ n → n ≤ e → s ≡ completions_size e i x r → s ≡ completions_size n i x r
-completions-all n i x r e s h l p = let z : e ≡ n = omega arith in p ∙ ap (λ (k : ℕ). completions_size k i x r) z
-
 module _ (n : ℕ) (t m : List ℕ) (few : n ≤ max_events) (ok : TextsIn n t m) (e v : ℕ) (h : e < n) (q : v ≡ text_size (get_or t e 0) (get_or m e 0)) where
   pub text-small : v ≤ 10 * max_events + 1
   text-small =
@@ -255,9 +252,6 @@ module _ (n : ℕ) (t m : List ℕ) (few : n ≤ max_events) (ok : TextsIn n t m
   pub texts-more : (s : ℕ) → s ≡ texts_size e t m → s + v ≡ texts_size (e + 1) t m
   unfolding texts_size
   texts-more s p = rw (p, q) (sym (total-step e _))
-
-pub texts-all : (n : ℕ) (t m : List ℕ) (e s : ℕ) → e ≤ n → n ≤ e → s ≡ texts_size e t m → s ≡ texts_size n t m
-texts-all n t m e s h l p = let z : e ≡ n = omega arith in p ∙ ap (λ (k : ℕ). texts_size k t m) z
 
 -- ---- words and numbers, one behind the other
 

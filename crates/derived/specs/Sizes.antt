@@ -103,6 +103,20 @@ completions_size n i x r = total n (λ e. completion_size e (get_or i e 0) (get_
 unfoldable pub texts_size : ℕ → List ℕ → List ℕ → ℕ
 texts_size n c m = total n (λ e. text_size (get_or c e 0) (get_or m e 0))
 
+-- the same of a chart: rules of the completion of e, and of all completions; words of the text of e, and of all texts
+module _ (c : FlatChart) where
+  abbrev pub completion_rules : ℕ → ℕ
+  completion_rules e = completion_size e (get_or c.includes e 0) (get_or c.excludes e 0) (get_or c.responses e 0)
+
+  abbrev pub completions_rules : ℕ
+  completions_rules = completions_size c.count c.includes c.excludes c.responses
+
+  abbrev pub text_words : ℕ → ℕ
+  text_words e = text_size (get_or c.conditions e 0) (get_or c.milestones e 0)
+
+  abbrev pub texts_words : ℕ
+  texts_words = texts_size c.count c.conditions c.milestones
+
 module _ (c : FlatChart) where
   unfoldable pub rules_needed : ℕ
   rules_needed = completions_size c.count c.includes c.excludes c.responses + 2 * c.count

@@ -1,17 +1,20 @@
--- What the functions that compare need: the bytes of a part, the loop over the events, the longest part, the runs behind the header, the whole. Assumes nothing.
+-- What the functions that compare need: slices, the loop over the parts, the longest part, the runs behind the header, the whole. Assumes nothing.
 use mathlib.Core.Path.{◌≡◌, refl, sym, ap, ◌∙◌}
-use mathlib.Core.Bool.{Bool, true, false, not, ◌&&◌, and-true}
+use mathlib.Core.Bool.{Bool, true, false, not, ◌&&◌}
 use mathlib.Core.List.{List, [], ◌∷◌, ◌++◌}
-use Prim.Native.Nat.{ℕ, zero, suc, ◌+◌, ◌*◌, ◌≤◌, ◌<◌}
-use native.Mathlib.Nat.{zero-add, add-zero}
+use Prim.Native.Nat.{ℕ, suc, ◌+◌, ◌-◌, ◌*◌, ◌≤◌, ◌<◌}
+use native.Mathlib.Nat.{zero-add}
 use native.Mathlib.Omega.{arith}
 use lib.Dec.{eqb}
-use lib.ListN.{length, get_or, take, length-append}
-use lib.Seq.{take-suc, take_at}
-use borrow.Author.Tests.{eq-eqb, ne_eqb, not-true, not-false}
+use lib.Pointwise.{pointwise}
+use Rattle.std.proofs.Common.{drop-cons}
+use Rattle.std.proofs.lemmas.List.{length-take-le}
+use lib.ListN.{length, get_or, take, drop, length-append}
+use lib.Seq.{take_at}
+use borrow.Author.Tests.{not-true, not-false}
 use Rattle.paper.specs.Limits.{max_events, rule_size, condition_size, word_size}
-use Rattle.general.specs.Comparing.{same_bytes, same-shorter, stands_at, stands-append, stands-whole, Stand, stand-start, stand-fits, stand-more, stand-not, stand-done}
-use Rattle.general.specs.Lists.{total-same, flat, length-flat, length-parts, packed, packed-append, length-packed}
+use Rattle.general.specs.Comparing.{same_bytes, same-shorter, stands_at, stands-append, stands-whole, Stand, stand-fits, stand-more, stand-not}
+use Rattle.general.specs.Lists.{total-same, flat, length-flat, length-parts, packed, length-packed}
 use Rattle.general.specs.Writing.{Fits, Wrote, wrote-length, wrote-whole}
 use Rattle.wire.specs.Wire.{bytes16, bytes32}
 use Rattle.wire.specs.Laws.{length-bytes16, length-bytes32}
@@ -25,92 +28,41 @@ use Rattle.derived.proofs.Sizes.{length-text}
 use Rattle.deriver.specs.Deriving.{derived_image, book_runs, bytes-are, image-runs}
 use Rattle.derived_same.specs.Same.{part_room, runs_behind, RunsReady}
 
--- ---- the bytes of a part, one by one
+-- ---- bytes compared as slices
 
-abbrev pub byte_of : List ℕ → ℕ → List ℕ
-byte_of l i = get_or l i 0 ∷ []
+same-stands : (s : List ℕ) (at : ℕ) (run : List ℕ) → at + length run ≤ length s → pointwise eqb (take (length run) (drop at s)) run ≡ stands_at s at run
+unfolding stands_at
+same-stands s at [] h = refl
+same-stands s at (x ∷ run) h =
+    let l : at < length s = omega arith in
+    rw (drop-cons s at 0) (ap (λ (b : Bool). eqb (get_or s at 0) x && b) (same-stands s (suc at) run (omega arith)))
 
-bytes_of : (l : List ℕ) (n : ℕ) → n ≤ length l → take n l ≡ flat n (byte_of l)
-unfolding flat
-bytes_of l zero h = refl
-bytes_of l (suc n) h = take-suc l n 0 (omega arith) ∙ rw (bytes_of l n (omega arith))
+pub slice-stands : (s part : List ℕ) (at count : ℕ) {b : Bool} → at + count ≤ length s → count ≤ length part
+    → b ≡ pointwise eqb (take (at + count - at) (drop at s)) (take count part) → b ≡ stands_at s at (take count part)
+slice-stands s part at count h k p =
+    let z : at + count - at ≡ count = omega arith in
+    let l : length (take count part) ≡ count = length-take-le count part k in
+    p ∙ rw z (rw l at (same-stands s at (take count part) (omega arith)))
 
-pub byte-first : (s part : List ℕ) (at n : ℕ) → Stand (byte_of part) n s at 0 (at + 0)
-byte-first s part at n = rw (add-zero at) (stand-start (byte_of part) n s at)
+-- ---- a loop over parts: one is written at the start of a buffer that holds it, and stands in the image or does not
 
-module _ (s part : List ℕ) (at n : ℕ) (reach : n ≤ length part) where
-  module _ (k : ℕ) (i : Stand (byte_of part) n s at k (at + k)) where
-    pub byte-done : n ≤ k → true ≡ stands_at s at (take n part)
-    byte-done h = rw (bytes_of part n reach) (stand-done _ _ _ _ _ _ i h)
+module _ (parts : ℕ → List ℕ) (n : ℕ) (s : List ℕ) (at k next : ℕ) (i : Stand parts n s at k next) (h : k < n) where
+  module _ {part after : List ℕ} {count : ℕ} (short : length (parts k) ≤ length part) (w : Wrote part 0 (parts k) count after) where
+    counted : count ≡ length (parts k)
+    counted = w.place ∙ zero-add (length (parts k))
 
-    module _ (h : k < n) where
-      stands-byte : eqb (get_or s (at + k) 0) (get_or part k 0) ≡ stands_at s (at + k) (byte_of part k)
-      unfolding stands_at
-      stands-byte = sym (and-true (eqb (get_or s (at + k) 0) (get_or part k 0)))
+    taken : take count after ≡ parts k
+    taken = rw (counted, wrote-whole w (omega arith)) (take_at (parts k) _ _ refl)
 
-      pub byte-not : (get_or s (at + k) 0 ≡ get_or part k 0 → ⊥) → false ≡ stands_at s at (take n part)
-      byte-not x = rw (bytes_of part n reach) (stand-not _ _ _ _ _ _ i _ h stands-byte (rw (ne_eqb _ _ x)))
+    pub part-room : Fits s at (flat n parts) → (next + count ≤ length s) × (count ≤ length after)
+    part-room f = let q : count ≡ length (parts k) = counted in (omega (arith, stand-fits _ _ _ _ _ _ i h f), omega (arith, wrote-length w))
 
-      pub byte_more : get_or s (at + k) 0 ≡ get_or part k 0 → Stand (byte_of part) n s at (k + 1) (at + (k + 1))
-      byte_more x = stand-more _ _ _ _ _ _ i (at + (k + 1)) _ h stands-byte (rw (eq-eqb _ _ x)) (omega arith)
+    module _ {b : Bool} (e : b ≡ stands_at s next (take count after)) where
+      pub part-not : b ≡ false → false ≡ stands_at s at (flat n parts)
+      part-not t = stand-not _ _ _ _ _ _ i b h (e ∙ rw taken) (ap not t)
 
--- ---- the loop over the events: a part is written at the start of the buffer, and stands in the image or does not
-
-module _ {A : Type 0} (f : A → List ℕ) (g : ℕ → List A) where
-  pub flat-packed : (n : ℕ) → packed f (flat n g) ≡ flat n (λ k. packed f (g k))
-  unfolding flat packed
-  flat-packed zero = refl
-  flat-packed (suc n) = packed-append f (flat n g) (g n) ∙ rw (flat-packed n)
-
-  module _ (n : ℕ) (s : List ℕ) (at : ℕ) where
-    abbrev run : ℕ → List ℕ
-    run k = packed f (g k)
-
-    pub record Parts (k next : ℕ) (part : List ℕ) : Type 0 where
-      pub stand : Stand run n s at k next
-      pub long : length part ≡ part_room
-      pub short : (j : ℕ) → j < n → length (run j) ≤ part_room
-      pub fits : Fits s at (flat n run)
-
-    pub parts_first : (part : List ℕ) → length part ≡ part_room → ((j : ℕ) → j < n → length (run j) ≤ part_room) → Fits s at (packed f (flat n g)) → Parts 0 at part
-    parts_first part l h b = record { stand = stand-start run n s at; long = l; short = h; fits = rw (flat-packed n) at b }
-
-    module _ (k next : ℕ) (part : List ℕ) (i : Parts k next part) where
-      pub parts-done : n ≤ k → true ≡ stands_at s at (packed f (flat n g))
-      parts-done h = rw (flat-packed n) (stand-done _ _ _ _ _ _ i.stand h)
-
-      module _ (h : k < n) where
-        pub parts-fits : Fits part 0 (run k)
-        parts-fits = let l : length part ≡ part_room = i.long in omega (arith, i.short k h)
-
-        module _ (count : ℕ) (after : List ℕ) (w : Wrote part 0 (run k) count after) where
-          counts : count ≡ length (run k)
-          counts = w.place ∙ zero-add (length (run k))
-
-          taken : take count after ≡ run k
-          taken = rw (counts, wrote-whole w parts-fits) (take_at (run k) _ _ refl)
-
-          pub parts-room : (next + count ≤ length s) × (count ≤ length after)
-          parts-room =
-              let l : length part ≡ part_room = i.long in
-              let q : count ≡ length (run k) = counts in
-              (omega (arith, stand-fits _ _ _ _ _ _ i.stand h i.fits), omega (arith, wrote-length w, i.short k h))
-
-          module _ (b : Bool) (e : b ≡ stands_at s next (take count after)) where
-            stands-part : b ≡ stands_at s next (run k)
-            stands-part = e ∙ rw taken
-
-            pub parts-not : not b ≡ true → false ≡ stands_at s at (packed f (flat n g))
-            parts-not t = rw (flat-packed n) (stand-not _ _ _ _ _ _ i.stand b h stands-part t)
-
-            pub parts_more : not b ≡ false → Parts (k + 1) (next + count) after
-            parts_more t =
-                record {
-                  stand = stand-more _ _ _ _ _ _ i.stand (next + count) b h stands-part t (rw counts);
-                  long = wrote-length w ∙ i.long;
-                  short = i.short;
-                  fits = i.fits;
-                }
+      pub part-more : b ≡ true → Stand parts n s at (k + 1) (next + count)
+      part-more t = stand-more _ _ _ _ _ _ i (next + count) b h (e ∙ rw taken) (ap not t) (rw counted)
 
 -- ---- no part is longer than the room
 
@@ -216,20 +168,27 @@ module _ (n completions : ℕ) (t r m i x image part : List ℕ) (g : RunsReady 
         records-long,
       )
 
-  module _ (a : Bool) (p : a ≡ stands_at image 32 completion_run) where
-    pub runs-not-1 : not a ≡ true → false ≡ stands_at image 32 (runs_behind n t r m i x)
-    runs-not-1 h = sym (by_runs ∙ rw (← p, not-true a h))
+  -- the four answers, joined from the left
+  pub runs-all : (two three : Bool) {all : Bool} → two ≡ (stands_at image 32 completion_run && stands_at image (32 + 10 * completions) stage_run)
+      → three ≡ (two && stands_at image (32 + 10 * completions + 20 * n) condition_run)
+      → all ≡ (three && stands_at image (32 + 10 * completions + 20 * n + 8 * n) word_run) → all ≡ stands_at image 32 (runs_behind n t r m i x)
+  runs-all two three p q u =
+      rw (u, q, p) (
+      from_left (stands_at image 32 completion_run) (stands_at image (32 + 10 * completions) stage_run) (stands_at image (32 + 10 * completions + 20 * n) condition_run)
+      (stands_at image (32 + 10 * completions + 20 * n + 8 * n) word_run)
+      ∙ sym by_runs)
+    where
+      from_left : (a b c d : Bool) → (((a && b) && c) && d) ≡ (a && (b && (c && d)))
+      from_left false b c d = refl
+      from_left true false c d = refl
+      from_left true true c d = refl
 
-    module _ (y : not a ≡ false) (b : Bool) (q : b ≡ stands_at image (32 + 10 * completions) stage_run) where
-      pub runs-not-2 : not b ≡ true → false ≡ stands_at image 32 (runs_behind n t r m i x)
-      runs-not-2 h = sym (by_runs ∙ rw (← p, not-false a y, ← q, not-true b h))
+-- a test and a second one behind `&&`
+pub then-and : {s t a b v : Bool} → a ≡ s → a ≡ true → b ≡ t → v ≡ b → v ≡ (s && t)
+then-and p h q e = e ∙ q ∙ rw (← p, h)
 
-      module _ (z : not b ≡ false) (c : Bool) (u : c ≡ stands_at image (32 + 10 * completions + 20 * n) condition_run) where
-        pub runs-not-3 : not c ≡ true → false ≡ stands_at image 32 (runs_behind n t r m i x)
-        runs-not-3 h = sym (by_runs ∙ rw (← p, not-false a y, ← q, not-false b z, ← u, not-true c h))
-
-        pub runs-all : not c ≡ false → (d : Bool) → d ≡ stands_at image (32 + 10 * completions + 20 * n + 8 * n) word_run → d ≡ stands_at image 32 (runs_behind n t r m i x)
-        runs-all h d v = sym (by_runs ∙ rw (← p, not-false a y, ← q, not-false b z, ← u, not-false c h, ← v))
+pub else-and : {s a v : Bool} (t : Bool) → a ≡ s → a ≡ false → v ≡ a → v ≡ (s && t)
+else-and t p h e = e ∙ h ∙ rw (← p, h)
 
 -- ---- the whole, of a fit chart
 

@@ -32,3 +32,15 @@ module _ (n : ℕ) where
     pub sized : completions ≡ completions_size n i x r
     pub long : length part ≡ part_room
     pub fits : Fits image book_header (runs_behind t r m i x)
+
+-- ---- the same of a chart
+
+module _ (c : FlatChart) where
+  abbrev pub without_roles : FlatChart
+  without_roles = roleless c.count c.conditions c.responses c.milestones c.includes c.excludes
+
+  abbrev pub chart_behind : List ℕ
+  chart_behind = runs_behind c.count c.conditions c.responses c.milestones c.includes c.excludes
+
+  abbrev pub ChartReady : ℕ → List ℕ → List ℕ → Type 0
+  ChartReady completions image part = RunsReady c.count completions c.conditions c.responses c.milestones c.includes c.excludes image part

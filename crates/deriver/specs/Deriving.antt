@@ -94,6 +94,13 @@ module _ (n R W : ℕ) (t r m i x : List ℕ) where
               unfolding book_runs
               book-wrote p₅ r₅ w₅ = then w₁ (then w₂ (then w₃ (then w₄ w₅)))
 
+-- the same of a chart's tables
+abbrev pub chart_runs : FlatChart → ℕ → ℕ → List ℕ
+chart_runs c R W = book_runs c.count R W c.conditions c.responses c.milestones c.includes c.excludes
+
+abbrev pub ChartReady : FlatChart → ℕ → ℕ → List ℕ → Type 0
+ChartReady c R W room = BookReady c.count R W c.conditions c.responses c.milestones c.includes c.excludes room
+
 -- "Header, eight 32-bit numbers"
 pub header-wrote : {room r₁ r₂ r₃ r₄ r₅ r₆ r₇ r₈ : List ℕ} (S M R Q W : ℕ)
     → r₁ ≡ put32 room 0 S → r₂ ≡ put32 r₁ 4 M → r₃ ≡ put32 r₂ 8 R → r₄ ≡ put32 r₃ 12 Q → r₅ ≡ put32 r₄ 16 W

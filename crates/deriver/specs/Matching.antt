@@ -90,9 +90,6 @@ marks-more start marks at set e b p q =
     rw (q, p, flat_step e (λ k. has set k ∷ []))
     (sym (sets-append (each e (has set)) (has set e ∷ []) start at ∙ rw (length-each e (has set))))
 
-pub marks-all : (start marks : List Bool) (at set e n : ℕ) → e ≤ n → n ≤ e → marks ≡ sets start at (each e (has set)) → marks ≡ sets start at (each n (has set))
-marks-all start marks at set e n h l p = let z : e ≡ n = omega arith in p ∙ ap (λ (k : ℕ). sets start at (each k (has set))) z
-
 drop-same : {A : Type 0} (x : A) (k w : ℕ) → drop k (replicate w x) ≡ replicate (w - k) x
 drop-same x zero w = let e : w ≡ w - zero = omega arith in ap (λ (i : ℕ). replicate i x) e
 drop-same x (suc k) zero = let e : zero ≡ zero - suc k = omega arith in ap (λ (i : ℕ). replicate i x) e

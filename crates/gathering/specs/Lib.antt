@@ -2,3 +2,4 @@
 pub mod Gathering
 pub mod Noting
 pub mod Behind
+pub mod Charts

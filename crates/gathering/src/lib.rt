@@ -10,14 +10,15 @@ ghost use Rattle.book.specs.Book.{text_of};
 ghost use Rattle.book.specs.Image.{stages_in, conditions_in, book_of};
 ghost use Rattle.book.specs.Read.{words_from};
 ghost use Rattle.book.specs.WellRead.{Opened};
-ghost use Rattle.gathering.specs.Gathering.{gathered_includes, gathered_excludes, gathered_responses, gathered_conditions, gathered_milestones, rows_below, gathered};
-ghost use Rattle.gathering.specs.Noting.{noting, stage_of, taking};
+ghost use Rattle.gathering.specs.Gathering.{gathered_conditions, gathered_milestones, gathered};
+ghost use Rattle.gathering.specs.Noting.{noting};
+ghost use Rattle.gathering.specs.Charts.{with_rule, with_rules, with_texts};
 
 use book::header::words_from;
-use book::reader::{condition_in, rule_in};
+use book::reader::BookReader;
 use book::{Counts, Rule, Trigger};
 use flat_chart::FlatChart;
-use paper::{MAX_EVENTS, WORD_SIZE};
+use paper::WORD_SIZE;
 use wide::{Set, TABLE};
 
 // What a text says of the event that it opens.
@@ -32,15 +33,10 @@ fn note(set: Set, n: usize, from: usize, mark: u16, on: bool) -> Set
     requires { n ≤ max_events }
     ensures { number result ≡ noting n from (number set) mark on }
 {
-    let mark = mark as usize;
-    if mark < from {
-        return set;
+    match (mark as usize).checked_sub(from) {
+        Some(f) if f < n => wide::put_if(set, f, on),
+        _ => set,
     }
-    let f = mark - from;
-    if n <= f {
-        return set;
-    }
-    wide::put_if(set, f, on)
 }
 
 // The same in row e.
@@ -52,58 +48,29 @@ fn note_in(table: &mut [u64; TABLE], e: usize, n: usize, from: usize, mark: u16,
     wide::set_row(table, e, noted);
 }
 
-// The stage whose completion a trigger waits for, or MAX_EVENTS.
-fn stage_of(t: Trigger) -> usize
-    ensures { result ≡ stage_of t }
-{
-    match t {
-        Trigger::None => MAX_EVENTS,
-        Trigger::Completed(s) => s as usize,
-        Trigger::BecomeYes(_) => MAX_EVENTS,
-        Trigger::BecomeNo(_) => MAX_EVENTS,
-    }
-}
-
-// One rule, of a book of n stages.
-fn take_rule(
-    r: Rule,
-    n: usize,
-    includes: &mut [u64; TABLE],
-    excludes: &mut [u64; TABLE],
-    responses: &mut [u64; TABLE],
-)
+// One rule, of a book of n stages: only those that wait for the completion of a stage say anything.
+fn take_rule(r: Rule, n: usize, chart: &mut FlatChart)
     requires { n ≤ max_events }
-    ensures includes_after { rows_of includes.new ≡ taking n (2 * n) true r (rows_of includes.old) }
-    ensures excludes_after { rows_of excludes.new ≡ taking n (2 * n) false r (rows_of excludes.old) }
-    ensures responses_after { rows_of responses.new ≡ taking n (3 * n) false r (rows_of responses.old) }
+    ensures { flat_of chart.new ≡ with_rule n r (flat_of chart.old) }
 {
-    let trigger = r.trigger;
-    let e = stage_of(trigger);
-    if e < n {
-        note_in(includes, e, n, 2 * n, r.target, r.effect);
-        note_in(excludes, e, n, 2 * n, r.target, !r.effect);
-        note_in(responses, e, n, 3 * n, r.target, !r.effect);
+    if let Trigger::Completed(stage) = r.trigger {
+        let e = stage as usize;
+        if e < n {
+            note_in(&mut chart.includes, e, n, 2 * n, r.target, r.effect);
+            note_in(&mut chart.excludes, e, n, 2 * n, r.target, !r.effect);
+            note_in(&mut chart.responses, e, n, 3 * n, r.target, !r.effect);
+        }
     }
 }
 
 // What the rules say, into tables of empty sets.
-pub fn gather_rules(
-    image: &[u8],
-    counts: Counts,
-    includes: &mut [u64; TABLE],
-    excludes: &mut [u64; TABLE],
-    responses: &mut [u64; TABLE],
-)
-    requires { (Opened image.now counts) × (rows_of includes.old ≡ replicate max_events 0) × (rows_of excludes.old ≡ replicate max_events 0) × (rows_of responses.old ≡ replicate max_events 0) }
-    ensures includes_after { rows_of includes.new ≡ rows_below (stages_in image.now) (gathered_includes (stages_in image.now) (book_of image.now).rules) }
-    ensures excludes_after { rows_of excludes.new ≡ rows_below (stages_in image.now) (gathered_excludes (stages_in image.now) (book_of image.now).rules) }
-    ensures responses_after { rows_of responses.new ≡ rows_below (stages_in image.now) (gathered_responses (stages_in image.now) (book_of image.now).rules) }
+pub fn gather_rules(book: BookReader<'_>, chart: &mut FlatChart)
+    requires { (Opened book.image.now book.counts) × (rows_of chart.old.includes ≡ replicate max_events 0) × (rows_of chart.old.excludes ≡ replicate max_events 0) × (rows_of chart.old.responses ≡ replicate max_events 0) }
+    ensures { flat_of chart.new ≡ with_rules (stages_in book.entry.image.now) (book_of book.entry.image.now).rules (flat_of chart.old) }
 {
-    let n = counts.stages as usize;
-    let rules = counts.rules as usize;
-    for k in 0..rules {
-        let rule = rule_in(image, counts, k);
-        take_rule(rule, n, includes, excludes, responses);
+    let n = book.counts.stages as usize;
+    for k in 0..book.counts.rules as usize {
+        take_rule(book.rule(k), n, chart);
     }
 }
 
@@ -127,54 +94,41 @@ fn named_in(image: &[u8], at: usize, count: usize, n: usize) -> Named
 }
 
 // What condition e says.
-fn named_by(image: &[u8], counts: Counts, e: usize) -> Named
-    requires { (Opened image.now counts) × (e < conditions_in image.now) }
-    ensures conditions_value { number result.conditions ≡ gathered_conditions (stages_in image.now) (text_of (book_of image.now) e) }
-    ensures milestones_value { number result.milestones ≡ gathered_milestones (stages_in image.now) (text_of (book_of image.now) e) }
+fn named_by(book: BookReader<'_>, e: usize) -> Named
+    requires { (Opened book.image.now book.counts) × (e < conditions_in book.image.now) }
+    ensures conditions_value { number result.conditions ≡ gathered_conditions (stages_in book.entry.image.now) (text_of (book_of book.entry.image.now) e) }
+    ensures milestones_value { number result.milestones ≡ gathered_milestones (stages_in book.entry.image.now) (text_of (book_of book.entry.image.now) e) }
 {
-    let span = condition_in(image, counts, e);
-    let from = words_from(counts.rules, counts.conditions);
+    let span = book.condition(e);
+    let from = words_from(book.counts.rules, book.counts.conditions);
     named_in(
-        image,
+        book.image,
         from + WORD_SIZE * (span.start as usize),
         span.count as usize,
-        counts.stages as usize,
+        book.counts.stages as usize,
     )
 }
 
 // What the texts say, into tables of empty sets: condition e is stage e's.
-pub fn gather_texts(
-    image: &[u8],
-    counts: Counts,
-    conditions: &mut [u64; TABLE],
-    milestones: &mut [u64; TABLE],
-)
-    requires { (Opened image.now counts) × (stages_in image.now ≤ conditions_in image.now) × (rows_of conditions.old ≡ replicate max_events 0) × (rows_of milestones.old ≡ replicate max_events 0) }
-    ensures conditions_after { rows_of conditions.new ≡ rows_below (stages_in image.now) (λ e. gathered_conditions (stages_in image.now) (text_of (book_of image.now) e)) }
-    ensures milestones_after { rows_of milestones.new ≡ rows_below (stages_in image.now) (λ e. gathered_milestones (stages_in image.now) (text_of (book_of image.now) e)) }
+pub fn gather_texts(book: BookReader<'_>, chart: &mut FlatChart)
+    requires { (Opened book.image.now book.counts) × (stages_in book.image.now ≤ conditions_in book.image.now) × (rows_of chart.old.conditions ≡ replicate max_events 0) × (rows_of chart.old.milestones ≡ replicate max_events 0) }
+    ensures { flat_of chart.new ≡ with_texts (stages_in book.entry.image.now) (text_of (book_of book.entry.image.now)) (flat_of chart.old) }
 {
-    let n = counts.stages as usize;
-    for e in 0..n {
-        let named = named_by(image, counts, e);
-        wide::set_row(conditions, e, named.conditions);
-        wide::set_row(milestones, e, named.milestones);
+    for e in 0..book.counts.stages as usize {
+        let named = named_by(book, e);
+        wide::set_row(&mut chart.conditions, e, named.conditions);
+        wide::set_row(&mut chart.milestones, e, named.milestones);
     }
 }
 
 // The chart behind a book that is well formed and has a condition for each stage, into a chart that is still empty.
-pub fn gather_into(image: &[u8], counts: Counts, chart: &mut FlatChart)
-    requires { (Opened image.now counts) × (stages_in image.now ≤ conditions_in image.now) × (flat_of chart.old ≡ empty_chart) }
-    ensures { flat_of chart.new ≡ gathered (book_of image.now) }
+pub fn gather_into(book: BookReader<'_>, chart: &mut FlatChart)
+    requires { (Opened book.image.now book.counts) × (stages_in book.image.now ≤ conditions_in book.image.now) × (flat_of chart.old ≡ empty_chart) }
+    ensures { flat_of chart.new ≡ gathered (book_of book.entry.image.now) }
 {
-    gather_rules(
-        image,
-        counts,
-        &mut chart.includes,
-        &mut chart.excludes,
-        &mut chart.responses,
-    );
-    gather_texts(image, counts, &mut chart.conditions, &mut chart.milestones);
-    chart.count = counts.stages;
+    gather_rules(book, chart);
+    gather_texts(book, chart);
+    chart.count = book.counts.stages;
 }
 
 // The same, handed back.
@@ -183,6 +137,6 @@ pub fn gather(image: &[u8], counts: Counts) -> FlatChart
     ensures { flat_of result ≡ gathered (book_of image.now) }
 {
     let mut chart = FlatChart::empty();
-    gather_into(image, counts, &mut chart);
+    gather_into(BookReader { image, counts }, &mut chart);
     chart
 }

@@ -3,29 +3,29 @@
 
 ghost use Rattle.std.specs.Prelude.{◌≡◌, true, [], ◌∷◌, ◌+◌, ◌*◌, ◌<◌, ◌≤◌, length};
 ghost use Rattle.paper.specs.Limits.{max_events, max_marks, max_rules, rule_size};
-ghost use Rattle.sets.specs.Set.{union, within};
-ghost use Rattle.wide.specs.Number.{number, rows_of};
+ghost use Rattle.sets.specs.Set.{within};
+ghost use Rattle.wide.specs.Number.{number};
+ghost use Rattle.flat_chart.specs.Numbers.{lent_of};
 ghost use Rattle.general.specs.Lists.{flat, packed};
 ghost use Rattle.book.specs.ImageOf.{effect_byte, rule_record, rule_bytes};
-ghost use Rattle.derived.specs.Derived.{on, answering, completion, stage_rules};
-ghost use Rattle.derived.specs.Sizes.{effects, completion_size, completions_size};
+ghost use Rattle.derived.specs.Derived.{on, answering, stage_rules};
+ghost use Rattle.derived.specs.Sizes.{effects, completion_rules, completions_rules};
 ghost use Rattle.general.specs.Writing.{Fits, Wrote};
-ghost use Rattle.derived.specs.Parts.{completion_at, CompletionsIn};
+ghost use Rattle.derived.specs.Parts.{CompletionKept, CompletionsKept, completion_of, completions_of};
 
 use book::rules::{
     CONDITION_AT, EFFECT_AT, EFFECT_CLEAR, EFFECT_SET, NUMBER_AT, SENSE_AS_WRITTEN, SENSE_AT,
     SENSE_NEGATED, SENSE_NONE, SPARE_AT, TARGET_AT, TRIGGER_COMPLETED, TRIGGER_NONE,
 };
+use derived::put_parts;
+use flat_chart::LentChart;
 use paper::RULE_SIZE;
-use wide::{SET_WORDS, Set, TABLE};
+use wide::{SET_WORDS, Set};
 
 fn flag(b: bool) -> u8
     ensures { result ≡ effect_byte b }
 {
-    if b {
-        return EFFECT_SET;
-    }
-    EFFECT_CLEAR
+    if b { EFFECT_SET } else { EFFECT_CLEAR }
 }
 
 // One record. Every writer here hands back the place behind what it wrote.
@@ -98,8 +98,7 @@ fn put_effects(
     ensures { Wrote room.old at (packed rule_bytes (effects n e (number raise) (number among) base)) result room.new }
 {
     let mut next = at;
-    let mut i = 0;
-    while i < SET_WORDS {
+    for i in 0..SET_WORDS {
         next = put_word(
             room,
             next,
@@ -108,7 +107,6 @@ fn put_effects(
             wide::word(among, i),
             base + i * 64,
         );
-        i += 1;
     }
     next
 }
@@ -124,53 +122,29 @@ fn put_answer(room: &mut [u8], at: usize, n: usize, e: usize, responses: Set) ->
     put_on(room, at, e, true, 3 * n + e)
 }
 
-// Everything on the completion of e, which includes, excludes and has as responses these sets.
-pub fn put_completion(
-    room: &mut [u8],
-    at: usize,
-    n: usize,
-    e: usize,
-    includes: Set,
-    excludes: Set,
-    responses: Set,
-) -> usize
-    requires { (n ≤ max_events) × (e < n) × (within n (union (number includes) (number excludes)) ≡ true) × (within n (number responses) ≡ true) × Fits room.old at (packed rule_bytes (completion n e (number includes) (number excludes) (number responses))) }
-    ensures { Wrote room.old at (packed rule_bytes (completion n e (number includes) (number excludes) (number responses))) result room.new }
+// Everything on the completion of e.
+pub fn put_completion(room: &mut [u8], at: usize, chart: LentChart<'_>, e: usize) -> usize
+    requires { ((lent_of chart).count ≤ max_events) × CompletionKept (lent_of chart) e × (e < (lent_of chart).count) × Fits room.old at (completion_of (lent_of chart) e) }
+    ensures { Wrote room.old at (completion_of (lent_of chart.entry) e) result room.new }
 {
-    let changed = wide::join(includes, excludes);
+    let n = chart.count as usize;
+    let row = chart.row(e);
+    let changed = wide::join(row.includes, row.excludes);
     let none = wide::empty();
-    let a = put_effects(room, at, n, e, includes, changed, 2 * n);
-    let b = put_effects(room, a, n, e, none, responses, 3 * n);
-    let c = put_answer(room, b, n, e, responses);
+    let a = put_effects(room, at, n, e, row.includes, changed, 2 * n);
+    let b = put_effects(room, a, n, e, none, row.responses, 3 * n);
+    let c = put_answer(room, b, n, e, row.responses);
     put_on(room, c, e, true, n + e)
 }
 
-pub fn put_completions<'a>(
-    room: &mut [u8],
-    at: usize,
-    n: usize,
-    includes: &'a [u64; TABLE],
-    excludes: &'a [u64; TABLE],
-    responses: &'a [u64; TABLE],
-) -> usize
-    requires { (n ≤ max_events) × CompletionsIn n (rows_of includes.now) (rows_of excludes.now) (rows_of responses.now) × Fits room.old at (packed rule_bytes (flat n (completion_at n (rows_of includes.now) (rows_of excludes.now) (rows_of responses.now)))) }
-    ensures { Wrote room.old at (packed rule_bytes (flat n (completion_at n (rows_of includes.now) (rows_of excludes.now) (rows_of responses.now)))) result room.new }
+// Everything on the completion of each event.
+pub fn put_completions(room: &mut [u8], at: usize, chart: LentChart<'_>) -> usize
+    requires { ((lent_of chart).count ≤ max_events) × CompletionsKept (lent_of chart) × Fits room.old at (completions_of (lent_of chart)) }
+    ensures { Wrote room.old at (completions_of (lent_of chart.entry)) result room.new }
 {
-    let mut next = at;
-    let mut e = 0;
-    while e < n {
-        next = put_completion(
-            room,
-            next,
-            n,
-            e,
-            wide::row(includes, e),
-            wide::row(excludes, e),
-            wide::row(responses, e),
-        );
-        e += 1;
-    }
-    next
+    put_parts(room, at, chart.count as usize, |room, next, e| {
+        put_completion(room, next, chart, e)
+    })
 }
 
 // Without trigger: set stage e if condition e, and clear it if not.
@@ -184,48 +158,33 @@ pub fn put_stage(room: &mut [u8], at: usize, e: usize) -> usize
     put_rule(room, next, kind, SENSE_NEGATED, EFFECT_CLEAR, 0, e, e)
 }
 
+// The two rules of each stage.
 pub fn put_stages(room: &mut [u8], at: usize, n: usize) -> usize
     requires { (n ≤ max_events) × Fits room.old at (packed rule_bytes (flat n stage_rules)) }
     ensures { Wrote room.old at (packed rule_bytes (flat n stage_rules)) result room.new }
 {
-    let mut next = at;
-    let mut e = 0;
-    while e < n {
-        next = put_stage(room, next, e);
-        e += 1;
-    }
-    next
+    put_parts(room, at, n, |room, next, e| put_stage(room, next, e))
 }
 
 // How many rules the completion of e has: e and its responses together are the events whose answer changes.
-fn completion_size(e: usize, includes: Set, excludes: Set, responses: Set) -> usize
+fn completion_size(chart: LentChart<'_>, e: usize) -> usize
     requires { e < max_events }
-    ensures { result ≡ completion_size e (number includes) (number excludes) (number responses) }
+    ensures { result ≡ completion_rules (lent_of chart.entry) e }
 {
-    let changed = wide::join(includes, excludes);
-    let answers = wide::join(responses, wide::one(e));
+    let row = chart.row(e);
+    let changed = wide::join(row.includes, row.excludes);
+    let answers = wide::join(row.responses, wide::one(e));
     wide::count(changed) as usize + wide::count(answers) as usize + 1
 }
 
-pub fn completions_size<'a>(
-    n: usize,
-    includes: &'a [u64; TABLE],
-    excludes: &'a [u64; TABLE],
-    responses: &'a [u64; TABLE],
-) -> usize
-    requires { (n ≤ max_events) × CompletionsIn n (rows_of includes.now) (rows_of excludes.now) (rows_of responses.now) }
-    ensures { (result ≡ completions_size n (rows_of includes.now) (rows_of excludes.now) (rows_of responses.now)) × (result + 2 * max_events ≤ max_rules) }
+// How many rules the completions have.
+pub fn completions_size(chart: LentChart<'_>) -> usize
+    requires { ((lent_of chart).count ≤ max_events) × CompletionsKept (lent_of chart) }
+    ensures { (result ≡ completions_rules (lent_of chart.entry)) × (result + 2 * max_events ≤ max_rules) }
 {
     let mut sum: usize = 0;
-    let mut e = 0;
-    while e < n {
-        sum += completion_size(
-            e,
-            wide::row(includes, e),
-            wide::row(excludes, e),
-            wide::row(responses, e),
-        );
-        e += 1;
+    for e in 0..chart.count as usize {
+        sum += completion_size(chart, e);
     }
     sum
 }

@@ -4,39 +4,44 @@
 ghost use Rattle.std.specs.Prelude.{◌≡◌, true, [], ◌∷◌, ◌+◌, ◌*◌, ◌<◌, ◌≤◌, length};
 ghost use Rattle.paper.specs.Limits.{max_events, max_marks, max_words, condition_size, word_size, not_word, or_word, and_word};
 ghost use Rattle.sets.specs.Set.{within};
-ghost use Rattle.wide.specs.Number.{number, rows_of};
+ghost use Rattle.wide.specs.Number.{number};
+ghost use Rattle.flat_chart.specs.Numbers.{lent_of};
 ghost use Rattle.wire.specs.Wire.{bytes16};
 ghost use Rattle.general.specs.Lists.{flat, packed};
 ghost use Rattle.book.specs.ImageOf.{condition_bytes};
-ghost use Rattle.derived.specs.Derived.{listed, text_for};
-ghost use Rattle.derived.specs.Sizes.{text_size, texts_size};
+ghost use Rattle.derived.specs.Derived.{listed};
+ghost use Rattle.derived.specs.Sizes.{text_words, texts_words};
 ghost use Rattle.general.specs.Writing.{Fits, Wrote};
-ghost use Rattle.derived.specs.Parts.{condition_made, clause_from, text_at, condition_part, TextsIn};
+ghost use Rattle.derived.specs.Parts.{condition_made, clause_from, TextKept, TextsKept, records_of, text_of, texts_of};
 
 use book::conditions::COUNT_AT;
+use derived::put_parts;
+use flat_chart::LentChart;
 use paper::{AND, CONDITION_SIZE, NOT, OR};
-use wide::{SET_WORDS, Set, TABLE};
+use wide::{SET_WORDS, Set};
 
-// Words of the text of an event with these conditions and milestones.
-pub fn text_size(conditions: Set, milestones: Set) -> usize
-    ensures { result ≡ text_size (number conditions) (number milestones) }
+// Words of the text of e.
+pub fn text_size(chart: LentChart<'_>, e: usize) -> usize
+    requires { e < max_events }
+    ensures { result ≡ text_words (lent_of chart.entry) e }
 {
-    5 * (wide::count(conditions) as usize + wide::count(milestones) as usize) + 1
+    let row = chart.row(e);
+    5 * (wide::count(row.conditions) as usize + wide::count(row.milestones) as usize) + 1
 }
 
-pub fn texts_size<'a>(n: usize, conditions: &'a [u64; TABLE], milestones: &'a [u64; TABLE]) -> usize
-    requires { (n ≤ max_events) × TextsIn n (rows_of conditions.now) (rows_of milestones.now) }
-    ensures { (result ≡ texts_size n (rows_of conditions.now) (rows_of milestones.now)) × (result ≤ max_words) }
+// Words of all texts.
+pub fn texts_size(chart: LentChart<'_>) -> usize
+    requires { ((lent_of chart).count ≤ max_events) × TextsKept (lent_of chart) }
+    ensures { (result ≡ texts_words (lent_of chart.entry)) × (result ≤ max_words) }
 {
     let mut sum: usize = 0;
-    let mut e = 0;
-    while e < n {
-        sum += text_size(wide::row(conditions, e), wide::row(milestones, e));
-        e += 1;
+    for e in 0..chart.count as usize {
+        sum += text_size(chart, e);
     }
     sum
 }
 
+// One condition record.
 pub fn put_condition(room: &mut [u8], at: usize, start: usize, count: usize) -> usize
     requires { (start ≤ max_words) × (count ≤ max_words) × (at + condition_size ≤ length room.old) }
     ensures { Wrote room.old at (packed condition_bytes (condition_made start count ∷ [])) result room.new }
@@ -47,24 +52,16 @@ pub fn put_condition(room: &mut [u8], at: usize, start: usize, count: usize) -> 
 }
 
 // A record for each event: its text starts where the one before it ends.
-pub fn put_conditions<'a>(
-    room: &mut [u8],
-    at: usize,
-    n: usize,
-    conditions: &'a [u64; TABLE],
-    milestones: &'a [u64; TABLE],
-) -> usize
-    requires { (n ≤ max_events) × TextsIn n (rows_of conditions.now) (rows_of milestones.now) × Fits room.old at (packed condition_bytes (flat n (condition_part n (rows_of conditions.now) (rows_of milestones.now)))) }
-    ensures { Wrote room.old at (packed condition_bytes (flat n (condition_part n (rows_of conditions.now) (rows_of milestones.now)))) result room.new }
+pub fn put_conditions(room: &mut [u8], at: usize, chart: LentChart<'_>) -> usize
+    requires { ((lent_of chart).count ≤ max_events) × TextsKept (lent_of chart) × Fits room.old at (records_of (lent_of chart)) }
+    ensures { Wrote room.old at (records_of (lent_of chart.entry)) result room.new }
 {
     let mut next = at;
     let mut start: usize = 0;
-    let mut e = 0;
-    while e < n {
-        let count = text_size(wide::row(conditions, e), wide::row(milestones, e));
+    for e in 0..chart.count as usize {
+        let count = text_size(chart, e);
         next = put_condition(room, next, start, count);
         start += count;
-        e += 1;
     }
     next
 }
@@ -103,8 +100,7 @@ fn put_clauses(room: &mut [u8], at: usize, n: usize, base: usize, set: Set) -> u
     ensures { Wrote room.old at (packed bytes16 (flat n (listed (clause_from (2 * n) base) (number set)))) result room.new }
 {
     let mut next = at;
-    let mut i = 0;
-    while i < SET_WORDS {
+    for i in 0..SET_WORDS {
         next = put_word(
             room,
             next,
@@ -112,49 +108,28 @@ fn put_clauses(room: &mut [u8], at: usize, n: usize, base: usize, set: Set) -> u
             base + i * 64,
             wide::word(set, i),
         );
-        i += 1;
     }
     next
 }
 
-pub fn put_text(
-    room: &mut [u8],
-    at: usize,
-    n: usize,
-    e: usize,
-    conditions: Set,
-    milestones: Set,
-) -> usize
-    requires { (n ≤ max_events) × (e < n) × (within n (number conditions) ≡ true) × (within n (number milestones) ≡ true) × Fits room.old at (packed bytes16 (text_for n e (number conditions) (number milestones))) }
-    ensures { Wrote room.old at (packed bytes16 (text_for n e (number conditions) (number milestones))) result room.new }
+// The text of e.
+pub fn put_text(room: &mut [u8], at: usize, chart: LentChart<'_>, e: usize) -> usize
+    requires { ((lent_of chart).count ≤ max_events) × TextKept (lent_of chart) e × (e < (lent_of chart).count) × Fits room.old at (text_of (lent_of chart) e) }
+    ensures { Wrote room.old at (text_of (lent_of chart.entry) e) result room.new }
 {
+    let n = chart.count as usize;
+    let row = chart.row(e);
     wire::put16(room, at, (2 * n + e) as u16);
-    let next = put_clauses(room, at + 2, n, n, conditions);
-    put_clauses(room, next, n, 3 * n, milestones)
+    let next = put_clauses(room, at + 2, n, n, row.conditions);
+    put_clauses(room, next, n, 3 * n, row.milestones)
 }
 
-pub fn put_texts<'a>(
-    room: &mut [u8],
-    at: usize,
-    n: usize,
-    conditions: &'a [u64; TABLE],
-    milestones: &'a [u64; TABLE],
-) -> usize
-    requires { (n ≤ max_events) × TextsIn n (rows_of conditions.now) (rows_of milestones.now) × Fits room.old at (packed bytes16 (flat n (text_at n (rows_of conditions.now) (rows_of milestones.now)))) }
-    ensures { Wrote room.old at (packed bytes16 (flat n (text_at n (rows_of conditions.now) (rows_of milestones.now)))) result room.new }
+// The text of each event.
+pub fn put_texts(room: &mut [u8], at: usize, chart: LentChart<'_>) -> usize
+    requires { ((lent_of chart).count ≤ max_events) × TextsKept (lent_of chart) × Fits room.old at (texts_of (lent_of chart)) }
+    ensures { Wrote room.old at (texts_of (lent_of chart.entry)) result room.new }
 {
-    let mut next = at;
-    let mut e = 0;
-    while e < n {
-        next = put_text(
-            room,
-            next,
-            n,
-            e,
-            wide::row(conditions, e),
-            wide::row(milestones, e),
-        );
-        e += 1;
-    }
-    next
+    put_parts(room, at, chart.count as usize, |room, next, e| {
+        put_text(room, next, chart, e)
+    })
 }
