@@ -1,4 +1,5 @@
 -- The root of the crate's proofs.
+pub mod Earlier
 pub mod Formed
-pub mod Kept
+pub mod Staying
 pub mod Written

@@ -27,7 +27,7 @@ use Rattle.smaller.specs.Smaller.{smaller_clauses, smaller_text, has_text, new_c
 use Rattle.smaller.specs.Runs.{effect_by, effects_by, completion_by, completions_by, text_left, condition_by, stage_by, record_by, clause_by, clauses_by, text_by, texts_by}
 use Rattle.smaller.specs.Numbering.{stays-stage, stays-executed, stays-included, stays-answered, new-stage, table_stays}
 use Rattle.smaller.specs.Kept.{executed_kept, included_kept, answered_kept, has-answered}
-use Rattle.smaller.proofs.Kept.{has-executed, has-included}
+use Rattle.smaller.proofs.Staying.{has-executed, has-included}
 use Rattle.smaller.specs.Written.{listed-one, listed-own, completions_of, texts_of, sizes_of}
 
 -- ---- one part alone

@@ -3,6 +3,7 @@ pub mod Staying
 pub mod Clauses
 pub mod Smaller
 pub mod Runs
+pub mod Keeping
 pub mod Loops
 pub mod Examples
 pub mod Numbering

@@ -1,5 +1,5 @@
 -- What deriving a smaller book gives back, and what it leaves in the room. Assumes nothing.
-use Rattle.std.specs.Prelude.{ℕ, ◌*◌, ◌≤◌, ◌≡◌, Bool, true, not, cond, List, ◌++◌, leb, get_or, drop, replicate}
+use Rattle.std.specs.Prelude.{ℕ, ◌*◌, ◌≤◌, ◌≡◌, Bool, true, cond, List, ◌++◌, leb, get_or, drop, replicate}
 use Rattle.std.proofs.Math.Path.{sym, ap}
 use Rattle.std.proofs.Common.{◌∙◌, arith}
 use Rattle.std.proofs.Math.Bool.{false}
@@ -7,7 +7,6 @@ use Rattle.std.proofs.Math.ListN.{length, length-append}
 use Rattle.paper.specs.Limits.{max_marks, max_rules, max_conditions, max_words, no_mark, unfit, book_room}
 use Rattle.paper.specs.Answers.{answer, granted, refusal}
 use Rattle.paper.specs.declared.Answer.{Answer}
-use borrow.Author.Tests.{not-true, not-false}
 use Rattle.flat_chart.specs.Chart.{Fit}
 use Rattle.graph.specs.Fitness.{fit}
 use Rattle.graph.specs.Fitness.{fit-both}
@@ -17,6 +16,7 @@ use Rattle.book.specs.ImageOf.{image_of}
 use Rattle.smaller.specs.Staying.{mark_table, smaller_marks}
 use Rattle.smaller.specs.Kept.{executed_kept, included_kept, answered_kept}
 use Rattle.smaller.specs.Written.{completions_of, sizes_of}
+use Rattle.smaller.specs.Keeping.{Keeping}
 use Rattle.smaller.proofs.Written.{image-runs, rules-runs, records-runs, words_runs, size-at}
 use Rattle.smaller.specs.Runs.{stage_by}
 use Rattle.smaller.specs.Numbering.{marks-fewer}
@@ -55,54 +55,61 @@ module _ (c : FlatChart) (m : Marking) where
 
 -- ---- each return, as the code meets it
 
-module _ (c : FlatChart) (m : Marking) (room : List ℕ) (b : Bool) (p : b ≡ fit c m) where
-  pub smaller-unfit : not b ≡ true → (a : Answer) (r : Smaller) → a ≡ refusal unfit → r ≡ refusing_smaller a → (r ≡ deriving_smaller c m (length room)) ×
-      (room ≡ smaller_room c m room)
-  unfolding deriving_smaller smaller_room
-  smaller-unfit t a r q s = let z : fit c m ≡ false = sym p ∙ not-true b t in (s ∙ rw (q, z), rw z)
+-- what is to be kept
+abbrev keeping_for : FlatChart → Marking → Keeping
+keeping_for c m = record { n = c.count; executed = executed_kept c m; included = included_kept c m; answered = answered_kept c m; table = mark_table c m }
 
-  module _ (t : not b ≡ false) where
+module _ (c : FlatChart) (m : Marking) (room : List ℕ) (b : Bool) (p : b ≡ fit c m) where
+  pub smaller-unfit : b ≡ false → {a : Answer} {r : Smaller} → a ≡ refusal unfit → r ≡ refusing_smaller a → (r ≡ deriving_smaller c m (length room)) × (room ≡ smaller_room c m room)
+  unfolding deriving_smaller smaller_room
+  smaller-unfit t q s = let z : fit c m ≡ false = sym p ∙ t in (s ∙ rw (q, z), rw z)
+
+  module _ (t : b ≡ true) where
     ok : fit c m ≡ true
-    ok = sym p ∙ not-false b t
+    ok = sym p ∙ t
 
     pub chart-fit : Fit c
     chart-fit = (fit-both c m ok).0
 
-    module _ (E I A M : ℕ) (T : List ℕ) (p_e : E ≡ executed_kept c m) (p_i : I ≡ included_kept c m) (p_a : A ≡ answered_kept c m) (p_t : (T ≡ table_by c.count E I A) × (M ≡ marks_by
+    abbrev kept : Keeping
+    kept = keeping_for c m
+
+    rules-so : rules_run kept (sizes_of c m) c ≡ length (smaller_rules c m)
+    unfolding rules_run
+    rules-so = sym (ap length (rules-runs c m chart-fit) ∙ length-append (flat c.count (completions_of c m)) (flat c.count (stage_by (sizes_of c m))))
+
+    records-so : records_run kept (sizes_of c m) c ≡ length (flat c.count (smaller_condition c m))
+    unfolding records_run
+    records-so = sym (ap length (records-runs c m chart-fit))
+
+    words-so : words_run kept (sizes_of c m) c ≡ length (flat c.count (smaller_text c m))
+    unfolding words_run
+    words-so = sym (ap length (words_runs c m chart-fit))
+
+    within : (length (smaller_rules c m) ≤ max_rules) × (length (flat c.count (smaller_condition c m)) ≤ max_conditions) × (length (flat c.count (smaller_text c m)) ≤ max_words)
+    unfolding smaller_book
+    within = let f = smaller-formed c m chart-fit in (f.rules, f.conditions, f.words)
+
+    sized : total c.count (λ e. get_or (sizes_of c m) e 0) ≡ length (flat c.count (smaller_text c m))
+    sized = total-same c.count (λ e. get_or (sizes_of c m) e 0) (λ e. length (smaller_text c m e)) (size-at c m chart-fit) ∙ sym (length-flat c.count (smaller_text c m))
+
+    -- what the code keeps, and how many marks
+    module _ {E I A M : ℕ} {T : List ℕ} (p_e : E ≡ executed_kept c m) (p_i : I ≡ included_kept c m) (p_a : A ≡ answered_kept c m) (p_t : (T ≡ table_by c.count E I A) × (M ≡ marks_by
         c.count E I A)) where
+      abbrev made : Keeping
+      made = record { n = c.count; executed = E; included = I; answered = A; table = T }
+
       tabled : T ≡ mark_table c m
       tabled = p_t.0 ∙ rw (p_e, p_i, p_a) (table_is c m chart-fit.few)
 
       marked : M ≡ smaller_marks c m
       marked = p_t.1 ∙ rw (p_e, p_i, p_a) (marks-are c m chart-fit.few)
 
-      rules-so : rules_run c.count (executed_kept c m) (included_kept c m) (answered_kept c m) (mark_table c m) (sizes_of c m) c.conditions c.responses c.milestones
-          c.includes c.excludes ≡ length (smaller_rules c m)
-      unfolding rules_run
-      rules-so = sym (ap length (rules-runs c m chart-fit) ∙ length-append (flat c.count (completions_of c m)) (flat c.count (stage_by (sizes_of c m))))
-
-      records-so : records_run c.count (executed_kept c m) (included_kept c m) (answered_kept c m) (mark_table c m) (sizes_of c m) c.conditions c.responses c.milestones
-          c.includes c.excludes ≡ length (flat c.count (smaller_condition c m))
-      unfolding records_run
-      records-so = sym (ap length (records-runs c m chart-fit))
-
-      words-so : words_run c.count (executed_kept c m) (included_kept c m) (answered_kept c m) (mark_table c m) (sizes_of c m) c.conditions c.responses c.milestones
-          c.includes c.excludes ≡ length (flat c.count (smaller_text c m))
-      unfolding words_run
-      words-so = sym (ap length (words_runs c m chart-fit))
-
-      pub image-is : whole_runs c.count M E I A T c.conditions c.responses c.milestones c.includes c.excludes ≡ smaller_image c m
+      pub image-is : whole_runs made M c ≡ smaller_image c m
       unfolding whole_runs book_runs
       image-is = rw (tabled, marked, p_e, p_i, p_a, rules-so, records-so, words-so) (sym (image-runs c m chart-fit))
 
-      within : (length (smaller_rules c m) ≤ max_rules) × (length (flat c.count (smaller_condition c m)) ≤ max_conditions) × (length (flat c.count (smaller_text c m)) ≤ max_words)
-      unfolding smaller_book
-      within = let f = smaller-formed c m chart-fit in (f.rules, f.conditions, f.words)
-
-      sized : total c.count (λ e. get_or (sizes_of c m) e 0) ≡ length (flat c.count (smaller_text c m))
-      sized = total-same c.count (λ e. get_or (sizes_of c m) e 0) (λ e. length (smaller_text c m e)) (size-at c m chart-fit) ∙ sym (length-flat c.count (smaller_text c m))
-
-      pub whole : Whole c.count M E I A T c.conditions c.responses c.milestones c.includes c.excludes
+      pub whole : Whole made M c
       whole =
           record {
             few = chart-fit.few;
@@ -115,9 +122,7 @@ module _ (c : FlatChart) (m : Marking) (room : List ℕ) (b : Bool) (p : b ≡ f
             most = rw image-is (image-most c m chart-fit);
           }
 
-      module _ (a : Answer) (after : List ℕ)
-          (w : (a ≡ whole_answer c.count M E I A T c.conditions c.responses c.milestones c.includes c.excludes (length room))
-          × (after ≡ whole_room c.count M E I A T c.conditions c.responses c.milestones c.includes c.excludes room)) where
+      module _ {a : Answer} {after : List ℕ} (w : (a ≡ whole_answer made M c (length room)) × (after ≡ whole_room made M c room)) where
         abbrev fits : Bool
         fits = leb (length (smaller_image c m)) (length room)
 
@@ -128,16 +133,16 @@ module _ (c : FlatChart) (m : Marking) (room : List ℕ) (b : Bool) (p : b ≡ f
         unfolding smaller_room
         left = w.1 ∙ rw (image-is, ok)
 
-        pub smaller-narrow : (a.code ≡ 0 → ⊥) → (r : Smaller) → r ≡ refusing_smaller a → (r ≡ deriving_smaller c m (length room)) × (after ≡ smaller_room c m room)
+        pub smaller-narrow : (a.code ≡ 0 → ⊥) → {r : Smaller} → r ≡ refusing_smaller a → (r ≡ deriving_smaller c m (length room)) × (after ≡ smaller_room c m room)
         unfolding deriving_smaller
-        smaller-narrow n r q = (
+        smaller-narrow n q = (
           q ∙ cases fits (λ f. absurd (n (ap (λ (x : Answer). x.code) answered ∙ rw f))) (λ f. rw (answered, ok, f)),
           left,
         )
 
-        pub smaller-granted : a.code ≡ 0 → (r : Smaller) → r ≡ record { answer = a; table = T } → (r ≡ deriving_smaller c m (length room)) × (after ≡ smaller_room c m room)
+        pub smaller-granted : a.code ≡ 0 → {r : Smaller} → r ≡ record { answer = a; table = T } → (r ≡ deriving_smaller c m (length room)) × (after ≡ smaller_room c m room)
         unfolding deriving_smaller
-        smaller-granted z r q = (
+        smaller-granted z q = (
           q ∙ cases fits (λ f. rw (answered, ok, f, tabled)) (λ f. let y : a.code ≡ book_room = ap (λ (x : Answer). x.code) answered ∙ rw f in absurd (omega arith)),
           left,
         )

@@ -1,5 +1,5 @@
 -- The table of new mark numbers as the code fills it: four runs of n marks. Assumes nothing.
-use Rattle.std.specs.Prelude.{ℕ, zero, suc, ◌+◌, ◌-◌, ◌*◌, ◌≤◌, ◌<◌, ◌≡◌, Bool, cond, List, [], ◌∷◌, ◌++◌}
+use Rattle.std.specs.Prelude.{ℕ, zero, suc, ◌+◌, ◌-◌, ◌*◌, ◌≤◌, ◌<◌, ◌≡◌, Bool, true, false, cond, List, [], ◌∷◌, ◌++◌}
 use Rattle.std.proofs.Math.Path.{refl, sym, ap}
 use Rattle.std.proofs.Common.{◌∙◌, append_assoc, append-nil}
 use native.Mathlib.Omega.{arith}
@@ -18,7 +18,7 @@ use Rattle.graph.specs.Flat.{Marking}
 use Rattle.deriver.specs.Matching.{four_runs}
 use Rattle.smaller.specs.Staying.{stays, new_mark, smaller_marks, mark_table}
 use Rattle.smaller.specs.Kept.{union_upto, union-step, executed_kept, included_kept, answered_kept, has-answered}
-use Rattle.smaller.proofs.Kept.{has-executed, has-included}
+use Rattle.smaller.proofs.Staying.{has-executed, has-included}
 use Rattle.smaller.specs.Numbering.{stays-stage, stays-executed, stays-included, stays-answered, stays-below}
 
 -- the new number of mark e of a run, where next is the first that is free
@@ -27,34 +27,34 @@ numbered set next e = cond (has set e) (next + tally e (has set)) no_mark
 
 -- ---- as the loop meets it
 
-pub numbers_more : (start table : List ℕ) (at set next e v : ℕ) → v ≡ numbered set next e → table ≡ sets start at (each e (numbered set next))
-    → lib.ListN.set table (at + e) v ≡ sets start at (each (e + 1) (numbered set next))
-numbers_more start table at set next e v p q =
-    rw (q, p, flat_step e (λ k. numbered set next k ∷ []))
-    (sym (sets-append (each e (numbered set next)) (numbered set next e ∷ []) start at ∙ rw (length-each e (numbered set next))))
+pub union_more : (t : List ℕ) (e : ℕ) {s r v : ℕ} → s ≡ union_upto e t → r ≡ get_or t e 0 → v ≡ union s r → v ≡ union_upto (e + 1) t
+union_more t e p q u = u ∙ rw (p, q) (sym (union-step e t))
 
-pub numbers-all : (start table : List ℕ) (at set next e n : ℕ) → e ≤ n → n ≤ e → table ≡ sets start at (each e (numbered set next)) → table ≡ sets start at (each n
-    (numbered set next))
-numbers-all start table at set next e n h l p = let z : e ≡ n = omega arith in p ∙ ap (λ (k : ℕ). sets start at (each k (numbered set next))) z
+-- the first e marks of a run have their numbers, and free is the next
+pub record Passed (start : List ℕ) (at set next e free : ℕ) (table : List ℕ) : Type 0 where
+  pub counted : free ≡ next + tally e (has set)
+  pub numbers : table ≡ sets start at (each e (numbered set next))
 
-pub union_more : (t : List ℕ) (e s r v : ℕ) → s ≡ union_upto e t → r ≡ get_or t e 0 → v ≡ union s r → v ≡ union_upto (e + 1) t
-union_more t e s r v p q u = u ∙ rw (p, q) (sym (union-step e t))
+module _ {start : List ℕ} {at set next e free : ℕ} {table : List ℕ} (p : Passed start at set next e free table) where
+  pub free-few : (n : ℕ) → e < n → free < next + n
+  free-few n h = let l : tally e (has set) ≤ e = tally-le e (has set) in let q = p.counted in omega arith
 
-pub union-all : (t : List ℕ) (e n s : ℕ) → e ≤ n → n ≤ e → s ≡ union_upto e t → s ≡ union_upto n t
-union-all t e n s h l p = let z : e ≡ n = omega arith in p ∙ ap (λ (k : ℕ). union_upto k t) z
+  numbers_more : {v : ℕ} → v ≡ numbered set next e → lib.ListN.set table (at + e) v ≡ sets start at (each (e + 1) (numbered set next))
+  numbers_more q =
+      rw (q, p.numbers, flat_step e (λ k. numbered set next k ∷ []))
+      (sym (sets-append (each e (numbered set next)) (numbered set next e ∷ []) start at ∙ rw (length-each e (numbered set next))))
 
--- one number more is free where the mark stays
-pub free_more : (set next e free r : ℕ) (b : Bool) → b ≡ has set e → free ≡ next + tally e (has set) → r ≡ cond b 1 0 + free → r ≡ next + tally (e + 1) (has set)
-free_more set next e free r b p q u = let z : tally (e + 1) (has set) ≡ cond (has set e) 1 0 + tally e (has set) = tally-step e (has set) in u ∙ rw (p, q, z) (omega arith)
+  pub mark-kept : has set e ≡ true → Passed start at set next (e + 1) (free + 1) (lib.ListN.set table (at + e) free)
+  mark-kept t =
+      let z : tally (e + 1) (has set) ≡ 1 + tally e (has set) = tally-step e (has set) ∙ rw t in
+      let q = p.counted in
+      record { counted = omega arith; numbers = numbers_more (q ∙ rw t) }
 
-pub free_all : (set next e n free : ℕ) → e ≤ n → n ≤ e → free ≡ next + tally e (has set) → free ≡ next + tally n (has set)
-free_all set next e n free h l p = let z : e ≡ n = omega arith in p ∙ ap (λ (k : ℕ). next + tally k (has set)) z
-
-pub free-few : (set next e n free : ℕ) → e < n → free ≡ next + tally e (has set) → free < next + n
-free-few set next e n free h p = let l : tally e (has set) ≤ e = tally-le e (has set) in omega arith
-
-pub number-made : (set next e free v : ℕ) (b : Bool) → b ≡ has set e → free ≡ next + tally e (has set) → v ≡ cond b free no_mark → v ≡ numbered set next e
-number-made set next e free v b p q u = u ∙ rw (p, q)
+  pub mark-dropped : has set e ≡ false → Passed start at set next (e + 1) free (lib.ListN.set table (at + e) no_mark)
+  mark-dropped t =
+      let z : tally (e + 1) (has set) ≡ 0 + tally e (has set) = tally-step e (has set) ∙ rw t in
+      let q = p.counted in
+      record { counted = omega arith; numbers = numbers_more (rw t) }
 
 -- ---- the four runs, by the sets of events whose marks stay
 

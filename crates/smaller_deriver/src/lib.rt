@@ -2,21 +2,21 @@
 #![tactic(auto)]
 
 ghost use Rattle.std.specs.Prelude.{◌≡◌, length};
-ghost use Rattle.wide.specs.Number.{number, rows_of};
-ghost use Rattle.flat_chart.specs.Chart.{chart_of};
-ghost use Rattle.flat_chart.specs.Numbers.{flat_of};
+ghost use Rattle.flat_chart.specs.Numbers.{flat_of, lent_of};
 ghost use Rattle.graph.specs.Numbers.{marks_of};
 ghost use Rattle.general.specs.Writing.{Ran};
+ghost use Rattle.smaller.specs.Keeping.{keeping_of};
 ghost use Rattle.smaller_deriver.specs.Calling.{deriving_smaller, smaller_room, refusing_smaller};
 ghost use Rattle.smaller_deriver.specs.Book.{book_runs, Ready, Laid, Whole, whole_answer, whole_room};
 
-use flat_chart::FlatChart;
+use book::Counts;
+use flat_chart::{FlatChart, LentChart};
 use graph::Marking;
 use paper::{
-    Answer, BOOK_HEADER, BOOK_ROOM, CONDITION_SIZE, MAX_EVENTS, MAX_MARKS, NO_MARK, RULE_SIZE,
-    UNFIT, WORD_SIZE,
+    Answer, BOOK_HEADER, CONDITION_SIZE, MAX_EVENTS, MAX_MARKS, NO_MARK, RULE_SIZE, Refusal,
+    WORD_SIZE,
 };
-use wide::{Set, TABLE};
+use smaller::Kept;
 
 pub mod marks;
 
@@ -37,32 +37,20 @@ pub struct Places {
 }
 
 // Everything behind the header, run behind run: counted, and written where the room holds it.
-fn put_parts<'a>(
+fn put_parts(
     room: &mut [u8],
     at: usize,
-    n: usize,
-    executed: Set,
-    included: Set,
-    answered: Set,
-    table: &'a [u16; MAX_MARKS],
-    sizes: &'a [usize; MAX_EVENTS],
-    conditions: &'a [u64; TABLE],
-    responses: &'a [u64; TABLE],
-    milestones: &'a [u64; TABLE],
-    includes: &'a [u64; TABLE],
-    excludes: &'a [u64; TABLE],
+    kept: Kept<'_>,
+    chart: LentChart<'_>,
+    sizes: &[usize; MAX_EVENTS],
 ) -> Places
-    requires { Ready n (number executed) (number included) (number answered) table.now sizes.now (rows_of conditions.now) (rows_of responses.now) (rows_of milestones.now) (rows_of includes.now) (rows_of excludes.now) at }
-    ensures { Laid n (number executed) (number included) (number answered) table.now sizes.now (rows_of conditions.now) (rows_of responses.now) (rows_of milestones.now) (rows_of includes.now) (rows_of excludes.now) at result.rules result.records result.end × Ran room.old at (book_runs n (number executed) (number included) (number answered) table.now sizes.now (rows_of conditions.now) (rows_of responses.now) (rows_of milestones.now) (rows_of includes.now) (rows_of excludes.now)) result.end room.new }
+    requires { Ready (keeping_of kept) sizes.now (lent_of chart) at }
+    ensures { Laid (keeping_of kept.entry) sizes.now (lent_of chart.entry) at result.rules result.records result.end × Ran room.old at (book_runs (keeping_of kept.entry) sizes.now (lent_of chart.entry)) result.end room.new }
 {
-    let a = smaller_rules::put_completions(
-        room, at, n, executed, included, answered, includes, excludes, responses, table,
-    );
-    let rules = smaller_rules::put_stages(room, a, n, sizes);
-    let records = smaller_texts::put_conditions(room, rules, n, sizes);
-    let end = smaller_texts::put_texts(
-        room, records, n, included, answered, conditions, milestones, table,
-    );
+    let a = smaller_rules::put_completions(room, at, kept, chart);
+    let rules = smaller_rules::put_stages(room, a, kept.n, sizes);
+    let records = smaller_texts::put_conditions(room, rules, kept.n, sizes);
+    let end = smaller_texts::put_texts(room, records, kept, chart);
     Places {
         rules,
         records,
@@ -71,69 +59,25 @@ fn put_parts<'a>(
 }
 
 // The book with this many marks: counted by the run that then writes it, if the room holds it.
-fn put_book<'a>(
-    room: &mut [u8],
-    n: usize,
-    marks: usize,
-    executed: Set,
-    included: Set,
-    answered: Set,
-    table: &'a [u16; MAX_MARKS],
-    conditions: &'a [u64; TABLE],
-    responses: &'a [u64; TABLE],
-    milestones: &'a [u64; TABLE],
-    includes: &'a [u64; TABLE],
-    excludes: &'a [u64; TABLE],
-) -> Answer
-    requires { Whole n marks (number executed) (number included) (number answered) table.now (rows_of conditions.now) (rows_of responses.now) (rows_of milestones.now) (rows_of includes.now) (rows_of excludes.now) }
-    ensures { (result ≡ whole_answer n marks (number executed) (number included) (number answered) table.now (rows_of conditions.now) (rows_of responses.now) (rows_of milestones.now) (rows_of includes.now) (rows_of excludes.now) (length room.old)) × (room.new ≡ whole_room n marks (number executed) (number included) (number answered) table.now (rows_of conditions.now) (rows_of responses.now) (rows_of milestones.now) (rows_of includes.now) (rows_of excludes.now) room.old) }
+fn put_book(room: &mut [u8], marks: usize, kept: Kept<'_>, chart: LentChart<'_>) -> Answer
+    requires { Whole (keeping_of kept) marks (lent_of chart) }
+    ensures { (result ≡ whole_answer (keeping_of kept.entry) marks (lent_of chart.entry) (length room.old)) × (room.new ≡ whole_room (keeping_of kept.entry) marks (lent_of chart.entry) room.old) }
 {
-    let sizes = smaller_texts::text_sizes(n, included, answered, conditions, milestones, table);
-    let mut none = [0u8; 1];
-    let places = put_parts(
-        &mut none,
-        BOOK_HEADER,
-        n,
-        executed,
-        included,
-        answered,
-        table,
-        &sizes,
-        conditions,
-        responses,
-        milestones,
-        includes,
-        excludes,
-    );
+    let sizes = smaller_texts::text_sizes(kept, chart);
+    let mut none = [0; 1];
+    let places = put_parts(&mut none, BOOK_HEADER, kept, chart, &sizes);
     if room.len() < places.end {
-        return paper::refused(BOOK_ROOM, places.end as u32, 0);
+        return Answer::from(Refusal::BookRoom(places.end as u32));
     }
-    let rules = (places.rules - BOOK_HEADER) / RULE_SIZE;
-    let records = (places.records - places.rules) / CONDITION_SIZE;
-    let words = (places.end - places.records) / WORD_SIZE;
-    deriver::put_counts(
-        room,
-        n as u32,
-        marks as u32,
-        rules as u32,
-        records as u32,
-        words as u32,
-    );
-    put_parts(
-        room,
-        BOOK_HEADER,
-        n,
-        executed,
-        included,
-        answered,
-        table,
-        &sizes,
-        conditions,
-        responses,
-        milestones,
-        includes,
-        excludes,
-    );
+    let counts = Counts {
+        stages: kept.n as u32,
+        marks: marks as u32,
+        rules: ((places.rules - BOOK_HEADER) / RULE_SIZE) as u32,
+        conditions: ((places.records - places.rules) / CONDITION_SIZE) as u32,
+        words: ((places.end - places.records) / WORD_SIZE) as u32,
+    };
+    deriver::put_counts(room, counts);
+    put_parts(room, BOOK_HEADER, kept, chart, &sizes);
     paper::granted()
 }
 
@@ -144,48 +88,31 @@ fn refused(answer: Answer) -> Smaller
     Smaller { answer, table }
 }
 
-// Deriving a smaller book over lent tables: what `derive_smaller` does, with no copy of the chart.
-pub fn derive_smaller_in<'a>(
-    start: Marking,
-    count: u32,
-    conditions: &'a [u64; TABLE],
-    responses: &'a [u64; TABLE],
-    milestones: &'a [u64; TABLE],
-    includes: &'a [u64; TABLE],
-    excludes: &'a [u64; TABLE],
-    roles: &'a [u8; MAX_EVENTS],
-    room: &mut [u8],
-) -> Smaller
-    ensures { (result ≡ deriving_smaller (chart_of count (rows_of conditions.now) (rows_of responses.now) (rows_of milestones.now) (rows_of includes.now) (rows_of excludes.now) roles.now) (marks_of start) (length room.old)) × (room.new ≡ smaller_room (chart_of count (rows_of conditions.now) (rows_of responses.now) (rows_of milestones.now) (rows_of includes.now) (rows_of excludes.now) roles.now) (marks_of start) room.old) }
+// Deriving a smaller book over a lent chart: what `derive_smaller` does, with no copy of the chart.
+#[tactic(auto, using(graph::specs::Steps::fit_few))]
+pub fn derive_smaller_in(start: Marking, chart: LentChart<'_>, room: &mut [u8]) -> Smaller
+    ensures { (result ≡ deriving_smaller (lent_of chart.entry) (marks_of start) (length room.old)) × (room.new ≡ smaller_room (lent_of chart.entry) (marks_of start) room.old) }
 {
-    if !start.fits(
-        count, conditions, responses, milestones, includes, excludes, roles,
-    ) {
-        return refused(paper::refused(UNFIT, 0, 0));
+    if !start.fits(chart) {
+        return refused(Answer::from(Refusal::Unfit));
     }
-    let n = count as usize;
-    let executed = marks::union_upto(n, conditions);
-    let included = marks::included_kept(n, includes, excludes, start.included);
-    let answered = marks::answered_kept(n, responses, start.pending);
+    let n = chart.count as usize;
+    let executed = marks::union_upto(n, chart.conditions);
+    let included = marks::included_kept(chart, start);
+    let answered = marks::answered_kept(chart, start);
     let numbered = marks::number(n, executed, included, answered);
-    let table = numbered.table;
-    let answer = put_book(
-        room,
+    let kept = Kept {
         n,
-        numbered.marks,
         executed,
         included,
         answered,
-        &table,
-        conditions,
-        responses,
-        milestones,
-        includes,
-        excludes,
-    );
+        table: &numbered.table,
+    };
+    let answer = put_book(room, numbered.marks, kept, chart);
     if answer.code != 0 {
         return refused(answer);
     }
+    let table = numbered.table;
     Smaller { answer, table }
 }
 
@@ -193,15 +120,5 @@ pub fn derive_smaller_in<'a>(
 pub fn derive_smaller(chart: FlatChart, start: Marking, room: &mut [u8]) -> Smaller
     ensures { (result ≡ deriving_smaller (flat_of chart) (marks_of start) (length room.old)) × (room.new ≡ smaller_room (flat_of chart) (marks_of start) room.old) }
 {
-    derive_smaller_in(
-        start,
-        chart.count,
-        &chart.conditions,
-        &chart.responses,
-        &chart.milestones,
-        &chart.includes,
-        &chart.excludes,
-        &chart.roles,
-        room,
-    )
+    derive_smaller_in(start, chart.lend(), room)
 }

@@ -19,7 +19,10 @@ use Rattle.derived.specs.Derived.{on, listed}
 use Rattle.derived.specs.Members.{size-within, length-listed}
 use Rattle.derived.specs.Parts.{CompletionsIn}
 use Rattle.derived.specs.RuleBytes.{fits_one}
+use Rattle.flat_chart.specs.Flat.{FlatChart, Row}
+use Rattle.flat_chart.specs.Chart.{row_of}
 use Rattle.smaller.specs.Runs.{max_book, Under, effect_by, effects_by, completion_by, completions_by, text_left, condition_by, stage_by}
+use Rattle.smaller.specs.Keeping.{Keeping, completion_kept, completions_kept}
 
 -- ---- one record: 10 bytes, written where the room reaches behind them
 
@@ -168,28 +171,23 @@ module _ (t : List ℕ) (n : ℕ) {e E I A i x r o k a d z : ℕ} (s : Sets e E 
           pub completion-ran : {p₄ : ℕ} {r₄ : List ℕ} → Ran r₃ p₃ executed p₄ r₄ → Ran room at whole p₄ r₄
           completion-ran w₄ = rw all (ran_then w₁ (ran_then w₂ (ran_then w₃ w₄)))
 
--- by the rows of e in the tables of includes, excludes and responses
+-- by the row of e in a chart
 
-module _ (n : ℕ) (is xs rs : List ℕ) (e : ℕ) {i x r : ℕ} (p : i ≡ get_or is e 0) (q : x ≡ get_or xs e 0) (s : r ≡ get_or rs e 0) where
-  pub rows-within : CompletionsIn n is xs rs → e < n → (within n (union i x) ≡ true) × (within n r ≡ true)
-  rows-within k h = (rw (p, q) (k.inclusions e h), rw s (k.responses e h))
+module _ (c : FlatChart) (e : ℕ) {r : Row} (p : r ≡ row_of c e) where
+  pub row-within : {n : ℕ} → CompletionsIn n c.includes c.excludes c.responses → e < n → (within n (union r.includes r.excludes) ≡ true) × (within n r.responses ≡ true)
+  row-within k h = rw p (k.inclusions e h, k.responses e h)
 
-  module _ (t : List ℕ) (E I A : ℕ) where
-    abbrev by_rows : List ℕ
-    by_rows = packed rule_bytes (completion_by t n E I A e i x r)
-
-    abbrev by_tables : List ℕ
-    by_tables = packed rule_bytes (completions_by t n E I A is xs rs e)
-
-    rows_same : by_rows ≡ by_tables
+  module _ (k : Keeping) where
+    row_same : completions_kept k c e ≡ completion_kept k e r
     unfolding completions_by
-    rows_same = rw (p, q, s)
+    row_same = rw p
 
-    pub rows_under : (at : ℕ) → Under at by_tables → Under at by_rows
-    rows_under at u = rw rows_same u
+    pub row-under : (at : ℕ) → Under at (packed rule_bytes (completions_kept k c e)) → Under at (packed rule_bytes (completion_kept k e r))
+    row-under at u = rw row_same at u
 
-    pub rows-ran : {room after : List ℕ} {at next : ℕ} → Ran room at by_rows next after → Ran room at by_tables next after
-    rows-ran w = rw rows_same at w
+    pub row-ran : {room after : List ℕ} {at next : ℕ} → Ran room at (packed rule_bytes (completion_kept k e r)) next after
+        → Ran room at (packed rule_bytes (completions_kept k c e)) next after
+    row-ran w = rw row_same w
 
 -- ---- the rules of a stage, where z has the texts' sizes
 

@@ -1,46 +1,39 @@
 // The rules of a smaller book, one record after another: counted, and written where the lent room holds them.
 #![tactic(auto)]
 
-ghost use Rattle.std.specs.Prelude.{◌≡◌, true, [], ◌∷◌, ◌+◌, ◌*◌, ◌<◌, ◌≤◌, length};
-ghost use Rattle.paper.specs.Limits.{max_events, max_marks, rule_size};
+ghost use Rattle.std.specs.Prelude.{◌≡◌, true, ◌+◌, ◌*◌, ◌<◌, ◌≤◌};
+ghost use Rattle.paper.specs.Limits.{max_events, max_marks};
 ghost use Rattle.sets.specs.Set.{union, within};
-ghost use Rattle.wide.specs.Number.{number, rows_of};
+ghost use Rattle.wide.specs.Number.{number};
+ghost use Rattle.flat_chart.specs.Numbers.{lent_of, row_numbers};
 ghost use Rattle.general.specs.Lists.{flat, packed};
-ghost use Rattle.general.specs.Writing.{Ran, Wrote};
+ghost use Rattle.general.specs.Writing.{Ran};
 ghost use Rattle.book.specs.ImageOf.{rule_record, rule_bytes};
-ghost use Rattle.derived.specs.Derived.{on};
 ghost use Rattle.derived.specs.Parts.{CompletionsIn};
-ghost use Rattle.smaller.specs.Runs.{Under, effects_by, completion_by, completions_by, condition_by, stage_by};
+ghost use Rattle.smaller.specs.Runs.{Under, effects_by, condition_by, stage_by};
+ghost use Rattle.smaller.specs.Keeping.{keeping_of, completion_kept, completions_kept};
 
 use book::rules::{
     EFFECT_CLEAR, EFFECT_SET, SENSE_AS_WRITTEN, SENSE_NEGATED, SENSE_NONE, TRIGGER_NONE,
 };
-use paper::{MAX_EVENTS, MAX_MARKS, RULE_SIZE};
-use wide::{Set, TABLE};
+use flat_chart::{LentChart, Row};
+use paper::{MAX_EVENTS, RULE_SIZE};
+use smaller::Kept;
+use wide::Set;
 
-// On completion of e, set the mark or clear it. Every function here hands back the place behind its run; those below write it only where the room
-// holds it.
-fn put_on(room: &mut [u8], at: usize, e: usize, effect: bool, mark: u16) -> usize
-    requires { (e < max_events) × (at + rule_size ≤ length room.old) }
-    ensures { Wrote room.old at (packed rule_bytes (on e effect mark ∷ [])) result room.new }
-{
-    rule_writer::put_on(room, at, e, effect, mark as usize)
-}
-
-// On completion of e, for each f of among, rising: set the mark with the old number base + f where f is in raise, and else clear it. The room is
-// tested once for the whole run.
-fn put_effects<'a>(
+// On completion of e, for each f of among, rising: set the mark with the old number base + f where f is in raise, and else clear it.
+// This and every function below hands back the place behind its run, written or not: the room is tested once for the run.
+fn put_effects(
     room: &mut [u8],
     at: usize,
-    n: usize,
+    kept: Kept<'_>,
     e: usize,
     raise: Set,
     among: Set,
     base: usize,
-    table: &'a [u16; MAX_MARKS],
 ) -> usize
-    requires { (n ≤ max_events) × (e < n) × (base + n ≤ max_marks) × (within n (number among) ≡ true) × Under at (packed rule_bytes (effects_by table.now n e (number raise) (number among) base)) }
-    ensures { Ran room.old at (packed rule_bytes (effects_by table.now n e (number raise) (number among) base)) result room.new }
+    requires { (kept.n ≤ max_events) × (e < kept.n) × (base + kept.n ≤ max_marks) × (within kept.n (number among) ≡ true) × Under at (packed rule_bytes (effects_by kept.table.now kept.n e (number raise) (number among) base)) }
+    ensures { Ran room.old at (packed rule_bytes (effects_by kept.entry.table.now kept.entry.n e (number raise) (number among) base)) result room.new }
 {
     let end = at + RULE_SIZE * wide::count(among) as usize;
     if room.len() < end {
@@ -50,73 +43,38 @@ fn put_effects<'a>(
     let mut next = at;
     while !wide::is_empty(rest) {
         let f = wide::least(rest) as usize;
-        next = put_on(room, next, e, wide::member(raise, f), table[base + f]);
+        let mark = kept.table[base + f] as usize;
+        next = rule_writer::put_on(room, next, e, wide::member(raise, f), mark);
         rest = wide::less(rest, wide::one(f));
     }
     next
 }
 
-// Everything on the completion of e, which includes, excludes and has as responses these sets, where the executed, included and answered marks of
-// these others stay.
-pub fn put_completion<'a>(
-    room: &mut [u8],
-    at: usize,
-    n: usize,
-    executed: Set,
-    included: Set,
-    answered: Set,
-    e: usize,
-    includes: Set,
-    excludes: Set,
-    responses: Set,
-    table: &'a [u16; MAX_MARKS],
-) -> usize
-    requires { (n ≤ max_events) × (e < n) × (within n (union (number includes) (number excludes)) ≡ true) × (within n (number responses) ≡ true) × Under at (packed rule_bytes (completion_by table.now n (number executed) (number included) (number answered) e (number includes) (number excludes) (number responses))) }
-    ensures { Ran room.old at (packed rule_bytes (completion_by table.now n (number executed) (number included) (number answered) e (number includes) (number excludes) (number responses))) result room.new }
+// Everything on the completion of e, whose sets the row has.
+pub fn put_completion(room: &mut [u8], at: usize, kept: Kept<'_>, e: usize, row: Row) -> usize
+    requires { (kept.n ≤ max_events) × (e < kept.n) × (within kept.n (union (number row.includes) (number row.excludes)) ≡ true) × (within kept.n (number row.responses) ≡ true) × Under at (packed rule_bytes (completion_kept (keeping_of kept) e (row_numbers row))) }
+    ensures { Ran room.old at (packed rule_bytes (completion_kept (keeping_of kept.entry) e (row_numbers row))) result room.new }
 {
+    let n = kept.n;
     let own = wide::one(e);
-    let changed = wide::meet(wide::join(includes, excludes), included);
-    let answers = wide::meet(wide::less(own, responses), answered);
-    let done = wide::meet(own, executed);
+    let changed = wide::meet(wide::join(row.includes, row.excludes), kept.included);
+    let answers = wide::meet(wide::less(own, row.responses), kept.answered);
+    let done = wide::meet(own, kept.executed);
     let none = wide::empty();
-    let a = put_effects(room, at, n, e, includes, changed, 2 * n, table);
-    let b = put_effects(room, a, n, e, none, responses, 3 * n, table);
-    let c = put_effects(room, b, n, e, own, answers, 3 * n, table);
-    put_effects(room, c, n, e, own, done, n, table)
+    let a = put_effects(room, at, kept, e, row.includes, changed, 2 * n);
+    let b = put_effects(room, a, kept, e, none, row.responses, 3 * n);
+    let c = put_effects(room, b, kept, e, own, answers, 3 * n);
+    put_effects(room, c, kept, e, own, done, n)
 }
 
-pub fn put_completions<'a>(
-    room: &mut [u8],
-    at: usize,
-    n: usize,
-    executed: Set,
-    included: Set,
-    answered: Set,
-    includes: &'a [u64; TABLE],
-    excludes: &'a [u64; TABLE],
-    responses: &'a [u64; TABLE],
-    table: &'a [u16; MAX_MARKS],
-) -> usize
-    requires { (n ≤ max_events) × CompletionsIn n (rows_of includes.now) (rows_of excludes.now) (rows_of responses.now) × Under at (packed rule_bytes (flat n (completions_by table.now n (number executed) (number included) (number answered) (rows_of includes.now) (rows_of excludes.now) (rows_of responses.now)))) }
-    ensures { Ran room.old at (packed rule_bytes (flat n (completions_by table.now n (number executed) (number included) (number answered) (rows_of includes.now) (rows_of excludes.now) (rows_of responses.now)))) result room.new }
+// The rules on every event's completion, one event behind another.
+pub fn put_completions(room: &mut [u8], at: usize, kept: Kept<'_>, chart: LentChart<'_>) -> usize
+    requires { (kept.n ≤ max_events) × CompletionsIn kept.n (lent_of chart).includes (lent_of chart).excludes (lent_of chart).responses × Under at (packed rule_bytes (flat kept.n (completions_kept (keeping_of kept) (lent_of chart)))) }
+    ensures { Ran room.old at (packed rule_bytes (flat kept.entry.n (completions_kept (keeping_of kept.entry) (lent_of chart.entry)))) result room.new }
 {
     let mut next = at;
-    let mut e = 0;
-    while e < n {
-        next = put_completion(
-            room,
-            next,
-            n,
-            executed,
-            included,
-            answered,
-            e,
-            wide::row(includes, e),
-            wide::row(excludes, e),
-            wide::row(responses, e),
-            table,
-        );
-        e += 1;
+    for e in 0..kept.n {
+        next = put_completion(room, next, kept, e, chart.row(e));
     }
     next
 }
@@ -134,12 +92,12 @@ fn put_free(room: &mut [u8], at: usize, sense: u8, effect: u8, condition: u16, t
 }
 
 // Without trigger: set stage e if its condition, and clear it if not; where no text is left, set it.
-fn put_stage<'a>(
+fn put_stage(
     room: &mut [u8],
     at: usize,
     e: usize,
     condition: usize,
-    sizes: &'a [usize; MAX_EVENTS],
+    sizes: &[usize; MAX_EVENTS],
 ) -> usize
     requires { (e < max_events) × (condition ≡ condition_by sizes.now e) × Under at (packed rule_bytes (stage_by sizes.now e)) }
     ensures { Ran room.old at (packed rule_bytes (stage_by sizes.now e)) result room.new }
@@ -153,19 +111,18 @@ fn put_stage<'a>(
     put_free(room, next, SENSE_NEGATED, EFFECT_CLEAR, condition, stage)
 }
 
-pub fn put_stages<'a>(room: &mut [u8], at: usize, n: usize, sizes: &'a [usize; MAX_EVENTS]) -> usize
+// The rules of every stage: a condition's number is how many texts before it are left.
+pub fn put_stages(room: &mut [u8], at: usize, n: usize, sizes: &[usize; MAX_EVENTS]) -> usize
     requires { (n ≤ max_events) × Under at (packed rule_bytes (flat n (stage_by sizes.now))) }
     ensures { Ran room.old at (packed rule_bytes (flat n (stage_by sizes.now))) result room.new }
 {
     let mut next = at;
-    let mut condition: usize = 0;
-    let mut e = 0;
-    while e < n {
+    let mut condition = 0;
+    for e in 0..n {
         next = put_stage(room, next, e, condition, sizes);
         if sizes[e] != 0 {
             condition += 1;
         }
-        e += 1;
     }
     next
 }

@@ -10,10 +10,10 @@ use lib.Seq.{set_at}
 use lib.Dec.{eqb}
 use borrow.Author.Tests.{eqb-true, eq-eqb, ne_eqb}
 use Rattle.paper.specs.Limits.{max_events, max_words, condition_size, word_size, not_word, or_word, and_word}
-use Rattle.general.specs.Cases.{cases, both, contra, lt-suc}
+use Rattle.general.specs.Cases.{cases, both, lt-suc}
 use Rattle.general.specs.Below.{tally}
 use Rattle.general.specs.Lists.{total, total-step, flat, flat_step, each, length-each, packed, packed-append, packed-one, length-packed}
-use Rattle.general.specs.Writing.{Fits, Wrote, then, fits-first, fits-then, Left, left-whole, left-length, left-fits, left_less, left-none, Ran, ran-none, ran-wrote, ran-short, ran_then}
+use Rattle.general.specs.Writing.{Fits, Wrote, then, fits-first, fits-then, Left, left-whole, left-fits, left_less, left-none, Ran, ran-none, ran-wrote, ran-short, ran_then}
 use Rattle.sets.specs.Set.{has, inter, minus, only, size, lowest, within}
 use Rattle.sets.specs.Laws.{has-inter, has-only, within-lt, lt-within}
 use Rattle.wire.specs.Wire.{put16, bytes16}
@@ -26,7 +26,10 @@ use Rattle.derived.specs.Members.{size-within, listed-none, low-lt, low-within, 
 use Rattle.derived.specs.RuleBytes.{word-wrote}
 use Rattle.derived.specs.WritingLoops.{packed-part}
 use Rattle.smaller.specs.Clauses.{Clause, alone, guarded, words_of, joiner, spoken_from}
+use Rattle.flat_chart.specs.Flat.{FlatChart, Row}
+use Rattle.flat_chart.specs.Chart.{row_of}
 use Rattle.smaller.specs.Runs.{max_book, Under, clause_by, clauses_by, text_by, texts_by, record_by}
+use Rattle.smaller.specs.Keeping.{Keeping, text_kept, texts_kept}
 
 -- ---- a run that stays below the most bytes of a book, and its parts
 
@@ -72,9 +75,6 @@ module _ (room : List ℕ) (at : ℕ) (kept : Bool) (guard mark : ℕ) where
         let l : length (packed bytes16 (words_of (guarded guard mark))) ≡ 2 * 4 = two_bytes (words_of (guarded guard mark)) in
         omega arith
 
-    pub guarded-wrote : {next : ℕ} {after : List ℕ} → Wrote room at (packed bytes16 (words_of (guarded guard mark))) next after → Wrote room at whole next after
-    guarded-wrote w = rw k w
-
   module _ (k : kept ≡ false) where
     one_word : whole ≡ bytes16 mark
     unfolding words_of
@@ -99,9 +99,6 @@ module _ (room : List ℕ) (start at : ℕ) (words : List ℕ) where
   clause-fits h = fits-first room at (packed bytes16 words) _ (rw (packed-append bytes16 words (joiner (eqb at start))) at h)
 
   module _ (next : ℕ) (after : List ℕ) (w : Wrote room at (packed bytes16 words) next after) where
-    pub clause-first : at ≡ start → Wrote room at joined next after
-    clause-first e = rw (eq-eqb at start e, append-nil words) w
-
     module _ (no : at ≡ start → ⊥) where
       later : joined ≡ packed bytes16 words ++ bytes16 and_word
       later = rw (ne_eqb at start no) (packed-append bytes16 words (and_word ∷ []) ∙ rw (packed-one bytes16 and_word))
@@ -156,16 +153,6 @@ less-first b (x ∷ l) =
     let d : length (words_of x ++ spoken_from false l) ≡ length (words_of x) + length (spoken_from false l) = length-append (words_of x) (spoken_from false l) in
     cases b (λ t. rw t (omega arith)) (λ t. rw t (omega arith))
 
-module _ (guards among both a g : ℕ) (first : Bool) (p : a ≡ size among) (b : both ≡ inter among guards) (q : g ≡ size both) where
-  pub words-later : not first ≡ true → 2 * a + 3 * g ≡ 2 * size among + 3 * size (inter among guards) - cond first 1 0
-  words-later h = cases first (λ t. contra h (rw t)) (λ t. rw (t, p, q, b) (omega arith))
-
-  pub words-none : not first ≡ false → 2 * a + 3 * g ≡ 0 → 0 ≡ 2 * size among + 3 * size (inter among guards) - cond first 1 0
-  words-none h z = cases first (λ t. rw (t, ← p, ← b, ← q, z)) (λ t. contra (rw t) h)
-
-  pub words-first : not first ≡ false → 2 * a + 3 * g - 1 ≡ 2 * size among + 3 * size (inter among guards) - cond first 1 0
-  words-first h = cases first (λ t. rw (t, p, q, b)) (λ t. contra (rw t) h)
-
 module _ (t : List ℕ) (n guards base among : ℕ) where
   -- the clause of the number k, with its "and"
   one-length : (k : ℕ) → length (spoken_from false (listed (clause_by t n guards base) among k)) ≡ 2 * cond (has among k) 1 0 + 3 * cond (has (inter among guards) k) 1 0
@@ -209,34 +196,31 @@ unfolding packed
 singles [] = refl
 singles {A} (x ∷ l) = ap (λ (r : List A). x ∷ r) (singles l)
 
-module _ (t : List ℕ) (n guards base among start : ℕ) (room₀ : List ℕ) (at : ℕ) where
-  abbrev said : ℕ → ℕ → List ℕ
-  said next s = packed bytes16 (spoken_from (eqb next start) (clauses_by t n guards base s))
+abbrev said : List ℕ → ℕ → ℕ → ℕ → ℕ → ℕ → ℕ → List ℕ
+said t n guards base start next s = packed bytes16 (spoken_from (eqb next start) (clauses_by t n guards base s))
 
-  pub record Turn (s next : ℕ) (room : List ℕ) : Type 0 where
-    pub few : n ≤ max_events
-    pub inside : within n s ≡ true
-    pub behind : start ≤ next
-    pub fits : Fits room₀ at (said at among)
-    pub left : Left room₀ at (said at among) room next (said next s)
+pub record Turn (t : List ℕ) (n guards base among start : ℕ) (room₀ : List ℕ) (at s next : ℕ) (room : List ℕ) : Type 0 where
+  pub few : n ≤ max_events
+  pub inside : within n s ≡ true
+  pub behind : start ≤ next
+  pub fits : Fits room₀ at (said t n guards base start at among)
+  pub left : Left room₀ at (said t n guards base start at among) room next (said t n guards base start next s)
 
-  pub turn-start : n ≤ max_events → within n among ≡ true → start ≤ at → Fits room₀ at (said at among) → Turn among at room₀
-  turn-start l h b f = record { few = l; inside = h; behind = b; fits = f; left = left-whole room₀ at (said at among) }
+module _ {t : List ℕ} {n guards base among start : ℕ} {room₀ : List ℕ} {at : ℕ} where
+  pub turn-start : n ≤ max_events → within n among ≡ true → start ≤ at → Fits room₀ at (said t n guards base start at among) → Turn t n guards base among start room₀ at among at room₀
+  turn-start l h b f = record { few = l; inside = h; behind = b; fits = f; left = left-whole room₀ at (said t n guards base start at among) }
 
-  module _ (s next : ℕ) (room : List ℕ) (inv : Turn s next room) where
-    pub turn-done : s ≡ 0 → Ran room₀ at (said at among) next room
+  module _ {s next : ℕ} {room : List ℕ} (inv : Turn t n guards base among start room₀ at s next room) where
+    pub turn-done : s ≡ 0 → Ran room₀ at (said t n guards base start at among) next room
     unfolding packed clauses_by spoken_from
     turn-done z = ran-wrote (left-none inv.left (rw (z, listed-none (clause_by t n guards base) n)))
 
-    pub turn-length : length room ≡ length room₀
-    turn-length = left-length inv.left
-
-    module _ (m : ℕ) (some : s ≡ 0 → ⊥) (low : m ≡ lowest max_events s) where
+    module _ {m : ℕ} (some : s ≡ 0 → ⊥) (low : m ≡ lowest max_events s) where
       pub turn-lt : m < n
       turn-lt = low-lt n s m inv.few inv.inside some low
 
-      pub turn-falls : (o s' : ℕ) → o ≡ only m → s' ≡ minus s o → s' < s
-      turn-falls o s' q r = rw (r, q) (low-falls n s m inv.few inv.inside some low)
+      pub turn-falls : {o s' : ℕ} → o ≡ only m → s' ≡ minus s o → s' < s
+      turn-falls q r = rw (r, q) (low-falls n s m inv.few inv.inside some low)
 
       module _ (kept : Bool) (guard mark : ℕ) (k : kept ≡ has guards m) (g : guard ≡ get_or t (2 * n + m) 0) (b : mark ≡ get_or t (base + m) 0) where
         abbrev x : Clause
@@ -252,7 +236,7 @@ module _ (t : List ℕ) (n guards base among start : ℕ) (room₀ : List ℕ) (
             ∙ low_first n s m inv.few inv.inside some low (λ (y : Clause). y ∷ []) (clause_by t n guards base)
             ∙ rw (singles (flat n (listed (clause_by t n guards base) (minus s (only m)))), k, g, b)
 
-        split : said next s ≡ words ++ packed bytes16 (spoken_from false (clauses_by t n guards base (minus s (only m))))
+        split : said t n guards base start next s ≡ words ++ packed bytes16 (spoken_from false (clauses_by t n guards base (minus s (only m))))
         unfolding spoken_from
         split =
             rw lowest-clause
@@ -262,8 +246,9 @@ module _ (t : List ℕ) (n guards base among start : ℕ) (room₀ : List ℕ) (
         pub turn-fits : Fits room next words
         turn-fits = left-fits inv.left words _ split inv.fits
 
-        pub turn_more : (o s' next' : ℕ) (room' : List ℕ) → o ≡ only m → s' ≡ minus s o → Wrote room next words next' room' → Turn s' next' room'
-        turn_more o s' next' room' q r w =
+        pub turn_more : {o s' next' : ℕ} {room' : List ℕ} → o ≡ only m → s' ≡ minus s o → Wrote room next words next' room'
+            → Turn t n guards base among start room₀ at s' next' room'
+        turn_more {o} {s'} {next'} {room'} q r w =
             let p : next' ≡ next + length words = w.place in
             let a : 2 ≤ length words = some_bytes x (joiner (eqb next start)) in
             let d : start ≤ next = inv.behind in
@@ -342,28 +327,23 @@ module _ (t : List ℕ) (n I A e c m : ℕ) {o s a z : ℕ} (q : o ≡ only e) (
         pub text-ran : {p₃ : ℕ} {r₃ : List ℕ} → Ran r₂ p₂ (said_from at p₂ answers) p₃ r₃ → Ran room at (packed bytes16 (text_by t n I A e c m)) p₃ r₃
         text-ran w₃ = rw (text-said, own-then, held_then) (ran_then w₁ (ran_then w₂ w₃))
 
--- by the rows of e in the tables of conditions and milestones
+-- by the row of e in a chart
 
-module _ (n : ℕ) (cs ms : List ℕ) (e : ℕ) {c m : ℕ} (p : c ≡ get_or cs e 0) (q : m ≡ get_or ms e 0) where
-  pub rows-within : TextsIn n cs ms → e < n → (within n c ≡ true) × (within n m ≡ true)
-  rows-within k h = (rw p (k.conditions e h), rw q (k.milestones e h))
+module _ (c : FlatChart) (e : ℕ) {r : Row} (p : r ≡ row_of c e) where
+  pub row-within : {n : ℕ} → TextsIn n c.conditions c.milestones → e < n → (within n r.conditions ≡ true) × (within n r.milestones ≡ true)
+  row-within k h = rw p (k.conditions e h, k.milestones e h)
 
-  module _ (t : List ℕ) (I A : ℕ) where
-    abbrev by_rows : List ℕ
-    by_rows = packed bytes16 (text_by t n I A e c m)
-
-    abbrev by_tables : List ℕ
-    by_tables = packed bytes16 (texts_by t n I A cs ms e)
-
-    rows_same : by_rows ≡ by_tables
+  module _ (k : Keeping) where
+    row_same : texts_kept k c e ≡ text_kept k e r
     unfolding texts_by
-    rows_same = rw (p, q)
+    row_same = rw p
 
-    pub rows_under : (at : ℕ) → Under at by_tables → Under at by_rows
-    rows_under at u = rw rows_same u
+    pub row-under : (at : ℕ) → Under at (packed bytes16 (texts_kept k c e)) → Under at (packed bytes16 (text_kept k e r))
+    row-under at u = rw row_same at u
 
-    pub rows-ran : {room after : List ℕ} {at next : ℕ} → Ran room at by_rows next after → Ran room at by_tables next after
-    rows-ran w = rw rows_same at w
+    pub row-ran : {room after : List ℕ} {at next : ℕ} → Ran room at (packed bytes16 (text_kept k e r)) next after
+        → Ran room at (packed bytes16 (texts_kept k c e)) next after
+    row-ran w = rw row_same w
 
 -- ---- the sizes of the texts
 
@@ -394,9 +374,6 @@ module _ (g : ℕ → ℕ) where
       rw (p, q, r)
       (set_at (each k g) 0 (replicate (max_events - (k + 1)) 0) (g k) k (length-each k g)
       ∙ rw (flat_step k (λ e. g e ∷ [])) (sym (append_assoc (each k g) (g k ∷ []) (replicate (max_events - (k + 1)) 0))))
-
-  pub sizes-done : (n k : ℕ) (l : List ℕ) → k ≤ n → n ≤ k → l ≡ sizes_to k → l ≡ sizes_to n
-  sizes-done n k l h b p = let q : k ≡ n = omega arith in rw (← q) p
 
 -- ---- condition records
 
