@@ -1,12 +1,12 @@
 -- The fit test of a given order, entry by entry, as the code takes it. Assumes nothing.
 use mathlib.Core.Path.{◌≡◌, sym, subst, ◌∙◌}
-use mathlib.Core.Bool.{Bool, true, false, not, and-false}
+use mathlib.Core.Bool.{Bool, true, false, and-false}
 use mathlib.Core.List.{List}
 use Prim.Native.Nat.{ℕ, ◌+◌, ◌/◌, ◌≤◌, ◌<◌}
 use native.Mathlib.Omega.{arith}
 use lib.Dec.{eqb, ltb}
 use lib.ListN.{length, get_or, drop, length-set}
-use borrow.Author.Tests.{eq-eqb, ne_eqb, lt-ltb, le-ltb, not-true, not-false}
+use borrow.Author.Tests.{eq-eqb, ne_eqb, lt-ltb, le-ltb}
 use Rattle.paper.specs.Limits.{max_marks}
 use Rattle.book.specs.Book.{rule_of}
 use Rattle.book.specs.Image.{rules_in, book_of}
@@ -54,19 +54,19 @@ module _ (s : List ℕ) (stage : ℕ) (order : List ℕ) where
         rw z (sym (and-false (eqb (length order) (counted_rules (rules_of s stage)))))
 
     -- an entry that is no rule
-    pub fitting-past : (counted n r : ℕ) → length order ≡ counted → j < counted → n ≡ rules_in s → r ≡ get_or order j 0 → n ≤ r → false ≡ fit_pass (rules_of s stage) order
+    pub fitting-past : (n r : ℕ) → j < length order → n ≡ rules_in s → r ≡ get_or order j 0 → n ≤ r → false ≡ fit_pass (rules_of s stage) order
     unfolding fine
-    fitting-past counted n r z h e q l = stops (omega arith) (rw (← q, le-ltb r (rules_of s stage).count (past-count s stage n r e l)))
+    fitting-past n r h e q l = stops h (rw (← q, le-ltb r (rules_of s stage).count (past-count s stage n r e l)))
 
     -- what the code tests is "ready"
     as-tested : (g : WellFormed s) (r : ℕ) (b : Bool) → b ≡ may_stand (book_of s) (flagged written) waits r → b ≡ ready (rules_of s stage) (flagged written) r
     as-tested g r b e = e ∙ stand-ready s stage (flagged written) waits r g f.skips f.counters.rest
 
     -- an entry that may not stand next
-    pub fitting-unready : (counted r : ℕ) (b : Bool) → length order ≡ counted → j < counted → WellFormed s → r ≡ get_or order j 0 → b ≡ may_stand (book_of s) (flagged written) waits r → not b ≡ true
+    pub fitting-unready : (r : ℕ) (b : Bool) → j < length order → WellFormed s → r ≡ get_or order j 0 → b ≡ may_stand (book_of s) (flagged written) waits r → b ≡ false
         → false ≡ fit_pass (rules_of s stage) order
     unfolding fine
-    fitting-unready counted r b z h g q e t = stops (omega arith) (rw (← q, ← as-tested g r b e, not-true b t) (and-false (ltb r (rules_of s stage).count)))
+    fitting-unready r b h g q e t = stops h (rw (← q, ← as-tested g r b e, t) (and-false (ltb r (rules_of s stage).count)))
 
     pub fitting-last : (n : ℕ) → n ≡ counted_rules (rules_of s stage) → length order ≡ n → n ≤ j → true ≡ fit_pass (rules_of s stage) order
     unfolding fit_pass
@@ -75,9 +75,9 @@ module _ (s : List ℕ) (stage : ℕ) (order : List ℕ) where
         rw (z, eq-eqb (length order) (counted_rules (rules_of s stage)) (l ∙ e))
 
     -- an entry that may
-    module _ (g : WellFormed s) (n r : ℕ) (b : Bool) (e : n ≡ rules_in s) (i : r < n) (x : b ≡ may_stand (book_of s) (flagged written) waits r) (y : not b ≡ false) where
+    module _ (g : WellFormed s) (n r : ℕ) (b : Bool) (e : n ≡ rules_in s) (i : r < n) (x : b ≡ may_stand (book_of s) (flagged written) waits r) (y : b ≡ true) where
       is-next : ready (rules_of s stage) (flagged written) r ≡ true
-      is-next = sym (as-tested g r b x) ∙ not-false b y
+      is-next = sym (as-tested g r b x) ∙ y
 
       unwritten-now : flagged written r ≡ false
       unwritten-now = (ready-is (rules_of s stage) (flagged written) r is-next).0
@@ -89,11 +89,10 @@ module _ (s : List ℕ) (stage : ℕ) (order : List ℕ) where
         p : t ≡ (rules_of s stage).target r
         p = target-in s stage r t p'
 
-        pub fitting-more : (counted : ℕ) (counts' waits' written' : List ℕ) (done : Bool) → length order ≡ counted → j < counted → r ≡ get_or order j 0 → written' ≡ marked written r → Struck t counts waits counts' waits' done
+        pub fitting-more : (counts' waits' written' : List ℕ) (done : Bool) → j < length order → r ≡ get_or order j 0 → written' ≡ marked written r → Struck t counts waits counts' waits' done
             → Fitting s stage order written' counts' waits' (j + 1)
         unfolding fine
-        fitting-more counted counts' waits' written' done x' h' q m a =
-            let h : j < length order = omega arith in
+        fitting-more counts' waits' written' done h q m a =
             let z : r / word_bits < length written = (let u = f.size in let v = rules-few s g in omega arith) in
             let w : fine (rules_of s stage) (flagged written) (get_or order j 0) ≡ true = rw (← q, lt-ltb r (rules_of s stage).count (below-count s stage n r e i), is-next) in
             rw m (record {

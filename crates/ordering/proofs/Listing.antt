@@ -1,7 +1,7 @@
 -- The running order in the room, entry by entry, as `running_order` writes it. Assumes nothing.
 use mathlib.Core.Path.{◌≡◌, refl, sym, ap, ◌∙◌}
 use mathlib.Core.List.{List, [], ◌∷◌, ◌++◌, append_assoc}
-use Prim.Native.Nat.{ℕ, suc, ◌+◌, ◌^◌, ◌≤◌, ◌<◌}
+use Prim.Native.Nat.{ℕ, suc, ◌+◌, ◌≤◌, ◌<◌}
 use native.Mathlib.Numerals.{add-one}
 use native.Mathlib.Omega.{arith}
 use lib.ListN.{length, get_or, set, take, drop, length-append, length-drop}
@@ -13,10 +13,10 @@ use Rattle.book.specs.WellFormed.{WellFormed}
 use Rattle.order_theory.specs.Order.{NoLoop, counted_rules, counted-few}
 use Rattle.order_theory.specs.Running.{running_order}
 use Rattle.order_theory.proofs.Running.{running-length}
-use Rattle.rule_order.specs.Nets.{rules_of, targets-small, rules-few, few-count}
+use Rattle.rule_order.specs.Nets.{rules_of, targets-small, few-count}
 use Rattle.unwritten.specs.Counters.{Begun}
 use Rattle.ordering.specs.declared.scan.Scan.{Scan}
-use Rattle.ordering.specs.Scanning.{Scanned, Turn, ordered_room, scanned-first, order-few}
+use Rattle.ordering.specs.Scanning.{Scanned, Turn, ordered_room, scanned-first}
 
 -- the room that was lent has j rules of the order in its first entries
 pub record Listed (s : List ℕ) (stage : ℕ) (lent room : List ℕ) (counted : ℕ) (scan : Scan) (counts waits written low high : List ℕ) (j : ℕ) : Type 0 where
@@ -67,12 +67,6 @@ module _ (s : List ℕ) (stage : ℕ) (lent : List ℕ) (counted : ℕ) where
     module _ (scan' : Scan) (counts' waits' written' low' high' : List ℕ) (t : Turn s scan counts waits written low high scan' counts' waits' written' low' high') where
       is-there : scan'.rule ≡ get_or (running_order (rules_of s stage)) j (rules_in s)
       is-there = (t.finds stage j l.scanned).next
-
-      pub listed_small : WellFormed s → scan'.rule < 2 ^ 32
-      listed_small g = omega (arith, is-there, order-few s stage j, rules-few s g)
-
-      pub listed-room : j < counted → j < length room
-      listed-room h = let f = l.fits in omega (arith, listed-length)
 
       -- one entry more
       pub listed_more : j < counted → Listed s stage lent (set room j scan'.rule) counted scan' counts' waits' written' low' high' (j + 1)

@@ -5,10 +5,10 @@ use mathlib.Core.List.{List, [], ◌∷◌}
 use Prim.Native.Nat.{ℕ, ◌+◌, ◌-◌, ◌/◌, ◌≤◌, ◌<◌}
 use native.Mathlib.Omega.{arith}
 use lib.Dec.{eqb, ltb}
-use lib.ListN.{length, get_or, set, drop, length-set, length-drop}
-use lib.Seq.{get_or-drop, drop-drop, get_or-set_same, get_or-set_other, set_out}
-use borrow.Author.Tests.{not-true, eqb-true, eqb-false, ne_eqb, ltb-true, ltb-false, le-leb, lt-leb}
-use Rattle.paper.specs.Limits.{max_marks, max_rules}
+use lib.ListN.{length, get_or, drop, length-set, length-drop}
+use lib.Seq.{get_or-drop, drop-drop}
+use borrow.Author.Tests.{eqb-true, eqb-false, ne_eqb, ltb-true, ltb-false, le-leb, lt-leb}
+use Rattle.paper.specs.Limits.{max_marks}
 use Rattle.general.specs.Cases.{cases, contra, neither, not_so}
 use Rattle.general.specs.Below.{some, some_of, first_found, first-none}
 use Rattle.book.specs.Book.{rule_of}
@@ -29,10 +29,7 @@ use Rattle.unwritten.specs.Counters.{Struck, struck-on, struck-shrunk}
 use Rattle.ordering.specs.declared.scan.Scan.{Scan}
 use Rattle.ordering.specs.Ready.{may_stand, stand-ready, stand-written, stand-free}
 use Rattle.ordering.specs.Passed.{Blocked, Lowered, Raised, Looked}
-use Rattle.ordering.specs.Scanning.{Scanned, Found, Turn, moved, order-past}
-
-pub below-most : (s : List ℕ) (rules at : ℕ) → WellFormed s → rules ≡ rules_in s → at < rules → at < max_rules
-below-most s rules at g e h = omega (arith, rules-few s g)
+use Rattle.ordering.specs.Scanning.{Scanned, Found, Turn, moved}
 
 pub freed-struck : (s : List ℕ) (t : ℕ) (counts waits counts' waits' free : List ℕ) (done : Bool) → Struck t counts waits counts' waits' done → Freed s waits free → Freed s waits' free
 freed-struck s t counts waits counts' waits' free done k = freed-shrunk s waits waits' free (struck-shrunk t counts waits counts' waits' done k)
@@ -45,34 +42,6 @@ unfolding may_stand touches
 blocked-waits s waits low high d r k =
     let z : some max_marks (λ m. refers (book_of s) r m && has_mark waits m) ≡ true = some_of max_marks (λ m. refers (book_of s) r m && has_mark waits m) k.mark k.small (rw (k.asks, k.waiting)) in
     rw z (and-false (not (d r)))
-
-pub lowered-here : (low : List ℕ) (m r : ℕ) → r < get_or low m 0 → Lowered low m r (set low m r)
-lowered-here low m r h =
-    record {
-      size = length-set low m r;
-      each = λ x. cases (eqb x m)
-          (λ e. rw (eqb-true x m e) (cases (ltb m (length low)) (λ l. rw (get_or-set_same low m r 0 (ltb-true m (length low) l)) (omega arith))
-          (λ l. rw (set_out low m r (ltb-false m (length low) l)) (omega arith))))
-          (λ e. rw (get_or-set_other low m x r 0 (eqb-false x m e)) (omega arith));
-      this = λ l. rw (get_or-set_same low m r 0 l) (omega arith);
-    }
-
-pub lowered-not : (low : List ℕ) (m r : ℕ) → get_or low m 0 ≤ r → Lowered low m r low
-lowered-not low m r h = record { size = refl; each = λ x. omega arith; this = λ l. h }
-
-pub raised-here : (high : List ℕ) (m r : ℕ) → get_or high m 0 ≤ r → Raised high m r (set high m (r + 1))
-raised-here high m r h =
-    record {
-      size = length-set high m (r + 1);
-      each = λ x. cases (eqb x m)
-          (λ e. rw (eqb-true x m e) (cases (ltb m (length high)) (λ l. rw (get_or-set_same high m (r + 1) 0 (ltb-true m (length high) l)) (omega arith))
-          (λ l. rw (set_out high m (r + 1) (ltb-false m (length high) l)) (omega arith))))
-          (λ e. rw (get_or-set_other high m x (r + 1) 0 (eqb-false x m e)) (omega arith));
-      this = λ l. rw (get_or-set_same high m (r + 1) 0 l) (omega arith);
-    }
-
-pub raised-not : (high : List ℕ) (m r : ℕ) → r < get_or high m 0 → Raised high m r high
-raised-not high m r h = record { size = refl; each = λ x. omega arith; this = λ l. h }
 
 module _ (s waits written low high : List ℕ) (r : ℕ) (w : Bool) (e : w ≡ flagged written r) where
   pub looked-written : w ≡ true → Looked s waits written low high r false low high
@@ -141,13 +110,13 @@ module _ (s : List ℕ) (stage : ℕ) (g : WellFormed s) (n : ℕ) (scan : Scan)
 
   -- ---- past the last rule, the order has ended
 
-  pub scanned-end : (rules : ℕ) (last : Scan) → rules ≡ rules_in s → rules ≤ scan.at → last.rule ≡ rules → Found s stage n last counts waits written low high
-  scanned-end rules last e h q =
+  pub scanned-end : rules_in s ≤ scan.at → length (running_order (rules_of s stage)) ≤ n
+  scanned-end h =
       let z : next (rules_of s stage) (flagged written) ≡ (rules_of s stage).count = sym (first-none (rules_of s stage).count (ready (rules_of s stage) (flagged written)) (λ q j. unready q
       (omega (arith, count-is s stage)))) in
       let w : drop n (running_order (rules_of s stage)) ≡ [] = f.rest ∙ greedy-end (rules_of s stage) (unwritten (rules_of s stage) (flagged written)) (flagged written) z in
       let l : length (running_order (rules_of s stage)) - n ≡ 0 = sym (length-drop n (running_order (rules_of s stage))) ∙ ap length w in
-      record { next = q ∙ e ∙ sym (order-past s stage n (omega arith)); goes = λ i. absurd (omega arith) }
+      omega arith
 
   -- ---- a rule that is ready is written
 
@@ -237,7 +206,7 @@ module _ (s : List ℕ) (scan : Scan) (at t : ℕ) (counts waits written low hig
     (y : may_stand (book_of s) (flagged written) waits at ≡ true) (m : written' ≡ marked written at) (p : t ≡ (rule_of (book_of s) at).target) (k : t < max_marks)
     (a : Struck t counts waits counts' waits' done) where
   -- its target is settled: back to the range of that mark
-  pub turn-back : (to until front : ℕ) → not done ≡ false → (to ≤ at + 1) × (to ≤ get_or low t 0) → (get_or high t 0 ≤ until) × (at + 1 < scan.until → scan.until ≤ until)
+  pub turn-back : (to until front : ℕ) → done ≡ true → (to ≤ at + 1) × (to ≤ get_or low t 0) → (get_or high t 0 ≤ until) × (at + 1 < scan.until → scan.until ≤ until)
       → (scan.front ≤ front) × (at + 1 ≤ front) × (scan.front < front → front ≡ at + 1)
       → Turn s (moved scan at) counts waits written low high (record { rule = at; at = to; until = until; front = front }) counts' waits' written' low high
   turn-back to until front z l u v = record {
@@ -246,20 +215,17 @@ module _ (s : List ℕ) (scan : Scan) (at t : ℕ) (counts waits written low hig
   }
 
   -- else on behind it
-  pub turn_on : (front : ℕ) → not done ≡ true → (scan.front ≤ front) × (at + 1 ≤ front) × (scan.front < front → front ≡ at + 1)
+  pub turn_on : (front : ℕ) → done ≡ false → (scan.front ≤ front) × (at + 1 ≤ front) × (scan.front < front → front ≡ at + 1)
       → Turn s (moved scan at) counts waits written low high (record { rule = at; at = at + 1; until = scan.until; front = front }) counts' waits' written' low high
   turn_on front z v = record {
     finds = λ stage n f. found-on s stage g n (moved scan at) counts waits written low high f h y t p k counts' waits' written' done a m
-        (record { rule = at; at = at + 1; until = scan.until; front = front }) refl (omega arith) (λ d. contra d (not-true done z)) (λ d. contra d (not-true done z)) (λ l. omega arith) v.2;
+        (record { rule = at; at = at + 1; until = scan.until; front = front }) refl (omega arith) (λ d. contra d z) (λ d. contra d z) (λ l. omega arith) v.2;
   }
 
 -- ---- the loop: where the scan stood, it stands further on
 
 pub record Looking (s : List ℕ) (scan : Scan) (counts waits written low high : List ℕ) (here : ℕ) (counts' waits' written' low' high' : List ℕ) : Type 0 where
   pub stands : (stage n : ℕ) → Scanned s stage n scan counts waits written low high → Scanned s stage n (moved scan here) counts' waits' written' low' high'
-
-pub looking-first : (s : List ℕ) (scan : Scan) (counts waits written low high : List ℕ) → Looking s scan counts waits written low high scan.at counts waits written low high
-looking-first s scan counts waits written low high = record { stands = λ stage n f. f }
 
 module _ (s : List ℕ) (g : WellFormed s) (scan : Scan) (counts waits written low high : List ℕ) (here : ℕ) (counts' waits' written' low' high' : List ℕ)
     (l : Looking s scan counts waits written low high here counts' waits' written' low' high') where
@@ -286,5 +252,5 @@ module _ (s : List ℕ) (g : WellFormed s) (scan : Scan) (counts waits written l
             beyond = λ p i j u. k.wider p (f.beyond p i j u);
           }
 
-  pub looking-end : (rules : ℕ) (last : Scan) → rules ≡ rules_in s → rules ≤ here → last.rule ≡ rules → Turn s scan counts waits written low high last counts' waits' written' low' high'
-  looking-end rules last e h q = record { finds = λ stage n f. scanned-end s stage g n (moved scan here) counts' waits' written' low' high' (l.stands stage n f) rules last e h q }
+  pub looking-end : rules_in s ≤ here → (stage n : ℕ) → Scanned s stage n scan counts waits written low high → length (running_order (rules_of s stage)) ≤ n
+  looking-end h stage n f = scanned-end s stage g n (moved scan here) counts' waits' written' low' high' (l.stands stage n f) h

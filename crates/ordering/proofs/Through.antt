@@ -19,7 +19,7 @@ use Rattle.order_theory.proofs.Running.{fresh, greedy-distinct, running-whole, r
 use Rattle.rule_order.specs.Nets.{rules_of, targets-small}
 use Rattle.unwritten.specs.Counters.{Begun}
 use Rattle.ordering.specs.declared.scan.Scan.{Scan}
-use Rattle.ordering.specs.Scanning.{Scanned, Turn, scanned-first, order_below, order-past}
+use Rattle.ordering.specs.Scanning.{Scanned, Turn, scanned-first, order-past}
 
 greedy-few : (N : Net) (f : ℕ) (d : Written) → length (greedy N f d) ≤ f
 unfolding greedy
@@ -50,19 +50,17 @@ module _ (s : List ℕ) (stage : ℕ) (g : WellFormed s) (counted : ℕ) (scan :
   pub through-last : counted ≤ j → (true ≡ true) ↔ NoLoop (rules_of s stage)
   through-last h = (λ e. long-no-loop s stage g (let m = f.scanned.many in let e = f.many in omega arith), λ n. refl)
 
-  module _ (rules : ℕ) (scan' : Scan) (counts' waits' written' low' high' : List ℕ) (e : rules ≡ rules_in s)
-      (t : Turn s scan counts waits written low high scan' counts' waits' written' low' high') (h : j < counted) where
+  module _ (h : j < counted) where
     -- the order ended before all were listed
-    pub through-stuck : rules ≤ scan'.rule → (false ≡ true) ↔ NoLoop (rules_of s stage)
-    through-stuck l = (
+    pub through-stuck : ((stage n : ℕ) → Scanned s stage n scan counts waits written low high → length (running_order (rules_of s stage)) ≤ n) → (false ≡ true) ↔ NoLoop (rules_of s stage)
+    through-stuck t = (
       λ x. contra x refl,
-      λ n. absurd (let z = running-length (rules_of s stage) max_marks (targets-small s stage g) n in
-          let m = f.many in
-          omega (arith, (t.finds stage j f.scanned).next, order_below s stage j (omega arith))),
+      λ n. absurd (let z = running-length (rules_of s stage) max_marks (targets-small s stage g) n in let m = f.many in omega (arith, t stage j f.scanned)),
     )
 
-    pub through-more : scan'.rule < rules → Through s stage counted scan' counts' waits' written' low' high' (j + 1)
-    through-more l =
+    pub through-more : (scan' : Scan) (counts' waits' written' low' high' : List ℕ) → Turn s scan counts waits written low high scan' counts' waits' written' low' high' → scan'.rule < rules_in s
+        → Through s stage counted scan' counts' waits' written' low' high' (j + 1)
+    through-more scan' counts' waits' written' low' high' t l =
         record {
           scanned = cases (ltb j (length (running_order (rules_of s stage)))) (λ x. (t.finds stage j f.scanned).goes (ltb-true j (length (running_order (rules_of s stage))) x))
               (λ x. absurd (omega (arith, (t.finds stage j f.scanned).next, order-past s stage j (ltb-false j (length (running_order (rules_of s stage))) x))));

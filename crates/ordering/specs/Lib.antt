@@ -2,3 +2,4 @@
 pub mod Ready
 pub mod Passed
 pub mod Scanning
+pub mod Turning

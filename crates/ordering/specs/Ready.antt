@@ -1,7 +1,8 @@
 -- A rule is ready exactly if it is unwritten and refers to no mark that still waits; a rule that does not count stands as written. Assumes nothing.
-use Rattle.std.specs.Prelude.{◌≡◌, Bool, true, false, not, ◌&&◌, ◌||◌, List, ℕ, ◌<◌, ltb, leb}
+use Rattle.std.specs.Prelude.{◌≡◌, Bool, true, false, not, ◌&&◌, ◌||◌, List, ℕ, ◌<◌, ltb, leb, Option, Some, None}
+use Rattle.std.specs.Option.{is_some}
 use Rattle.std.proofs.Common.{sym, ap, ◌∙◌, ltb-true, ltb-false, le-leb}
-use Rattle.std.proofs.lemmas.Bool.{not-true, lt-leb}
+use Rattle.std.proofs.lemmas.Bool.{not-true, not-false, lt-leb}
 use Rattle.paper.specs.Limits.{max_marks}
 use Rattle.general.specs.Cases.{cases, contra, same_test}
 use Rattle.general.specs.Below.{every, every-at, every_of, some, some-none, some_of}
@@ -18,7 +19,7 @@ use Rattle.order_theory.specs.Skipped.{Skips}
 use Rattle.order_theory.proofs.Skipped.{ready-skips}
 use Rattle.rule_order.specs.Rules.{net_of}
 use Rattle.rule_order.specs.Nets.{rules_of, targets-small}
-use Rattle.rule_order.specs.References.{touches, Witness, witness-touches}
+use Rattle.rule_order.specs.References.{touches, Witness, Witnessed, witness-touches}
 
 -- the set has each mark that is not settled, and no other
 abbrev pub Waits : Net → Written → List ℕ → Type 0
@@ -43,6 +44,11 @@ unfolding may_stand
 stand-free b d waits r w m e u k =
     rw (← e, u, witness-touches b r waits m k)
     (cases (ltb m max_marks) (λ x. rw (x, lt-leb max_marks m (ltb-true m max_marks x))) (λ x. rw (x, le-leb max_marks m (ltb-false m max_marks x))))
+
+-- the same of an option
+pub stand-told : (b : Book) (d : Written) (waits : List ℕ) (r : ℕ) (w : Bool) (o : Option ℕ) (e : Bool) → w ≡ d r → w ≡ false → Witnessed (refers b r) waits o → is_some o ≡ not e → e ≡ may_stand b d waits r
+stand-told b d waits r w None e p u k q = not-false e (sym q) ∙ stand-free b d waits r w max_marks p u k
+stand-told b d waits r w (Some m) e p u k q = not-true e (sym q) ∙ sym (lt-leb max_marks m k.0) ∙ stand-free b d waits r w m p u k.1
 
 -- that is "ready", where the rules that do not count stand as written
 pub stand-ready : (s : List ℕ) (stage : ℕ) (d : Written) (waits : List ℕ) (r : ℕ) → WellFormed s → Skips (rules_of s stage) d → Waits (rules_of s stage) d waits

@@ -6,10 +6,9 @@ ghost use Rattle.order_theory.specs.Pass.{fit_pass};
 ghost use Rattle.rule_order.specs.Nets.{rules_of};
 
 use crate::ready::is_ready;
-use paper::{MAX_CONDITIONS, MAX_MARKS};
-use texts::references::MARK_WORDS;
-use unwritten::waiting::{count_targets, strike, target_of};
-use unwritten::written::{RULE_WORDS, mark_written};
+use unwritten::Scratch;
+use unwritten::waiting::{Span, count_targets, target_of};
+use unwritten::written::mark_written;
 
 // The rule that an order has at j.
 pub fn entry_of(order: &[u32], j: usize) -> usize
@@ -20,36 +19,37 @@ pub fn entry_of(order: &[u32], j: usize) -> usize
 }
 
 // Each entry is a counted rule that is ready where those before it are written, and there are as many as there are counted rules.
-// One pass over the rules and one over the order. The four arrays are lent, whatever they hold.
+// One pass over the rules and one over the order. The scratch is lent, whatever it holds.
 pub fn order_fits(
     image: &[u8],
     rules: usize,
     stage: u32,
-    counts: &mut [u32; MAX_MARKS],
-    waits: &mut [u64; MARK_WORDS],
-    written: &mut [u64; RULE_WORDS],
-    free: &mut [u32; MAX_CONDITIONS],
+    scratch: &mut Scratch,
     order: &[u32],
 ) -> bool
     requires { (WellFormed image.now) × (rules ≡ rules_in image.now) }
     ensures { result ≡ fit_pass (rules_of image.now stage) order.now }
 {
-    let counted = count_targets(
-        image, rules, 0, rules, rules, rules, stage, counts, waits, written, free,
-    );
+    let counted = count_targets(image, rules, Span::all(rules), stage, scratch);
     if order.len() != counted {
         return false;
     }
-    for j in 0..counted {
-        let r = entry_of(order, j);
+    for &entry in order {
+        let r = entry as usize;
         if rules <= r {
             return false;
         }
-        if !is_ready(image, free, written, waits, r) {
+        if !is_ready(
+            image,
+            r,
+            &scratch.waits,
+            &scratch.written,
+            &mut scratch.free,
+        ) {
             return false;
         }
-        mark_written(written, r);
-        strike(target_of(image, r), counts, waits);
+        mark_written(&mut scratch.written, r);
+        scratch.strike(target_of(image, r));
     }
     true
 }

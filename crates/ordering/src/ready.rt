@@ -6,7 +6,7 @@ ghost use Rattle.rule_order.specs.Freed.{Freed};
 ghost use Rattle.ordering.specs.Ready.{may_stand};
 ghost use Rattle.unwritten.specs.Words.{flagged};
 
-use paper::{MAX_CONDITIONS, MAX_MARKS};
+use paper::MAX_CONDITIONS;
 use rule_order::references::mark_referred;
 use texts::references::MARK_WORDS;
 use unwritten::written::{RULE_WORDS, is_written};
@@ -14,10 +14,10 @@ use unwritten::written::{RULE_WORDS, is_written};
 // Rule r is unwritten, and refers to no mark that waits: all its predecessors are written.
 pub fn is_ready(
     image: &[u8],
-    free: &mut [u32; MAX_CONDITIONS],
-    written: &[u64; RULE_WORDS],
-    waits: &[u64; MARK_WORDS],
     r: usize,
+    waits: &[u64; MARK_WORDS],
+    written: &[u64; RULE_WORDS],
+    free: &mut [u32; MAX_CONDITIONS],
 ) -> bool
     requires { (WellFormed image.now) × (r < rules_in image.now) × (Freed image.now waits.now free.old) }
     ensures value { result ≡ may_stand (book_of image.now) (flagged written.now) waits.now r }
@@ -26,5 +26,5 @@ pub fn is_ready(
     if is_written(written, r) {
         return false;
     }
-    MAX_MARKS <= mark_referred(image, r, free, waits)
+    mark_referred(image, r, free, waits).is_none()
 }

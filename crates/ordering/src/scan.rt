@@ -8,11 +8,13 @@ ghost use Rattle.unwritten.specs.Words.{flagged};
 ghost use Rattle.ordering.specs.Ready.{may_stand};
 ghost use Rattle.ordering.specs.Passed.{Lowered, Raised, Looked};
 ghost use Rattle.ordering.specs.Scanning.{Turn, moved};
+ghost use Rattle.ordering.specs.Turning.{empty_ranges, Turned};
 
 use paper::{MAX_CONDITIONS, MAX_MARKS};
 use rule_order::references::mark_referred;
 use texts::references::MARK_WORDS;
-use unwritten::waiting::{strike, target_of};
+use unwritten::Scratch;
+use unwritten::waiting::target_of;
 use unwritten::written::{RULE_WORDS, is_written, mark_written, onward};
 
 // The rule that was found, and where the scan stands then. An unwritten rule below `at`, or from `until` on and below `front`, was
@@ -25,38 +27,49 @@ pub struct Scan {
     pub front: usize,
 }
 
+impl Scan {
+    // Before the first rule.
+    pub fn start() -> Scan
+        ensures { (result.at ≡ 0) × (result.front ≡ 0) }
+    {
+        Scan {
+            rule: 0,
+            at: 0,
+            until: 0,
+            front: 0,
+        }
+    }
+}
+
 // Above every rule: where the range of a mark begins for which no rule was passed over.
-pub const NO_RULE: u32 = 4_294_967_295;
+const NO_RULE: u32 = u32::MAX;
 
-// Before the first rule.
-pub fn start() -> Scan
-    ensures { (result.at ≡ 0) × (result.front ≡ 0) }
-{
-    Scan {
-        rule: 0,
-        at: 0,
-        until: 0,
-        front: 0,
-    }
+// For each mark the range of the rules that were passed over since they wait for it: from `low` on, and below `high`.
+#[derive(Drop)]
+pub struct Ranges {
+    pub low: [u32; MAX_MARKS],
+    pub high: [u32; MAX_MARKS],
 }
 
-// The range of the mark m begins at rule r or below.
-fn lower(low: &mut [u32; MAX_MARKS], m: usize, r: u32)
-    requires { m < max_marks }
-    ensures { Lowered low.old m r low.new }
-{
-    if r < low[m] {
-        low[m] = r;
+impl Ranges {
+    // No rule was passed over yet.
+    pub fn empty() -> Ranges
+        ensures { result ≡ empty_ranges }
+    {
+        Ranges {
+            low: [NO_RULE; MAX_MARKS],
+            high: [0; MAX_MARKS],
+        }
     }
-}
 
-// It ends above rule r.
-fn raise(high: &mut [u32; MAX_MARKS], m: usize, r: u32)
-    requires { (m < max_marks) × (r < max_rules) }
-    ensures { Raised high.old m r high.new }
-{
-    if high[m] <= r {
-        high[m] = r + 1;
+    // Rule r is in the range of the mark m.
+    fn widen(&mut self, m: usize, r: u32)
+        requires { (m < max_marks) × (r < max_rules) }
+        ensures low { Lowered self.old.low m r self.new.low }
+        ensures high { Raised self.old.high m r self.new.high }
+    {
+        self.low[m] = self.low[m].min(r);
+        self.high[m] = self.high[m].max(r + 1);
     }
 }
 
@@ -67,23 +80,22 @@ fn look(
     waits: &[u64; MARK_WORDS],
     written: &[u64; RULE_WORDS],
     free: &mut [u32; MAX_CONDITIONS],
-    low: &mut [u32; MAX_MARKS],
-    high: &mut [u32; MAX_MARKS],
+    ranges: &mut Ranges,
 ) -> bool
     requires { (WellFormed image.now) × (r < rules_in image.now) × (Freed image.now waits.now free.old) }
-    ensures looked { Looked image.now waits.now written.now low.old high.old r result low.new high.new }
+    ensures looked { Looked image.now waits.now written.now ranges.old.low ranges.old.high r result ranges.new.low ranges.new.high }
     ensures freed { Freed image.now waits.now free.new }
 {
     if is_written(written, r) {
         return false;
     }
-    let m = mark_referred(image, r, free, waits);
-    if MAX_MARKS <= m {
-        return true;
+    match mark_referred(image, r, free, waits) {
+        Some(m) => {
+            ranges.widen(m, r as u32);
+            false
+        }
+        None => true,
     }
-    lower(low, m, r as u32);
-    raise(high, m, r as u32);
-    false
 }
 
 // Where the scan goes on from `to`: at the front, once it is past what is to be looked at again.
@@ -93,21 +105,7 @@ fn ahead(to: usize, until: usize, front: usize) -> usize
     if to < until {
         return to;
     }
-    if to < front { front } else { to }
-}
-
-fn later(a: usize, b: usize) -> usize
-    ensures { (a ≤ result) × (b ≤ result) × (a < result → result ≡ b) }
-{
-    if a < b { b } else { a }
-}
-
-// Where the scan stands next: behind the rule that was written, or where a range begins.
-fn back(after: usize, low: u32) -> usize
-    ensures { (result ≤ after) × (result ≤ low) }
-{
-    let first = low as usize;
-    if after < first { after } else { first }
+    to.max(front)
 }
 
 // Up to where rules below `after` and behind it are to be looked at again: to the end of a range, and as far as was to do before.
@@ -118,45 +116,39 @@ fn reach(after: usize, until: usize, high: u32) -> usize
     if until <= after {
         return last;
     }
-    later(last, until)
+    last.max(until)
 }
 
 // Writes the rule `at`, which is ready. Where its target is settled then, the scan goes back to the range of that mark.
-fn write_rule(
-    image: &[u8],
-    at: usize,
-    scan: Scan,
-    counts: &mut [u32; MAX_MARKS],
-    waits: &mut [u64; MARK_WORDS],
-    written: &mut [u64; RULE_WORDS],
-    low: &[u32; MAX_MARKS],
-    high: &[u32; MAX_MARKS],
-) -> Scan
-    requires { (WellFormed image.now) × (at < rules_in image.now) × (may_stand (book_of image.now) (flagged written.old) waits.old at ≡ true) }
-    ensures turn { Turn image.now (moved scan at) counts.old waits.old written.old low.now high.now
-        result counts.new waits.new written.new low.now high.now }
-    ensures shrunk { Shrunk waits.old waits.new }
+fn write_rule(image: &[u8], at: usize, scan: Scan, scratch: &mut Scratch, ranges: &Ranges) -> Scan
+    requires { (WellFormed image.now) × (at < rules_in image.now) × (may_stand (book_of image.now) (flagged scratch.old.written) scratch.old.waits at ≡ true) }
+    ensures rule { result.rule ≡ at }
+    ensures turn { Turn image.now (moved scan at) scratch.old.targeted scratch.old.waits scratch.old.written ranges.now.low ranges.now.high
+        result scratch.new.targeted scratch.new.waits scratch.new.written ranges.now.low ranges.now.high }
+    ensures shrunk { Shrunk scratch.old.waits scratch.new.waits }
+    ensures kept { scratch.new.free ≡ scratch.old.free }
 {
-    mark_written(written, at);
+    mark_written(&mut scratch.written, at);
     let t = target_of(image, at);
-    let front = later(scan.front, at + 1);
-    if !strike(t, counts, waits) {
+    let after = at + 1;
+    let front = scan.front.max(after);
+    if !scratch.strike(t) {
         return Scan {
             rule: at,
-            at: at + 1,
+            at: after,
             until: scan.until,
-            front: front,
+            front,
         };
     }
     Scan {
         rule: at,
-        at: back(at + 1, low[t]),
-        until: reach(at + 1, scan.until, high[t]),
-        front: front,
+        at: after.min(ranges.low[t] as usize),
+        until: reach(after, scan.until, ranges.high[t]),
+        front,
     }
 }
 
-// The next rule, which is then written, or the number of rules where none is ready.
+// The next rule, which is then written, or none where none is ready.
 // The scan goes on from where it stands. A rule that it passes over is noted at a mark that the rule waits for. It goes back only where
 // a mark has just been settled, to the lowest rule noted there, and looks again up to the highest: then it goes on at the front. So for
 // the whole order it is one pass, and one over the range of each mark at which a rule was noted: none in a derived book. Where a mark is
@@ -166,29 +158,26 @@ pub fn next_rule(
     image: &[u8],
     rules: usize,
     scan: Scan,
-    counts: &mut [u32; MAX_MARKS],
-    waits: &mut [u64; MARK_WORDS],
-    written: &mut [u64; RULE_WORDS],
-    free: &mut [u32; MAX_CONDITIONS],
-    low: &mut [u32; MAX_MARKS],
-    high: &mut [u32; MAX_MARKS],
-) -> Scan
-    requires { (WellFormed image.now) × (rules ≡ rules_in image.now) × (Freed image.now waits.old free.old) }
-    ensures turn { Turn image.now scan counts.old waits.old written.old low.old high.old
-        result counts.new waits.new written.new low.new high.new }
-    ensures freed { Freed image.now waits.new free.new }
+    scratch: &mut Scratch,
+    ranges: &mut Ranges,
+) -> Option<Scan>
+    requires { (WellFormed image.now) × (rules ≡ rules_in image.now) × (Freed image.now scratch.old.waits scratch.old.free) }
+    ensures turn { Turned image.now scan scratch.old ranges.old result scratch.new ranges.new }
+    ensures freed { Freed image.now scratch.new.waits scratch.new.free }
 {
     let mut here = scan.at;
     while here < rules {
-        if look(image, here, waits, written, free, low, high) {
-            return write_rule(image, here, scan, counts, waits, written, low, high);
+        if look(
+            image,
+            here,
+            &scratch.waits,
+            &scratch.written,
+            &mut scratch.free,
+            ranges,
+        ) {
+            return Some(write_rule(image, here, scan, scratch, ranges));
         }
-        here = ahead(onward(written, here), scan.until, scan.front);
+        here = ahead(onward(&scratch.written, here), scan.until, scan.front);
     }
-    Scan {
-        rule: rules,
-        at: here,
-        until: scan.until,
-        front: scan.front,
-    }
+    None
 }

@@ -2,33 +2,24 @@
 use mathlib.Core.Path.{◌≡◌, sym, ap, ◌∙◌}
 use mathlib.Core.Bool.{Bool, true, false}
 use mathlib.Core.List.{List}
+use Rattle.std.specs.Prelude.{Some, None}
 use Prim.Native.Nat.{ℕ, ◌+◌, ◌*◌, ◌≤◌, ◌<◌}
 use native.Mathlib.Omega.{arith}
 use lib.Dec.{eqb, ltb}
 use lib.ListN.{length, get_or, set, length-set}
 use lib.Seq.{get_or-set_same, get_or-set_other}
-use borrow.Author.Tests.{eqb-true, eqb-false, ltb-true, ltb-false, lt-ltb, le-ltb}
-use Rattle.paper.specs.Limits.{max_marks, condition_size, word_size}
+use borrow.Author.Tests.{eqb-true, eqb-false, ltb-true, ltb-false, lt-ltb}
+use Rattle.paper.specs.Limits.{max_marks, word_size}
 use Rattle.general.specs.Cases.{cases, both}
 use Rattle.wire.specs.Wire.{u16_at}
 use Rattle.book.specs.Book.{text_of}
-use Rattle.book.specs.Image.{rules_in, conditions_in, condition_place, word_place, condition_from, conditions_offset, words_offset, start_at, count_at, book_of}
+use Rattle.book.specs.Image.{rules_in, conditions_in, condition_place, word_place, condition_from, words_offset, start_at, count_at, book_of}
 use Rattle.book.specs.Read.{length-words, get_or-words}
 use Rattle.book.specs.Marks.{has_mark}
 use Rattle.book.specs.WellFormed.{WellFormed}
 use Rattle.book.specs.WellRead.{text-is}
-use Rattle.rule_order.specs.References.{names, Witness}
+use Rattle.rule_order.specs.References.{names, Witnessed}
 use Rattle.rule_order.specs.Freed.{is_in, Freed, Clear, Stopped, named-at, at_named}
-
--- ---- a word
-
-pub in-marks : (marks : List ℕ) (w : ℕ) (b : Bool) → w < max_marks → b ≡ has_mark marks w → b ≡ is_in marks w
-unfolding is_in
-in-marks marks w b h e = rw (lt-ltb w max_marks h) e
-
-pub in-none : (marks : List ℕ) (w : ℕ) → max_marks ≤ w → false ≡ is_in marks w
-unfolding is_in
-in-none marks w h = rw (le-ltb w max_marks h)
 
 -- ---- the loop
 
@@ -58,9 +49,6 @@ module _ (s : List ℕ) (at from count : ℕ) (marks : List ℕ) where
 -- ---- a condition's record, and its text
 
 module _ (s : List ℕ) (w : WellFormed s) (c : ℕ) (h : c < conditions_in s) where
-  pub record-stands : (o : ℕ) → o ≡ conditions_offset s → o + condition_size * c ≡ condition_place (rules_in s) c
-  record-stands o e = rw (e, w.headed.laid_out.conditions)
-
   module _ (at start count words : ℕ) (z : at ≡ condition_place (rules_in s) c) (p' : start ≡ start_at s at) (q' : count ≡ count_at s at) (o : words ≡ words_offset s) where
     p : start ≡ start_at s (condition_place (rules_in s) c)
     p = rw z at p'
@@ -96,7 +84,7 @@ module _ (s : List ℕ) (w : WellFormed s) (c : ℕ) (h : c < conditions_in s) w
             cases (ltb k (get_or free c 0)) (λ x. f.none c k h (ltb-true k (get_or free c 0) x))
             (λ x. rw (text-word k (omega arith)) (t.clear.passed k (ltb-false k (get_or free c 0) x) l))
 
-        freed-on : Freed s marks (set free c i)
+        pub freed-on : Freed s marks (set free c i)
         freed-on =
             let l : c < length free = (let a = w.headed.counted.conditions in let b = f.room in omega arith) in
             record {
@@ -110,32 +98,30 @@ module _ (s : List ℕ) (w : WellFormed s) (c : ℕ) (h : c < conditions_in s) w
             }
 
         -- the whole text was read
-        pub named_none : i ≡ count → (Witness (names (text_of (book_of s) c)) marks max_marks) × (Freed s marks (set free c i))
+        pub named_none : i ≡ count → Witnessed (names (text_of (book_of s) c)) marks None
         unfolding is_in
-        named_none e = (
-          record {
-            one = λ k. absurd (omega arith);
-            none = λ k x j y. let (n, l, z) = named-at x (text_of (book_of s) c) y in
-                let u = clear-upto n (omega (arith, text-long)) in
-                rw (z, lt-ltb x max_marks j) at u;
-          },
-          freed-on,
-        )
+        named_none e =
+            record {
+              one = λ k. absurd (omega arith);
+              none = λ k x j y. let (n, l, z) = named-at x (text_of (book_of s) c) y in
+                  let u = clear-upto n (omega (arith, text-long)) in
+                  rw (z, lt-ltb x max_marks j) at u;
+            }
 
         -- the word at which the reading stopped is a mark of the set
         pub named-inside : (i ≡ count → ⊥) → words + word_size * start + word_size * i + 2 ≤ length s
         named-inside n = let l : i < count = (let k = t.clear.high in omega arith) in omega (arith, text-inside)
 
         pub named-one : (m : ℕ) → (i ≡ count → ⊥) → m ≡ u16_at s (words + word_size * start + word_size * i)
-            → (Witness (names (text_of (book_of s) c)) marks m) × (Freed s marks (set free c i))
+            → Witnessed (names (text_of (book_of s) c)) marks (Some m)
         unfolding is_in
         named-one m n e =
             let l : i < count = (let k = t.clear.high in omega arith) in
             let z : get_or (text_of (book_of s) c) i 0 ≡ m = text-word i l ∙ sym e in
             let (y, v) = both (ltb m max_marks) (has_mark marks m) (rw e (t.stops l)) in (
+              ltb-true m max_marks y,
               record {
                 one = λ k. (rw z at (at_named (text_of (book_of s) c) i (omega (arith, text-long))), v);
                 none = λ k. absurd (omega (arith, ltb-true m max_marks y));
               },
-              freed-on,
             )

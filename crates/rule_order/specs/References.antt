@@ -1,5 +1,5 @@
 -- Whether a rule refers to a mark of a set, by its trigger and by the text of its condition. Assumes nothing.
-use Rattle.std.specs.Prelude.{◌≡◌, refl, Bool, true, false, ◌&&◌, ◌||◌, List, ℕ, ◌≤◌, ◌<◌, eqb, ltb, leb}
+use Rattle.std.specs.Prelude.{◌≡◌, refl, Bool, true, false, ◌&&◌, ◌||◌, List, ℕ, ◌≤◌, ◌<◌, eqb, ltb, leb, Option, Some, None}
 use Rattle.std.proofs.Common.{sym, ◌∙◌, arith}
 use borrow.Author.Tests.{eqb-true, eqb-false, eq-eqb, ltb-true, ltb-false, le-leb, lt-leb}
 use Rattle.paper.specs.Limits.{max_marks}
@@ -26,6 +26,11 @@ names words m = elem m words
 pub record Witness (asked : ℕ → Bool) (marks : List ℕ) (m : ℕ) : Type 0 where
   pub one : m < max_marks → (asked m ≡ true) × (has_mark marks m ≡ true)
   pub none : max_marks ≤ m → (x : ℕ) → x < max_marks → asked x ≡ true → has_mark marks x ≡ false
+
+-- the same of an option: a mark of the set, or none
+abbrev pub Witnessed : (ℕ → Bool) → List ℕ → Option ℕ → Type 0
+Witnessed asked marks None = Witness asked marks max_marks
+Witnessed asked marks (Some m) = (m < max_marks) × Witness asked marks m
 
 -- where none is asked for
 witness-none : (asked : ℕ → Bool) (marks : List ℕ) → ((x : ℕ) → asked x ≡ false) → Witness asked marks max_marks
@@ -58,6 +63,14 @@ module _ (b : Book) (r : ℕ) (marks : List ℕ) where
         one = λ k. let (e, i) = v.one k in (or_right (awaits (rule_of b r).trigger n) (reads (text_of b) (rule_of b r).sense n) e, i);
         none = λ k x j e. either (awaits (rule_of b r).trigger x) (reads (text_of b) (rule_of b r).sense x) e (λ i. w.none l x j i) (λ i. v.none k x j i);
       }
+
+  -- the same of options
+  pub referred-first : (m : ℕ) → Witnessed (awaits (rule_of b r).trigger) marks (Some m) → Witnessed (refers b r) marks (Some m)
+  referred-first m w = (w.0, refers-first m w.1 w.0)
+
+  pub referred-then : (o : Option ℕ) → Witnessed (awaits (rule_of b r).trigger) marks None → Witnessed (reads (text_of b) (rule_of b r).sense) marks o → Witnessed (refers b r) marks o
+  referred-then None w v = refers-then max_marks max_marks w (omega arith) v
+  referred-then (Some n) w v = (v.0, refers-then max_marks n w (omega arith) v.1)
 
 -- ---- by the bytes of the rule's record
 
@@ -126,3 +139,8 @@ module _ (s marks : List ℕ) (r : ℕ) (g : WellFormed s) (h : r < rules_in s) 
   reads-text c m l e w =
       witness-same (names (text_of (book_of s) c)) (reads (text_of (book_of s)) (rule_of (book_of s) r).sense) marks m
       (λ x. rw (reads_byte s r x h, le-leb 1 (sense_at s (rule_place r)) l, e)) w
+
+  pub text-read : (c : ℕ) (o : Option ℕ) → 1 ≤ sense_at s (rule_place r) → c ≡ condition_at s (rule_place r) → Witnessed (names (text_of (book_of s) c)) marks o
+      → Witnessed (reads (text_of (book_of s)) (rule_of (book_of s) r).sense) marks o
+  text-read c None l e w = reads-text c max_marks l e w
+  text-read c (Some m) l e w = (w.0, reads-text c m l e w.1)

@@ -4,44 +4,45 @@ ghost use Rattle.book.specs.Book.{rule_of, text_of};
 ghost use Rattle.book.specs.Firing.{awaits, reads, refers};
 ghost use Rattle.book.specs.Image.{rules_in, book_of};
 ghost use Rattle.book.specs.WellFormed.{WellFormed};
-ghost use Rattle.rule_order.specs.References.{Witness};
+ghost use Rattle.rule_order.specs.References.{Witnessed};
 ghost use Rattle.rule_order.specs.Freed.{Freed};
 
 use crate::reading::mark_named;
 use book::rules::{CONDITION_AT, NUMBER_AT, SENSE_AS_WRITTEN, SENSE_AT, TRIGGER_BECOME_YES};
-use paper::{BOOK_HEADER, MAX_CONDITIONS, MAX_MARKS, RULE_SIZE};
+use paper::{BOOK_HEADER, MAX_CONDITIONS, RULE_SIZE};
 use texts::references::MARK_WORDS;
 
-// A mark of the set that rule r waits for to become yes or no, or MAX_MARKS. From raw bytes: a rule is asked whenever the scan meets it.
-fn mark_awaited(image: &[u8], r: usize, set: &[u64; MARK_WORDS]) -> usize
+// A mark of the set that rule r waits for to become yes or no. From raw bytes: a rule is asked whenever the scan meets it.
+fn mark_awaited(image: &[u8], r: usize, set: &[u64; MARK_WORDS]) -> Option<usize>
     requires { (WellFormed image.now) × (r < rules_in image.now) }
-    ensures { Witness (awaits (rule_of (book_of image.now) r).trigger) set.now result }
+    ensures { Witnessed (awaits (rule_of (book_of image.now) r).trigger) set.now result }
 {
     let at = BOOK_HEADER + RULE_SIZE * r;
     if image[at] < TRIGGER_BECOME_YES {
-        return MAX_MARKS;
+        return None;
     }
     let m = wire::u16_at(image, at + NUMBER_AT) as usize;
     if sets::member(set[m / 64], m % 64) {
-        return m;
+        return Some(m);
     }
-    MAX_MARKS
+    None
 }
 
-// A mark of the set that the condition of rule r names, or MAX_MARKS.
+// A mark of the set that the condition of rule r names.
+#[tactic(auto, using(crate::specs::References::reads_none))]
 fn mark_read(
     image: &[u8],
     r: usize,
     free: &mut [u32; MAX_CONDITIONS],
     set: &[u64; MARK_WORDS],
-) -> usize
+) -> Option<usize>
     requires { (WellFormed image.now) × (r < rules_in image.now) × (Freed image.now set.now free.old) }
-    ensures witness { Witness (reads (text_of (book_of image.now)) (rule_of (book_of image.now) r).sense) set.now result }
+    ensures witness { Witnessed (reads (text_of (book_of image.now)) (rule_of (book_of image.now) r).sense) set.now result }
     ensures freed { Freed image.now set.now free.new }
 {
     let at = BOOK_HEADER + RULE_SIZE * r;
     if image[at + SENSE_AT] < SENSE_AS_WRITTEN {
-        return MAX_MARKS;
+        return None;
     }
     mark_named(
         image,
@@ -51,20 +52,19 @@ fn mark_read(
     )
 }
 
-// A mark of the set that rule r refers to, or MAX_MARKS where it refers to none.
+// A mark of the set that rule r refers to.
 pub fn mark_referred(
     image: &[u8],
     r: usize,
     free: &mut [u32; MAX_CONDITIONS],
     set: &[u64; MARK_WORDS],
-) -> usize
+) -> Option<usize>
     requires { (WellFormed image.now) × (r < rules_in image.now) × (Freed image.now set.now free.old) }
-    ensures witness { Witness (refers (book_of image.now) r) set.now result }
+    ensures witness { Witnessed (refers (book_of image.now) r) set.now result }
     ensures freed { Freed image.now set.now free.new }
 {
-    let m = mark_awaited(image, r, set);
-    if m < MAX_MARKS {
-        return m;
+    match mark_awaited(image, r, set) {
+        Some(m) => Some(m),
+        None => mark_read(image, r, free, set),
     }
-    mark_read(image, r, free, set)
 }

@@ -1,6 +1,6 @@
 -- The flags of the written rules, as the code sets them and passes them. Assumes nothing.
 use mathlib.Core.Path.{◌≡◌, ◌∙◌}
-use mathlib.Core.Bool.{Bool, true, false, not, ◌&&◌, and-false}
+use mathlib.Core.Bool.{true, false, not, ◌&&◌, and-false}
 use mathlib.Core.List.{List}
 use Prim.Native.Nat.{ℕ, ◌+◌, ◌*◌, ◌/◌, ◌%◌, ◌^◌, ◌≤◌, ◌<◌}
 use native.Mathlib.Omega.{arith}
@@ -9,16 +9,10 @@ use lib.ListN.{get_or, set}
 use borrow.Author.Tests.{lt-ltb, le-ltb, ltb-true, ltb-false}
 use Rattle.paper.specs.Limits.{max_rules}
 use Rattle.general.specs.Cases.{contra, cases}
-use Rattle.sets.specs.Set.{has, union, only, minus, all_below, lowest}
+use Rattle.sets.specs.Set.{has, minus, all_below, lowest}
 use Rattle.sets.specs.Laws.{has_all, has-minus, has-empty, minus-le, lowest-lt, lowest-has, lowest-least}
 use Rattle.book.specs.Marks.{word_bits}
-use Rattle.unwritten.specs.Words.{rule_words, marked, unmarked, AllWritten, all_more, Onward}
-
-pub marked_by : (row : List ℕ) (t one word : ℕ) → one ≡ only (t % word_bits) → word ≡ union (get_or row (t / word_bits) 0) one → set row (t / word_bits) word ≡ marked row t
-marked_by row t one word o w = rw (w, o)
-
-pub unmarked-by : (row : List ℕ) (t one word : ℕ) → one ≡ only (t % word_bits) → word ≡ minus (get_or row (t / word_bits) 0) one → set row (t / word_bits) word ≡ unmarked row t
-unmarked-by row t one word o w = rw (w, o)
+use Rattle.unwritten.specs.Words.{rule_words, AllWritten, all_more, Onward}
 
 -- ---- every rule of a book
 

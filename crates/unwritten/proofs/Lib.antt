@@ -1,2 +1,3 @@
 -- The root of the crate's shared laws for proofs.
+pub mod Earlier
 pub mod Flags

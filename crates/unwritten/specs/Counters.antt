@@ -5,7 +5,7 @@ use Rattle.std.proofs.Common.{◌∙◌, arith, length-set, get_or-set_same, get
 use Rattle.std.proofs.Math.Bool.{not, and-true, and-false, or-true, or-false}
 use Rattle.std.proofs.Math.ListN.{length-replicate, get_or-replicate}
 use Rattle.std.proofs.Math.Seq.{set_out}
-use borrow.Author.Tests.{eqb-true, eqb-false, eq-eqb, ne_eqb, lt-ltb, le-ltb, ltb-true, ltb-false, le-leb, lt-leb}
+use borrow.Author.Tests.{eqb-true, eqb-false, eq-eqb, ne_eqb, lt-ltb, le-ltb, ltb-true, ltb-false, lt-leb}
 use Rattle.paper.specs.Limits.{max_marks, max_rules}
 use Rattle.general.specs.Cases.{cases, both}
 use Rattle.general.specs.Below.{tally, tally-step, tally-le}
@@ -217,14 +217,6 @@ pub record Struck (t : ℕ) (counts waits counts' waits' : List ℕ) (done : Boo
   pub last : done ≡ leb (get_or counts t 0) 1
   pub fewer : counts' ≡ set counts t (get_or counts t 0 - 1)
   pub kept : waits' ≡ cond done (unmarked waits t) waits
-
-pub struck-last : (t one word : ℕ) (counts waits : List ℕ) → get_or counts t 0 ≤ 1 → one ≡ only (t % word_bits) → word ≡ minus (get_or waits (t / word_bits) 0) one
-    → Struck t counts waits (set counts t 0) (set waits (t / word_bits) word) true
-struck-last t one word counts waits h o w =
-    record { last = sym (le-leb (get_or counts t 0) 1 h); fewer = ap (λ (n : ℕ). set counts t n) (omega arith); kept = rw (w, o) }
-
-pub struck-more : (t : ℕ) (counts waits : List ℕ) → 1 < get_or counts t 0 → Struck t counts waits (set counts t (get_or counts t 0 - 1)) waits false
-struck-more t counts waits h = record { last = sym (lt-leb (get_or counts t 0) 1 h); fewer = refl; kept = refl }
 
 -- the set has no mark that it had not
 pub struck-shrunk : (t : ℕ) (counts waits counts' waits' : List ℕ) (done : Bool) → Struck t counts waits counts' waits' done → Shrunk waits waits'

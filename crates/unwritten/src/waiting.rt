@@ -4,16 +4,41 @@ ghost use Rattle.paper.specs.Limits.{max_marks};
 ghost use Rattle.book.specs.Book.{rule_of};
 ghost use Rattle.book.specs.Image.{rules_in, book_of};
 ghost use Rattle.book.specs.WellFormed.{WellFormed};
-ghost use Rattle.order_theory.specs.Order.{counted_rules};
+ghost use Rattle.order_theory.specs.Order.{Net, counted_rules};
 ghost use Rattle.rule_order.specs.Nets.{rules_of};
 ghost use Rattle.rule_order.specs.Freed.{Freed};
-ghost use Rattle.unwritten.specs.Counters.{Span, Counting, Begun, Struck};
+ghost use Rattle.unwritten.specs.Counters.{Counting, Begun, Struck};
+ghost use Rattle.unwritten.specs.Spans.{Spanned};
 
-use crate::written::{RULE_WORDS, mark_unwritten, write_all};
+use crate::Scratch;
+use crate::written::{mark_unwritten, write_all};
 use book::rules::TARGET_AT;
 use paper::{BOOK_HEADER, MAX_CONDITIONS, MAX_MARKS, RULE_SIZE};
 use rule_order::counted::is_counted;
 use texts::references::MARK_WORDS;
+
+// Where the rules that count for a stage are: from `from` to below `to`, and from `again` to below `end`.
+#[derive(Clone, Copy)]
+pub struct Span {
+    pub from: usize,
+    pub to: usize,
+    pub again: usize,
+    pub end: usize,
+}
+
+impl Span {
+    // All rules of a book of so many.
+    pub fn all(rules: usize) -> Span
+        ensures { (N : Net) → Spanned N rules result }
+    {
+        Span {
+            from: 0,
+            to: rules,
+            again: rules,
+            end: rules,
+        }
+    }
+}
 
 // The mark that rule r targets.
 pub fn target_of(image: &[u8], r: usize) -> usize
@@ -30,68 +55,64 @@ fn count_span(
     to: usize,
     stage: u32,
     before: usize,
-    counts: &mut [u32; MAX_MARKS],
-    waits: &mut [u64; MARK_WORDS],
-    written: &mut [u64; RULE_WORDS],
+    scratch: &mut Scratch,
 ) -> usize
-    requires { (WellFormed image.now) × (from ≤ to) × (to ≤ rules_in image.now) × (Counting (rules_of image.now stage) before from counts.old waits.old written.old) }
-    ensures { Counting (rules_of image.now stage) result to counts.new waits.new written.new }
+    requires { (WellFormed image.now) × (from ≤ to) × (to ≤ rules_in image.now)
+        × (Counting (rules_of image.now stage) before from scratch.old.targeted scratch.old.waits scratch.old.written) }
+    ensures value { Counting (rules_of image.now stage) result to scratch.new.targeted scratch.new.waits scratch.new.written }
+    ensures kept { scratch.new.free ≡ scratch.old.free }
 {
     let mut counted = before;
     for r in from..to {
         if is_counted(image, r, stage) {
             counted += 1;
-            mark_unwritten(written, r);
+            mark_unwritten(&mut scratch.written, r);
             let t = target_of(image, r);
-            let n = counts[t];
-            counts[t] = n + 1;
-            let word = waits[t / 64];
-            waits[t / 64] = sets::join(word, sets::one(t % 64));
+            scratch.targeted[t] += 1;
+            let word = scratch.waits[t / 64];
+            scratch.waits[t / 64] = sets::join(word, sets::one(t % 64));
         }
     }
     counted
 }
 
-// Before any counted rule is written: how many count, by one pass over the rules from `from` to `to` and from `again` to `end`, among which
-// all that count are. Those that do not stand as written from the start, so that they are never ready and none waits for them. No text is
-// read yet. Whatever the four arrays held is gone: they serve stage after stage.
+// Before any counted rule is written: how many count, by one pass over the rules of the span, among which all that count are. Those that do
+// not stand as written from the start, so that they are never ready and none waits for them. No text is read yet. Whatever the scratch held
+// is gone: it serves stage after stage.
 pub fn count_targets(
     image: &[u8],
     rules: usize,
-    from: usize,
-    to: usize,
-    again: usize,
-    end: usize,
+    span: Span,
     stage: u32,
-    counts: &mut [u32; MAX_MARKS],
-    waits: &mut [u64; MARK_WORDS],
-    written: &mut [u64; RULE_WORDS],
-    free: &mut [u32; MAX_CONDITIONS],
+    scratch: &mut Scratch,
 ) -> usize
-    requires { (WellFormed image.now) × (rules ≡ rules_in image.now) × (Span (rules_of image.now stage) rules from to again end) }
-    ensures value { (result ≡ counted_rules (rules_of image.now stage)) × (Begun (rules_of image.now stage) counts.new waits.new written.new) }
-    ensures freed { Freed image.now waits.new free.new }
+    requires { (WellFormed image.now) × (rules ≡ rules_in image.now) × (Spanned (rules_of image.now stage) rules span) }
+    ensures value { (result ≡ counted_rules (rules_of image.now stage)) × (Begun (rules_of image.now stage) scratch.new.targeted scratch.new.waits scratch.new.written) }
+    ensures freed { Freed image.now scratch.new.waits scratch.new.free }
 {
-    *counts = [0; MAX_MARKS];
-    *waits = [0; MARK_WORDS];
-    write_all(written, rules);
-    *free = [0; MAX_CONDITIONS];
-    let first = count_span(image, from, to, stage, 0, counts, waits, written);
-    count_span(image, again, end, stage, first, counts, waits, written)
+    scratch.targeted = [0; MAX_MARKS];
+    scratch.waits = [0; MARK_WORDS];
+    write_all(&mut scratch.written, rules);
+    scratch.free = [0; MAX_CONDITIONS];
+    let first = count_span(image, span.from, span.to, stage, 0, scratch);
+    count_span(image, span.again, span.end, stage, first, scratch)
 }
 
-// One rule less targets the mark t: whether none is left.
-pub fn strike(t: usize, counts: &mut [u32; MAX_MARKS], waits: &mut [u64; MARK_WORDS]) -> bool
-    requires { t < max_marks }
-    ensures { Struck t counts.old waits.old counts.new waits.new result }
-{
-    let n = counts[t];
-    if 1 < n {
-        counts[t] = n - 1;
-        return false;
+impl Scratch {
+    // One rule less targets the mark t: whether none is left.
+    pub fn strike(&mut self, t: usize) -> bool
+        requires { t < max_marks }
+        ensures struck { Struck t self.old.targeted self.old.waits self.new.targeted self.new.waits result }
+        ensures kept { (self.new.written ≡ self.old.written) × (self.new.free ≡ self.old.free) }
+    {
+        let n = self.targeted[t];
+        if 1 < n {
+            self.targeted[t] = n - 1;
+            return false;
+        }
+        self.targeted[t] = 0;
+        let word = self.waits[t / 64];
+        self.waits[t / 64] = sets::less(word, sets::one(t % 64));
+        true
     }
-    counts[t] = 0;
-    let word = waits[t / 64];
-    waits[t / 64] = sets::less(word, sets::one(t % 64));
-    true
 }

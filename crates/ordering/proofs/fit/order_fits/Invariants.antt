@@ -1,0 +1,10 @@
+use Rattle.rule_order.specs.Freed.{Freed}
+use Rattle.ordering.proofs.Fitting.{Fitting}
+use Rattle.ordering.proofs.fit.order_fits.Given as goal
+
+abbrev pub invariant-loop-entry : goal.invariant-loop-entry
+invariant-loop-entry l =
+    record {
+      fitting : Fitting l.image l.stage l.order l.scratch.written l.scratch.targeted l.scratch.waits l.entry-index;
+      freed : Freed l.image l.scratch.waits l.scratch.free;
+    }
