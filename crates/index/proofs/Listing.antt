@@ -1,11 +1,10 @@
 -- What the functions that list the counted rules upwards need. Assumes nothing.
 use mathlib.Core.Path.{◌≡◌, refl, sym, ◌∙◌}
-use mathlib.Core.Bool.{Bool, true, false, not}
+use mathlib.Core.Bool.{Bool, true, false}
 use mathlib.Core.List.{List, ◌++◌}
 use Prim.Native.Nat.{ℕ, ◌+◌, ◌≤◌, ◌<◌}
 use native.Mathlib.Omega.{arith}
 use lib.ListN.{length}
-use borrow.Author.Tests.{not-true, not-false}
 use Rattle.paper.specs.Limits.{index_rule}
 use Rattle.general.specs.Writing.{Fits, Wrote, wrote_none, wrote-length, then, fits-first, fits-then}
 use Rattle.wire.specs.Wire.{put32, bytes32}
@@ -21,14 +20,14 @@ use Rattle.index.proofs.Writing.{number-wrote}
 -- ---- a rule
 
 module _ (s : List ℕ) (stage r : ℕ) (room : List ℕ) (at : ℕ) (b : Bool) (e : b ≡ (rules_of s stage).counts r) where
-  pub counted-not : not b ≡ true → Wrote room at (span_bytes s stage r (r + 1)) at room
+  pub counted-not : b ≡ false → Wrote room at (span_bytes s stage r (r + 1)) at room
   counted-not x =
-      let n : (rules_of s stage).counts r ≡ false = sym e ∙ not-true b x in
+      let n : (rules_of s stage).counts r ≡ false = sym e ∙ x in
       rw (span-silent s stage r (r + 1) (λ q h l. let z : q ≡ r = omega arith in rw z n)) (wrote_none room at)
 
-  module _ (x : not b ≡ false) where
+  module _ (x : b ≡ true) where
     one : span_bytes s stage r (r + 1) ≡ bytes32 r
-    one = span-one s stage r (sym e ∙ not-false b x)
+    one = span-one s stage r (sym e ∙ x)
 
     pub counted-fits : Fits room at (span_bytes s stage r (r + 1)) → at + index_rule ≤ length room
     counted-fits f = omega (arith, rw one at f, length-bytes32 r)

@@ -4,7 +4,7 @@ use mathlib.Core.List.{List, ◌++◌}
 use Prim.Native.Nat.{ℕ, suc, ◌+◌, ◌*◌, ◌^◌, ◌≤◌, ◌<◌}
 use native.Mathlib.Omega.{arith}
 use lib.ListN.{length, get_or}
-use Rattle.paper.specs.Limits.{max_marks, max_rules, index_header, index_stage, index_rule}
+use Rattle.paper.specs.Limits.{max_marks, index_header, index_stage, index_rule}
 use Rattle.general.specs.Lists.{flat}
 use Rattle.general.specs.Writing.{Fits, Wrote, then, fits-first, fits-then, Runs, runs-start, runs-length, runs-fits, runs-more, runs_done}
 use Rattle.wire.specs.Wire.{put16, put32, bytes16, bytes32}

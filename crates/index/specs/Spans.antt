@@ -8,7 +8,7 @@ use Rattle.paper.specs.Limits.{max_events}
 use Rattle.general.specs.Cases.{cases}
 use Rattle.book.specs.Image.{rules_in, rule_place, kind_at, number_at}
 use Rattle.book.specs.WellFormed.{WellFormed}
-use Rattle.rule_order.specs.Nets.{rules_of, count-is, counts-completed}
+use Rattle.rule_order.specs.Nets.{rules_of, counts-completed}
 use Rattle.unwritten.specs.Counters.{Span}
 
 abbrev pub places : ℕ

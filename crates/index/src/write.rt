@@ -10,22 +10,21 @@ ghost use Rattle.book.specs.Image.{rules_in, book_of};
 ghost use Rattle.book.specs.WellFormed.{WellFormed};
 ghost use Rattle.book.specs.WellRead.{Opened};
 ghost use Rattle.rule_order.specs.Nets.{rules_of};
-ghost use Rattle.unwritten.specs.Counters.{Span};
+ghost use Rattle.unwritten.specs.Spans.{Spanned};
 ghost use Rattle.index.specs.Index.{order_bytes, index_image};
 ghost use Rattle.index.specs.Sizes.{entry_from, Sized};
 ghost use Rattle.index.specs.Ready.{IndexReady};
 ghost use Rattle.index.specs.Upwards.{span_bytes};
 
 use crate::rising::ascends;
-use crate::sizes::order_size;
-use crate::spans::{PLACES, find_spans, span_of};
+use crate::sizes::Sizes;
+use crate::spans::Places;
 use book::Counts;
-use ordering::scan::{NO_RULE, next_rule, start};
-use paper::{INDEX_HEADER, INDEX_RULE, INDEX_STAGE, MAX_CONDITIONS, MAX_EVENTS, MAX_MARKS};
+use ordering::scan::{Ranges, Scan, next_rule};
+use paper::{INDEX_HEADER, INDEX_RULE, INDEX_STAGE};
 use rule_order::counted::is_counted;
-use texts::references::MARK_WORDS;
-use unwritten::waiting::count_targets;
-use unwritten::written::RULE_WORDS;
+use unwritten::Scratch;
+use unwritten::waiting::{Span, count_targets};
 
 // Two numbers of 32 bits.
 fn put_pair(room: &mut [u8], at: usize, first: u32, second: u32) -> usize
@@ -45,58 +44,43 @@ fn put_entry(room: &mut [u8], at: usize, offset: usize, size: usize) -> usize
     put_pair(room, at, offset as u32, size as u32)
 }
 
-fn put_entries(
-    stages: usize,
-    common: usize,
-    table: &[u32; MAX_EVENTS],
-    room: &mut [u8],
-    at: usize,
-) -> usize
-    requires { Sized stages table.now common × Fits room.old at (flat stages (entry_from stages table.now common)) }
-    ensures { Wrote room.old at (flat stages (entry_from stages table.now common)) result room.new }
+fn put_entries(sizes: &Sizes, stages: usize, room: &mut [u8], at: usize) -> usize
+    requires { Sized stages sizes.now.stages sizes.now.common × Fits room.old at (flat stages (entry_from stages sizes.now.stages sizes.now.common)) }
+    ensures { Wrote room.old at (flat stages (entry_from stages sizes.now.stages sizes.now.common)) result room.new }
 {
     let mut next = at;
     let mut offset = INDEX_HEADER + INDEX_STAGE * stages;
-    for s in 0..stages {
-        let size = order_size(table, common, s);
+    for stage in 0..stages {
+        let size = sizes.order_size(stage);
         next = put_entry(room, next, offset, size);
         offset += INDEX_RULE * size;
     }
     next
 }
 
-// The order of a stage, rule by rule, in four lent arrays. One pass over the rules from `from` to `to` and from `again` to `end`, among which
-// all that count are, and the scan.
+// The order of a stage, rule by rule, in lent scratch. One pass over the rules of the span, among which all that count are, and the scan.
 pub fn put_order(
     image: &[u8],
     rules: usize,
-    from: usize,
-    to: usize,
-    again: usize,
-    end: usize,
+    span: Span,
     stage: u32,
-    counts: &mut [u32; MAX_MARKS],
-    waits: &mut [u64; MARK_WORDS],
-    written: &mut [u64; RULE_WORDS],
-    free: &mut [u32; MAX_CONDITIONS],
+    scratch: &mut Scratch,
     room: &mut [u8],
     at: usize,
 ) -> usize
-    requires { (WellFormed image.now) × (rules ≡ rules_in image.now) × (Span (rules_of image.now stage) rules from to again end)
+    requires { (WellFormed image.now) × (rules ≡ rules_in image.now) × (Spanned (rules_of image.now stage) rules span)
         × (NoLoop (rules_of image.now stage)) × Fits room.old at (order_bytes (book_of image.now) stage) }
     ensures { Wrote room.old at (order_bytes (book_of image.now) stage) result room.new }
 {
-    let counted = count_targets(
-        image, rules, from, to, again, end, stage, counts, waits, written, free,
-    );
+    let counted = count_targets(image, rules, span, stage, scratch);
     let mut next = at;
-    let mut low = [NO_RULE; MAX_MARKS];
-    let mut high = [0u32; MAX_MARKS];
-    let mut scan = start();
+    let mut ranges = Ranges::empty();
+    let mut scan = Scan::start();
     for j in 0..counted {
-        scan = next_rule(
-            image, rules, scan, counts, waits, written, free, &mut low, &mut high,
-        );
+        let Some(turned) = next_rule(image, rules, scan, scratch, &mut ranges) else {
+            unreachable!()
+        };
+        scan = turned;
         wire::put32(room, next, scan.rule as u32);
         next += INDEX_RULE;
     }
@@ -127,52 +111,35 @@ fn put_span(image: &[u8], stage: u32, from: usize, to: usize, room: &mut [u8], a
     next
 }
 
-// The order of a stage where orders rise: the rules that count, upwards. One pass over the rules from `from` to `to` and from `again` to `end`.
-fn put_rising(
-    image: &[u8],
-    from: usize,
-    to: usize,
-    again: usize,
-    end: usize,
-    stage: u32,
-    room: &mut [u8],
-    at: usize,
-) -> usize
-    requires { (WellFormed image.now) × (Span (rules_of image.now stage) (rules_in image.now) from to again end)
+// The order of a stage where orders rise: the rules that count, upwards. One pass over the rules of the span.
+fn put_rising(image: &[u8], span: Span, stage: u32, room: &mut [u8], at: usize) -> usize
+    requires { (WellFormed image.now) × (Spanned (rules_of image.now stage) (rules_in image.now) span)
         × (Rising (rules_of image.now stage)) × Fits room.old at (order_bytes (book_of image.now) stage) }
     ensures { Wrote room.old at (order_bytes (book_of image.now) stage) result room.new }
 {
-    let next = put_span(image, stage, from, to, room, at);
-    put_span(image, stage, again, end, room, next)
+    let next = put_span(image, stage, span.from, span.to, room, at);
+    put_span(image, stage, span.again, span.end, room, next)
 }
 
 // The order of a stage, listed upwards where orders rise.
 fn put_stage(
     image: &[u8],
     rules: usize,
-    from: usize,
-    to: usize,
-    again: usize,
-    end: usize,
+    span: Span,
     stage: u32,
     rising: bool,
-    counts: &mut [u32; MAX_MARKS],
-    waits: &mut [u64; MARK_WORDS],
-    written: &mut [u64; RULE_WORDS],
-    free: &mut [u32; MAX_CONDITIONS],
+    scratch: &mut Scratch,
     room: &mut [u8],
     at: usize,
 ) -> usize
-    requires { (WellFormed image.now) × (rules ≡ rules_in image.now) × (Span (rules_of image.now stage) rules from to again end)
+    requires { (WellFormed image.now) × (rules ≡ rules_in image.now) × (Spanned (rules_of image.now stage) rules span)
         × (NoLoop (rules_of image.now stage)) × (rising ≡ true → Rising (rules_of image.now stage)) × Fits room.old at (order_bytes (book_of image.now) stage) }
     ensures { Wrote room.old at (order_bytes (book_of image.now) stage) result room.new }
 {
     if rising {
-        return put_rising(image, from, to, again, end, stage, room, at);
+        return put_rising(image, span, stage, room, at);
     }
-    put_order(
-        image, rules, from, to, again, end, stage, counts, waits, written, free, room, at,
-    )
+    put_order(image, rules, span, stage, scratch, room, at)
 }
 
 // The orders of all stages: two passes over the rules and one over the texts tell whether orders rise, and one over the rules among which
@@ -180,10 +147,7 @@ fn put_stage(
 fn put_orders(
     image: &[u8],
     head: Counts,
-    counts: &mut [u32; MAX_MARKS],
-    waits: &mut [u64; MARK_WORDS],
-    written: &mut [u64; RULE_WORDS],
-    free: &mut [u32; MAX_CONDITIONS],
+    scratch: &mut Scratch,
     room: &mut [u8],
     at: usize,
 ) -> usize
@@ -192,18 +156,12 @@ fn put_orders(
     ensures { Wrote room.old at (flat head.stages (order_bytes (book_of image.now))) result room.new }
 {
     let rules = head.rules as usize;
-    let stages = head.stages;
-    let rising = ascends(image, head, counts, free);
-    let mut low = [0u32; PLACES];
-    let mut high = [0u32; PLACES];
-    find_spans(image, rules, &mut low, &mut high);
+    let rising = ascends(image, head, scratch);
+    let places = Places::of(image, rules);
     let mut next = at;
-    for stage in 0..stages {
-        let span = span_of(&low, &high, rules, stage as usize);
-        next = put_stage(
-            image, rules, span.from, span.to, span.again, span.end, stage, rising, counts, waits,
-            written, free, room, next,
-        );
+    for stage in 0..head.stages {
+        let span = places.span(rules, stage as usize);
+        next = put_stage(image, rules, span, stage, rising, scratch, room, next);
     }
     next
 }
@@ -212,18 +170,14 @@ fn put_orders(
 pub fn put_index(
     image: &[u8],
     head: Counts,
-    table: &[u32; MAX_EVENTS],
-    common: usize,
-    counts: &mut [u32; MAX_MARKS],
-    waits: &mut [u64; MARK_WORDS],
-    written: &mut [u64; RULE_WORDS],
-    free: &mut [u32; MAX_CONDITIONS],
+    sizes: &Sizes,
+    scratch: &mut Scratch,
     room: &mut [u8],
 ) -> usize
-    requires { IndexReady image.now head table.now common × Fits room.old 0 (index_image (book_of image.now)) }
+    requires { IndexReady image.now head sizes.now.stages sizes.now.common × Fits room.old 0 (index_image (book_of image.now)) }
     ensures { Wrote room.old 0 (index_image (book_of image.now)) result room.new }
 {
     let a = put_pair(room, 0, head.stages, head.rules);
-    let b = put_entries(head.stages as usize, common, table, room, a);
-    put_orders(image, head, counts, waits, written, free, room, b)
+    let b = put_entries(sizes, head.stages as usize, room, a);
+    put_orders(image, head, scratch, room, b)
 }

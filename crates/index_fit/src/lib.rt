@@ -21,12 +21,11 @@ ghost use Rattle.index.specs.Ready.{IndexReady};
 use crate::rising::entries_rise;
 use book::Counts;
 use index::rising::ascends;
-use index::sizes::{index_size, order_size};
-use ordering::scan::{NO_RULE, next_rule, start};
-use paper::{INDEX_HEADER, INDEX_RULE, INDEX_STAGE, MAX_CONDITIONS, MAX_EVENTS, MAX_MARKS};
-use texts::references::MARK_WORDS;
-use unwritten::waiting::count_targets;
-use unwritten::written::RULE_WORDS;
+use index::sizes::Sizes;
+use ordering::scan::{Ranges, Scan, next_rule};
+use paper::{INDEX_HEADER, INDEX_RULE, INDEX_STAGE};
+use unwritten::Scratch;
+use unwritten::waiting::{Span, count_targets};
 
 // Two numbers of 32 bits.
 fn pair_same(index: &[u8], at: usize, first: u32, second: u32) -> bool
@@ -37,20 +36,14 @@ fn pair_same(index: &[u8], at: usize, first: u32, second: u32) -> bool
 }
 
 // For each stage where its order begins and how many rules it has.
-fn entries_same(
-    stages: usize,
-    common: usize,
-    table: &[u32; MAX_EVENTS],
-    index: &[u8],
-    at: usize,
-) -> bool
-    requires { Sized stages table.now common × Fits index.now at (flat stages (entry_from stages table.now common)) }
-    ensures { result ≡ stands_at index.now at (flat stages (entry_from stages table.now common)) }
+fn entries_same(sizes: &Sizes, stages: usize, index: &[u8], at: usize) -> bool
+    requires { Sized stages sizes.now.stages sizes.now.common × Fits index.now at (flat stages (entry_from stages sizes.now.stages sizes.now.common)) }
+    ensures { result ≡ stands_at index.now at (flat stages (entry_from stages sizes.now.stages sizes.now.common)) }
 {
     let mut next = at;
     let mut offset = INDEX_HEADER + INDEX_STAGE * stages;
-    for s in 0..stages {
-        let size = order_size(table, common, s);
+    for stage in 0..stages {
+        let size = sizes.order_size(stage);
         if !pair_same(index, next, offset as u32, size as u32) {
             return false;
         }
@@ -68,15 +61,12 @@ fn rule_same(index: &[u8], at: usize, rule: u32) -> bool
     wire::u32_at(index, at) == rule
 }
 
-// The order of a stage, rule by rule, to the first that differs, made in four lent arrays. One pass over the rules, and the scan.
+// The order of a stage, rule by rule, to the first that differs, made in lent scratch. One pass over the rules, and the scan.
 pub fn order_same(
     image: &[u8],
     rules: usize,
     stage: u32,
-    counts: &mut [u32; MAX_MARKS],
-    waits: &mut [u64; MARK_WORDS],
-    written: &mut [u64; RULE_WORDS],
-    free: &mut [u32; MAX_CONDITIONS],
+    scratch: &mut Scratch,
     index: &[u8],
     at: usize,
 ) -> bool
@@ -84,17 +74,15 @@ pub fn order_same(
         × Fits index.now at (order_bytes (book_of image.now) stage) }
     ensures { result ≡ stands_at index.now at (order_bytes (book_of image.now) stage) }
 {
-    let counted = count_targets(
-        image, rules, 0, rules, rules, rules, stage, counts, waits, written, free,
-    );
+    let counted = count_targets(image, rules, Span::all(rules), stage, scratch);
     let mut next = at;
-    let mut low = [NO_RULE; MAX_MARKS];
-    let mut high = [0u32; MAX_MARKS];
-    let mut scan = start();
+    let mut ranges = Ranges::empty();
+    let mut scan = Scan::start();
     for j in 0..counted {
-        scan = next_rule(
-            image, rules, scan, counts, waits, written, free, &mut low, &mut high,
-        );
+        let Some(turned) = next_rule(image, rules, scan, scratch, &mut ranges) else {
+            unreachable!()
+        };
+        scan = turned;
         if !rule_same(index, next, scan.rule as u32) {
             return false;
         }
@@ -110,10 +98,7 @@ fn stage_same(
     stage: u32,
     counted: usize,
     rising: bool,
-    counts: &mut [u32; MAX_MARKS],
-    waits: &mut [u64; MARK_WORDS],
-    written: &mut [u64; RULE_WORDS],
-    free: &mut [u32; MAX_CONDITIONS],
+    scratch: &mut Scratch,
     index: &[u8],
     at: usize,
 ) -> bool
@@ -125,43 +110,26 @@ fn stage_same(
     if rising {
         return entries_rise(image, rules, stage, counted, index, at);
     }
-    order_same(image, rules, stage, counts, waits, written, free, index, at)
+    order_same(image, rules, stage, scratch, index, at)
 }
 
 fn orders_same(
     image: &[u8],
     head: Counts,
-    table: &[u32; MAX_EVENTS],
-    common: usize,
-    counts: &mut [u32; MAX_MARKS],
-    waits: &mut [u64; MARK_WORDS],
-    written: &mut [u64; RULE_WORDS],
-    free: &mut [u32; MAX_CONDITIONS],
+    sizes: &Sizes,
+    scratch: &mut Scratch,
     index: &[u8],
     at: usize,
 ) -> bool
-    requires { IndexReady image.now head table.now common × Fits index.now at (flat head.stages (order_bytes (book_of image.now))) }
+    requires { IndexReady image.now head sizes.now.stages sizes.now.common × Fits index.now at (flat head.stages (order_bytes (book_of image.now))) }
     ensures { result ≡ stands_at index.now at (flat head.stages (order_bytes (book_of image.now))) }
 {
     let rules = head.rules as usize;
-    let stages = head.stages as usize;
-    let rising = ascends(image, head, counts, free);
+    let rising = ascends(image, head, scratch);
     let mut next = at;
-    for stage in 0..stages {
-        let counted = order_size(table, common, stage);
-        if !stage_same(
-            image,
-            rules,
-            stage as u32,
-            counted,
-            rising,
-            counts,
-            waits,
-            written,
-            free,
-            index,
-            next,
-        ) {
+    for stage in 0..head.stages {
+        let counted = sizes.order_size(stage as usize);
+        if !stage_same(image, rules, stage, counted, rising, scratch, index, next) {
             return false;
         }
         next += INDEX_RULE * counted;
@@ -173,29 +141,23 @@ fn orders_same(
 pub fn index_same(
     image: &[u8],
     head: Counts,
-    table: &[u32; MAX_EVENTS],
-    common: usize,
-    counts: &mut [u32; MAX_MARKS],
-    waits: &mut [u64; MARK_WORDS],
-    written: &mut [u64; RULE_WORDS],
-    free: &mut [u32; MAX_CONDITIONS],
+    sizes: &Sizes,
+    scratch: &mut Scratch,
     index: &[u8],
 ) -> bool
-    requires { IndexReady image.now head table.now common }
+    requires { IndexReady image.now head sizes.now.stages sizes.now.common }
     ensures { result ≡ same_bytes index.now (index_image (book_of image.now)) }
 {
     let stages = head.stages as usize;
-    if index.len() != index_size(stages, common, table) {
+    if index.len() != sizes.index_size(stages) {
         return false;
     }
     if !pair_same(index, 0, head.stages, head.rules) {
         return false;
     }
-    if !entries_same(stages, common, table, index, INDEX_HEADER) {
+    if !entries_same(sizes, stages, index, INDEX_HEADER) {
         return false;
     }
     let at = INDEX_HEADER + INDEX_STAGE * stages;
-    orders_same(
-        image, head, table, common, counts, waits, written, free, index, at,
-    )
+    orders_same(image, head, sizes, scratch, index, at)
 }

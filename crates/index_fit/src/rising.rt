@@ -37,7 +37,7 @@ pub fn entries_rise(
     ensures { result ≡ rises (rules_of image.now stage) 0 (entries_at index.now at counted) }
 {
     let mut next = at;
-    let mut from: usize = 0;
+    let mut from = 0;
     for j in 0..counted {
         let r = wire::u32_at(index, next) as usize;
         if !entry_rises(image, rules, stage, from, r) {
