@@ -40,11 +40,7 @@ fn round_at(from: usize, marks: usize) -> usize
     requires { from < marks }
     ensures { result ≡ min (marks - from) clash_round }
 {
-    if marks - from < ROUND {
-        marks - from
-    } else {
-        ROUND
-    }
+    (marks - from).min(ROUND)
 }
 
 // Rule pairs from rule `low` on, until one clashes. `low` is known to clash with some rule, so that the inner loop runs once.
@@ -52,22 +48,22 @@ fn search(image: &[u8], rules: usize, low: usize) -> Pair
     requires { (WellFormed image.now) × (rules ≡ rules_in image.now) × (Found (book_of image.now) (marks_in image.now) low) }
     ensures { (result.first ≡ clash_first (book_of image.now)) × (result.second ≡ clash_second (book_of image.now) result.first) }
 {
-    let mut p = low;
-    let mut q = rules;
-    'search: while p < rules {
-        q = p + 1;
-        while q < rules {
+    let mut pair = Pair {
+        first: rules,
+        second: rules,
+    };
+    'search: for p in low..rules {
+        for q in p + 1..rules {
             if clash(image, p, q) {
+                pair = Pair {
+                    first: p,
+                    second: q,
+                };
                 break 'search;
             }
-            q += 1;
         }
-        p += 1;
     }
-    Pair {
-        first: p,
-        second: q,
-    }
+    pair
 }
 
 // The lowest rule that clashes with some rule, or the number of rules, round after round.
@@ -76,13 +72,11 @@ fn lowest_of_all(image: &[u8], rules: usize, marks: usize, work: &mut [u64]) -> 
     ensures { (Found (book_of image.now) (marks_in image.now) result) × (length work.new ≡ length work.old) }
 {
     let mut low = rules;
-    let mut from = 0usize;
-    while from < marks {
+    for from in (0..marks).step_by(ROUND) {
         let n = round_at(from, marks);
         closure::clear(work, ROUND_WORDS * n);
         sum_up(image, rules, from, n, work);
         low = lowest(image, rules, from, n, low, work);
-        from += n;
     }
     low
 }

@@ -1,5 +1,5 @@
 -- What the passes over the rules and the marks keep, and the search for the pair. Assumes nothing.
-use mathlib.Core.Path.{◌≡◌, refl, sym, ap, ◌∙◌}
+use mathlib.Core.Path.{◌≡◌, sym, ap, ◌∙◌}
 use mathlib.Core.Bool.{Bool, true, false, ◌&&◌, and-false}
 use mathlib.Core.List.{List, ◌++◌}
 use Prim.Native.Nat.{ℕ, ◌+◌, ◌*◌, ◌≤◌, ◌<◌}
@@ -8,10 +8,13 @@ use native.Mathlib.Omega.{arith}
 use lib.Dec.{eqb, ltb}
 use lib.ListN.{length, get_or, set, drop, length-set, length-replicate, replicate}
 use lib.Seq.{get_or-set_same, get_or-set_other}
+use borrow.Author.Count.{below_more}
+use native.Mathlib.Nat.{le_antisymm}
+use Rattle.book.specs.declared.Rule.{Rule}
 use borrow.Author.Tests.{eqb-true, eqb-false, eq-eqb, ne_eqb, ltb-true, ltb-false}
 use Rattle.general.specs.Cases.{contra, cases, both, or_left, or_right, not_so, lt-suc}
 use Rattle.general.specs.Tables.{zeros-at, length-tabulate, tabulate-same}
-use Rattle.general.specs.Below.{some_of, first, first-is, first_found, first-none}
+use Rattle.general.specs.Below.{some, some_of, some_at, first, first-is, first_found, first-none}
 use Rattle.sets.specs.Set.{has, union}
 use Rattle.sets.specs.Laws.{has-union}
 use Rattle.wide.specs.Words.{joined, words_same}
@@ -19,11 +22,22 @@ use Rattle.wide.specs.Number.{number, row_of, rows_in, put_row, row_at, rows-put
 use Rattle.wide.specs.declared.Set.{Set}
 use Rattle.closure.specs.Cleared.{length-clear, clear_at}
 use Rattle.book.specs.Book.{Book, rule_of}
-use Rattle.clashes.specs.Clash.{clash}
+use Rattle.clashes.specs.Clash.{clash, clashes-so, Apart, stages, written, negated}
 use Rattle.clashes.specs.Pairs.{clashing, clash_first, clash_second, clashing-of, clashing-low, alone-some}
 use Rattle.senses.specs.Senses.{does, turn, stages_at, slot, slots, code_of, with_sense, Senses}
 use Rattle.clashes.specs.Groups.{round_words, senses_at, Added, Summed, ByStage, clashes_any, Found}
 use Rattle.clashes.proofs.Senses.{senses-none, senses-past, senses-more}
+
+-- of two rules that clash the second clashes with the first
+clash-turned : (p q : Rule) → clash p q ≡ true → clash q p ≡ true
+clash-turned p q c =
+    let k = (clashes-so p q).0 c in
+    (clashes-so q p).1 (record { mark = sym k.mark; effects = λ e. k.effects (sym e); close = λ a. k.close (turned a) })
+  where
+    turned : Apart q p → Apart p q
+    turned (stages c d e f n) = stages d c f e (λ z. n (sym z))
+    turned (written c e f) = negated c f e
+    turned (negated c e f) = written c f e
 
 -- tables with the same words of n rows have the same rows
 rows_same : (n : ℕ) (t u : List ℕ) → ((k : ℕ) → k < n * 4 → get_or u k 0 ≡ get_or t k 0) → rows_in n u ≡ rows_in n t
@@ -143,13 +157,7 @@ module _ (b : Book) where
   pub record Scanned (m p : ℕ) : Type 0 where
     pub none : (x : ℕ) → x < p → (eqb (rule_of b x).target m && clashes_any b x) ≡ false
 
-  pub scan-start : (m : ℕ) → Scanned m 0
-  scan-start m = record { none = λ x h. absurd (omega arith) }
-
   module _ (m p : ℕ) (g : Scanned m p) where
-    pub scan-on : (r : Bool) → r ≡ (eqb (rule_of b p).target m && clashes_any b p) → r ≡ false → Scanned m (p + 1)
-    scan-on r e f = record { none = λ x h. lt-suc (rw add-one at h) (λ z. rw z (sym e ∙ f)) (g.none x) }
-
     pub scan-found : (low : ℕ) (r : Bool) → r ≡ (eqb (rule_of b p).target m && clashes_any b p) → r ≡ true → p < low → p ≡ first low (λ p. eqb (rule_of b p).target m && clashes_any b p)
     scan-found low r e f h = first_found low (λ p. eqb (rule_of b p).target m && clashes_any b p) p h g.none (sym e ∙ f)
 
@@ -181,84 +189,50 @@ module _ (b : Book) where
             (λ z. not_so (λ c. contra (rw (c, eq-eqb (rule_of b p).target m z)) (i.lowest p h))) (λ l. g.none p (omega arith) l);
       })
 
-  -- ---- the search for the pair
+  -- ---- the pair
 
-  -- rules below p clash with no later one
-  pub record Searched (rules p q : ℕ) : Type 0 where
-    pub count : rules ≡ length b.rules
-    pub fits : p ≤ rules
-    pub none : (x y : ℕ) → x < p → y < rules → clashing b x y ≡ false
-    pub rest : q ≡ rules
-
-  -- p clashes with no rule below q
-  pub record Seeking (rules p q : ℕ) : Type 0 where
-    pub count : rules ≡ length b.rules
-    pub fits : q ≤ rules
-    pub later : p < q
-    pub none : (y : ℕ) → y < q → clashing b p y ≡ false
-
-  pub search-start : (marks rules low : ℕ) → Found b marks low → ((p : ℕ) → p < length b.rules → (rule_of b p).target < marks) → rules ≡ length b.rules → Searched rules low rules
+  -- no rule below it clashes
+  none-below : (marks low : ℕ) → Found b marks low → ((p : ℕ) → p < length b.rules → (rule_of b p).target < marks) → (x : ℕ) → x < low → some (length b.rules) (clashing b x) ≡ false
   unfolding clashes_any
-  search-start marks rules low g known e =
+  none-below marks low g known x h =
       let f = g.fits in
-      record {
-        count = e;
-        fits = omega arith;
-        none = λ x y h l. cases (ltb x y)
-            (λ t. clashing-of b x y (ltb-true x y t) ∙ not_so (λ c. contra (some_of (length b.rules) (λ q. clash (rule_of b x) (rule_of b q)) y (omega arith) c)
-            (g.none x h (known x (omega arith)))))
-            (λ t. clashing-low b x y (ltb-false x y t));
-        rest = refl;
-      }
+      alone-some b x (λ y l. cases (ltb x y)
+      (λ t. clashing-of b x y (ltb-true x y t) ∙ not_so (λ c. contra (some_of (length b.rules) (λ q. clash (rule_of b x) (rule_of b q)) y l c) (g.none x h (known x (omega arith)))))
+      (λ t. clashing-low b x y (ltb-false x y t)))
 
-  module _ (rules p : ℕ) where
-    pub seek-start : (q₀ : ℕ) → Searched rules p q₀ → p < rules → Seeking rules p (p + 1)
-    seek-start q₀ g h = record { count = g.count; fits = omega arith; later = omega arith; none = λ y l. clashing-low b p y (omega arith) }
+  -- a rule that clashes with the lowest of all stands behind it
+  some-behind : (marks low : ℕ) → Found b marks low → ((p : ℕ) → p < length b.rules → (rule_of b p).target < marks) → low < length b.rules → some (length b.rules) (clashing b low) ≡ true
+  unfolding clashes_any
+  some-behind marks low g known h =
+      let (q, l, c) = some_at (length b.rules) (λ q. clash (rule_of b low) (rule_of b q)) (g.clashes h) in
+      let back : clash (rule_of b q) (rule_of b low) ≡ true = clash-turned (rule_of b low) (rule_of b q) c in
+      cases (ltb low q) (λ t. some_of (length b.rules) (clashing b low) q l (clashing-of b low q (ltb-true low q t) ∙ c))
+      (λ t. cases (ltb q low)
+      (λ u. contra (some_of (length b.rules) (λ p. clash (rule_of b q) (rule_of b p)) low h back) (g.none q (ltb-true q low u) (known q l)))
+      (λ u. let e : q ≡ low = le_antisymm (ltb-false low q t) (ltb-false q low u) in
+      absurd (((clashes-so (rule_of b low) (rule_of b q)).0 c).effects (ap (λ p. (rule_of b p).effect) (sym e)))))
 
-    module _ (q : ℕ) where
-      -- the pair at hand does not clash: on to the next
-      pub seek-on : (r : Bool) → Seeking rules p q → q < rules → r ≡ clash (rule_of b p) (rule_of b q) → r ≡ false → Seeking rules p (q + 1)
-      seek-on r g h e f =
-          let l = g.later in
-          record {
-            count = g.count;
-            fits = omega arith;
-            later = omega arith;
-            none = λ y i. lt-suc (rw add-one at i) (λ z. rw z (clashing-of b p q l ∙ sym e ∙ f)) (g.none y);
-          }
+  -- the lowest rule that clashes with any begins the pair
+  pub found-first : (marks low : ℕ) → Found b marks low → ((p : ℕ) → p < length b.rules → (rule_of b p).target < marks) → low ≡ clash_first b
+  unfolding clash_first
+  found-first marks low g known =
+      let f = g.fits in
+      cases (ltb low (length b.rules))
+      (λ t. let h = ltb-true low (length b.rules) t in first_found (length b.rules) (λ p. some (length b.rules) (clashing b p)) low h (none-below marks low g known) (some-behind marks low g known h))
+      (λ t. let e : low ≡ length b.rules = le_antisymm f (ltb-false low (length b.rules) t) in
+      e ∙ first-none (length b.rules) (λ p. some (length b.rules) (clashing b p)) (λ p l. none-below marks low g known p (rw e l)))
 
-      -- the pair at hand clashes: it is the lowest
-      pub seek_found : (q₀ : ℕ) (r : Bool) → Searched rules p q₀ → Seeking rules p q → q < rules → r ≡ clash (rule_of b p) (rule_of b q) → r ≡ true
-          → (p ≡ clash_first b) × (q ≡ clash_second b p)
-      unfolding clash_first clash_second
-      seek_found q₀ r g h i e f =
-          let c = g.count in
-          let l = h.later in
-          let t : clashing b p q ≡ true = clashing-of b p q l ∙ sym e ∙ f in (
-            first_found (length b.rules) _ p (omega arith) (λ x a. alone-some b x (λ y m. g.none x y a (omega arith))) (some_of (length b.rules) (clashing b p) q (omega arith) t),
-            first_found (length b.rules) (clashing b p) q (omega arith) h.none t,
-          )
+  -- ---- its second rule: of those below q none clashes with p behind it
 
-      -- no pair of p clashes
-      pub seek-end : (q₀ : ℕ) → Searched rules p q₀ → p < rules → Seeking rules p q → rules ≤ q → Searched rules (p + 1) q
-      seek-end q₀ g l h i =
-          let f = h.fits in
-          let z : q ≡ rules = omega arith in
-          record {
-            count = g.count;
-            fits = omega arith;
-            none = λ x y a m. lt-suc (rw add-one at a) (λ e. rw e (h.none y (rw z m))) (λ a. g.none x y a m);
-            rest = z;
-          }
+  pub second-more : (p q : ℕ) → p < q → ((y : ℕ) → y < q → clashing b p y ≡ false) → (r : Bool) → r ≡ clash (rule_of b p) (rule_of b q) → r ≡ false
+      → (y : ℕ) → y < q + 1 → clashing b p y ≡ false
+  second-more p q h g r e f = below_more (λ y. clashing b p y ≡ false) q g (clashing-of b p q h ∙ sym e ∙ f)
 
-      pub search-end : Searched rules p q → rules ≤ p → (p ≡ clash_first b) × (q ≡ clash_second b p)
-      unfolding clash_first clash_second
-      search-end g h =
-          let c = g.count in
-          let f = g.fits in
-          let z = g.rest in
-          let e : p ≡ length b.rules = omega arith in
-          let d : q ≡ length b.rules = omega arith in (
-            e ∙ first-none (length b.rules) _ (λ x l. alone-some b x (λ y m. g.none x y (omega arith) (omega arith))),
-            d ∙ first-none (length b.rules) (clashing b p) (λ y m. clashing-low b p y (omega arith)),
-          )
+  pub second_found : (p q rules : ℕ) → rules ≡ length b.rules → p < q → q < rules → ((y : ℕ) → y < q → clashing b p y ≡ false) → (r : Bool) → r ≡ clash (rule_of b p) (rule_of b q) → r ≡ true
+      → q ≡ clash_second b p
+  unfolding clash_second
+  second_found p q rules e h l g r i f = first_found (length b.rules) (clashing b p) q (rw (← e) l) g (clashing-of b p q h ∙ sym i ∙ f)
+
+  pub second-none : (p rules : ℕ) → rules ≡ length b.rules → ((y : ℕ) → y < rules → clashing b p y ≡ false) → rules ≡ clash_second b p
+  unfolding clash_second
+  second-none p rules e g = e ∙ first-none (length b.rules) (clashing b p) (λ y l. g y (rw e l))

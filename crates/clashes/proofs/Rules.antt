@@ -3,16 +3,13 @@ use mathlib.Core.Path.{◌≡◌, sym, subst, ◌∙◌}
 use mathlib.Core.Bool.{Bool, true, false, not, ◌&&◌, ◌||◌}
 use mathlib.Core.List.{List, ◌++◌}
 use Prim.Native.Nat.{ℕ, ◌+◌, ◌-◌, ◌*◌, ◌≤◌, ◌<◌}
-use native.Mathlib.Nat.{le_antisymm, add-zero}
+use native.Mathlib.Nat.{le_antisymm}
 use native.Mathlib.Omega.{arith}
 use lib.Dec.{eqb}
 use lib.ListN.{length, get_or, set, drop, replicate}
-use borrow.Author.Tests.{eq-eqb, ne_eqb, not-false}
+use borrow.Author.Tests.{not-false}
 use Rattle.paper.specs.Limits.{max_events}
 use Rattle.general.specs.Below.{first}
-use Rattle.sets.specs.Set.{inter}
-use Rattle.wide.specs.Number.{number, row_of}
-use Rattle.wide.specs.declared.Set.{Set}
 use Rattle.book.specs.Book.{rule_of}
 use Rattle.book.specs.Image.{rules_in, marks_in, book_of}
 use Rattle.book.specs.Read.{rules-count}
@@ -20,9 +17,10 @@ use Rattle.book.specs.WellFormed.{WellFormed}
 use Rattle.book.specs.WellRead.{rule-exists}
 use Rattle.senses.specs.Senses.{side, does, turn, stages_at, slots, code_of, twin, with_sense, meets, Senses}
 use Rattle.clashes.specs.Groups.{round_words, senses_at, Added, Summed, Sides, ByStage, calm, clashes_any, Found}
+use Rattle.clashes.specs.Pairs.{clash_first}
 use Rattle.senses.proofs.Bytes.{trigger-known}
 use Rattle.clashes.proofs.Groups.{Known, any-late, any-early, calm-any, sides-of}
-use Rattle.clashes.proofs.Passes.{Searched, summed-start, summed-past, summed-more, by-start, by-past, by-more, found-start, found-calm, found-more, search-start}
+use Rattle.clashes.proofs.Passes.{summed-start, summed-past, summed-more, by-start, by-past, by-more, found-start, found-calm, found-more, found-first}
 
 side-small : (n : ℕ) (d : Bool) → side n d < 2 * n + 2
 unfolding side
@@ -39,11 +37,6 @@ side-from : (from m : ℕ) (d : Bool) → from ≤ m → side m d ≡ 2 * from +
 unfolding side
 side-from from m true h = omega arith
 side-from from m false h = omega arith
-
--- a mark's words, as the code looks at them
-pub calm-told : (n i : ℕ) (work : List ℕ) (x y z : Set) → number x ≡ row_of work (2 * i) → number y ≡ row_of work (2 * i + 1) → number z ≡ inter (number x) (number y)
-    → (e : Bool) → e ≡ eqb (number z) 0 → (t : ℕ) → t ≡ twin (get_or work (senses_at n (2 * i)) 0) → (e || eqb t (get_or work (senses_at n (2 * i) + 1) 0)) ≡ calm n work i
-calm-told n i work x y z p q o e f t g = rw (f, o, p, q, g)
 
 module _ (s : List ℕ) (w : WellFormed s) where
   known : (y : ℕ) → y < length (book_of s).rules → Known (rule_of (book_of s) y).trigger
@@ -77,18 +70,6 @@ module _ (s : List ℕ) (w : WellFormed s) where
         (rw (← rules-count s) at (g.senses _ (rw o at n))) (rw (← rules-count s) at (g.senses _ (rw o' at n'))))
 
 module _ (s : List ℕ) where
-  pub not_in : (p t m : ℕ) → t ≡ (rule_of (book_of s) p).target → (t ≡ m → ⊥) → false ≡ (eqb (rule_of (book_of s) p).target m && clashes_any (book_of s) p)
-  not_in p t m e n = rw (← e, ne_eqb t m n)
-
-  pub is-in : (p t m : ℕ) (r : Bool) → t ≡ (rule_of (book_of s) p).target → t ≡ m → r ≡ clashes_any (book_of s) p → r ≡ (eqb (rule_of (book_of s) p).target m && clashes_any (book_of s) p)
-  is-in p t m r e f g = g ∙ rw (eq-eqb (rule_of (book_of s) p).target m (sym e ∙ f))
-
-  pub sides-target : (p t m k x y : ℕ) → t ≡ (rule_of (book_of s) p).target → t ≡ m → Sides (book_of s) m k x y → Sides (book_of s) (rule_of (book_of s) p).target k x y
-  sides-target p t m k x y e f g = rw (← e, f) g
-
-  pub by-target : (p t m k : ℕ) (by : List ℕ) → t ≡ (rule_of (book_of s) p).target → t ≡ m → ByStage (book_of s) m k by → ByStage (book_of s) (rule_of (book_of s) p).target k by
-  by-target p t m k by e f g = rw (← e, f) g
-
   -- ---- one turn of each pass
 
   module _ (r : ℕ) (m : ℕ) (d : Bool) (t g : ℕ) (e : m ≡ (rule_of (book_of s) r).target) (f : d ≡ (rule_of (book_of s) r).effect) (h : t ≡ turn (rule_of (book_of s) r).trigger)
@@ -113,32 +94,17 @@ module _ (s : List ℕ) where
     pub sum-behind : from ≤ m → n ≤ m - from → Summed (book_of s) from n (r + 1) work
     sum-behind h j = summed-past (book_of s) from n r work g (λ d l x. absurd (omega (arith, rw (← e) at x, side-large m (rule_of (book_of s) r).effect)))
 
-  pub sum-end : (from n rules r : ℕ) (work : List ℕ) → r ≤ rules → rules ≤ r → Summed (book_of s) from n r work → Summed (book_of s) from n rules work
-  sum-end from n rules r work h l g = subst (λ (k : ℕ). Summed (book_of s) from n k work) (le_antisymm h l) g
-
   pub stage-start : (m : ℕ) (by : List ℕ) → by ≡ replicate slots 0 → ByStage (book_of s) m 0 by
   stage-start m by e = rw e (by-start (book_of s) m)
-
-  pub stage-end : (m rules r : ℕ) (by : List ℕ) → r ≤ rules → rules ≤ r → ByStage (book_of s) m r by → ByStage (book_of s) m rules by
-  stage-end m rules r by h l g = subst (λ (k : ℕ). ByStage (book_of s) m k by) (le_antisymm h l) g
 
   pub stage-past : (m r t : ℕ) (by : List ℕ) → ByStage (book_of s) m r by → t ≡ (rule_of (book_of s) r).target → (t ≡ m → ⊥)
       → (out : List ℕ) → out ≡ by → ByStage (book_of s) m (r + 1) out
   stage-past m r t by g e n out j = rw j (by-past (book_of s) m r by g t e n)
 
-  pub search-begin : WellFormed s → (rules low : ℕ) → rules ≡ rules_in s → Found (book_of s) (marks_in s) low → Searched (book_of s) rules low rules
-  search-begin w rules low e g = search-start (book_of s) (marks_in s) rules low g (λ p h. (rule-exists s w p (rw (rules-count s) at h)).target) (e ∙ sym (rules-count s))
-
-  pub sides_all : (m rules x y : ℕ) → rules ≡ rules_in s → Sides (book_of s) m rules x y → Sides (book_of s) m (rules_in s) x y
-  sides_all m rules x y e g = subst (λ (k : ℕ). Sides (book_of s) m k x y) e g
-
-  pub stage-all : (m rules : ℕ) (by : List ℕ) → rules ≡ rules_in s → ByStage (book_of s) m rules by → ByStage (book_of s) m (rules_in s) by
-  stage-all m rules by e g = subst (λ (k : ℕ). ByStage (book_of s) m k by) e g
+  pub begins : WellFormed s → (low : ℕ) → Found (book_of s) (marks_in s) low → low ≡ clash_first (book_of s)
+  begins w low g = found-first (book_of s) (marks_in s) low g (λ p h. (rule-exists s w p (rw (rules-count s) at h)).target)
 
   -- ---- mark by mark
-
-  pub mark-start : (from low : ℕ) → Found (book_of s) from low → (out : ℕ) → out ≡ low → Found (book_of s) (from + 0) out
-  mark-start from low g out e = rw (add-zero from, e) g
 
   next-mark : (from i low : ℕ) → Found (book_of s) (from + i + 1) low → Found (book_of s) (from + (i + 1)) low
   next-mark from i low g = let z : from + i + 1 ≡ from + (i + 1) = omega arith in subst (λ (k : ℕ). Found (book_of s) k low) z g
@@ -161,9 +127,6 @@ module _ (s : List ℕ) where
   pub mark-more : (from i low r : ℕ) → Found (book_of s) (from + i) low → r ≡ first low (λ p. eqb (rule_of (book_of s) p).target (from + i) && clashes_any (book_of s) p)
       → (out : ℕ) → out ≡ r → Found (book_of s) (from + (i + 1)) out
   mark-more from i low r g f out o = rw o (next-mark from i r (found-more (book_of s) (from + i) low r g f))
-
-  pub mark-end : (from i n low : ℕ) → i ≤ n → n ≤ i → Found (book_of s) (from + i) low → Found (book_of s) (from + n) low
-  mark-end from i n low h l g = subst (λ (k : ℕ). Found (book_of s) (from + k) low) (le_antisymm h l) g
 
   -- ---- round by round
 

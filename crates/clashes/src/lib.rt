@@ -50,10 +50,7 @@ fn sum_rule(image: &[u8], r: usize, from: usize, n: usize, work: &mut [u64])
     ensures { (Summed (book_of image.now) from n (r + 1) work.new) × (length work.new ≡ length work.old) }
 {
     let target = target_of(image, r);
-    if target < from {
-        return;
-    }
-    if n <= target - from {
+    if target < from || n <= target - from {
         return;
     }
     let d = side(target - from, sets_it(image, r));
@@ -76,7 +73,7 @@ fn calm(work: &[u64], n: usize, i: usize) -> bool
 {
     let shared = wide::meet(wide::row_in(work, 2 * i), wide::row_in(work, 2 * i + 1));
     let at = STAGE_WORDS * n + 2 * i;
-    wide::is_empty(shared) | (twin(work[at]) == work[at + 1])
+    wide::is_empty(shared) || twin(work[at]) == work[at + 1]
 }
 
 // ---- the second pass: for one mark, the senses of each stage and effect
@@ -104,12 +101,12 @@ fn clashes_any(image: &[u8], p: usize, by: &[u64; SLOTS], clearing: u64, setting
     if turn < MAX_EVENTS {
         let own = by[side(turn, undone)];
         let other = by[side(MAX_EVENTS, undone)];
-        return meets(own, apart) | meets(other, apart);
+        meets(own, apart) | meets(other, apart)
+    } else if undone {
+        meets(setting, apart)
+    } else {
+        meets(clearing, apart)
     }
-    if undone {
-        return meets(setting, apart);
-    }
-    meets(clearing, apart)
 }
 
 fn clashes_in(
@@ -123,10 +120,7 @@ fn clashes_in(
     requires { (WellFormed image.now) × (p < rules_in image.now) × (SidesIn image.now m clearing setting) × (ByStageIn image.now m by.now) }
     ensures { result ≡ (eqb (rule_of (book_of image.now) p).target m && clashes_any (book_of image.now) p) }
 {
-    if target_of(image, p) != m {
-        return false;
-    }
-    clashes_any(image, p, by, clearing, setting)
+    target_of(image, p) == m && clashes_any(image, p, by, clearing, setting)
 }
 
 // The lowest rule below `low` that targets mark m and clashes with some rule, or `low`.

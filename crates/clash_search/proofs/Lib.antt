@@ -1,0 +1,2 @@
+-- The root of the crate's shared laws for proofs.
+pub mod Searching
