@@ -14,7 +14,8 @@ use Rattle.order_theory.proofs.Running.{running-fit}
 use Rattle.book.specs.Book.{Book, rule_of}
 use Rattle.book.specs.Image.{stages_in, marks_in, book_of}
 use Rattle.book.specs.Read.{rules-count}
-use Rattle.book.specs.Judging.{image_answer}
+use Rattle.book.specs.Judging.{counts_of, image_answer}
+use Rattle.book.specs.declared.Counts.{Counts}
 use Rattle.book.specs.WellFormed.{WellFormed, Judged, judged-is, well-granted}
 use Rattle.book.specs.WellRead.{rule-exists}
 use Rattle.rule_order.specs.Rules.{net_of}
@@ -68,6 +69,11 @@ pub record BookPasses (s : List ℕ) : Type 0 where
   pub formed : WellFormed s
   pub acyclic : Acyclic (book_of s)
   pub calm : NoClash (book_of s)
+
+-- the book passes, and these are its counts
+pub record PassesWith (s : List ℕ) (h : Counts) : Type 0 where
+  pub passes : BookPasses s
+  pub counts : h ≡ counts_of s
 
 pub data Checked (s : List ℕ) (stage room : ℕ) : Answer → Type 0 where
   refused : (a : Answer) → Judged s a → (a.code ≡ 0 → ⊥) → Checked s stage room a

@@ -1,9 +1,11 @@
 -- The image's head, judged for 20 to 22, and what stands when the rest is judged. Assumes nothing.
-use Rattle.std.specs.Prelude.{◌≡◌, not, cond, List, ℕ, eqb, ltb, length}
+use Rattle.std.specs.Prelude.{◌≡◌, not, cond, List, ℕ, eqb, ltb, length, Result, Ok, Err}
 use Rattle.std.proofs.Common.{sym, ◌∙◌, arith, ltb-false, le-ltb, ne_eqb}
 use Rattle.paper.specs.Limits.{book_header, book_short, book_count, book_length}
 use Rattle.paper.specs.Answers.{granted, refusal}
 use Rattle.paper.specs.declared.Answer.{Answer}
+use Rattle.paper.specs.declared.Refusal.{Refusal}
+use Rattle.paper.specs.Refusals.{answer_of}
 use Rattle.general.specs.Cases.{cases}
 use Rattle.book.specs.Judging.{counts_of, counts_fit, layout_fits, body_answer, image_answer}
 use Rattle.book.specs.WellFormed.{Headed, counts-says, says-counts, layout-says, says-layout}
@@ -43,3 +45,8 @@ passed-body s g = head-body s ∙ rw (le-ltb (length s) book_header g.long, says
 pub record Begun (s : List ℕ) (h : Counts) : Type 0 where
   pub headed : Headed s
   pub counts : h ≡ counts_of s
+
+-- granted, whatever is handed on with that, or the answer of what is refused
+abbrev pub told : {A : Type 0} → Result A Refusal → Answer
+told (Ok _) = granted
+told (Err r) = answer_of r

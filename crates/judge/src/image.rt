@@ -1,37 +1,45 @@
 // The whole image, judged for 20 to 24: its head, and behind a head that passes its records and texts.
-ghost use Rattle.std.specs.Prelude.{◌≡◌};
+ghost use Rattle.std.specs.Prelude.{◌≡◌, IfOk, OnOk};
+ghost use Rattle.paper.specs.Refusals.{answered};
 ghost use Rattle.book.specs.Judging.{image_answer};
 ghost use Rattle.texts.specs.Noted.{NamedIn};
-ghost use Rattle.judge.specs.Head.{head_answer, Begun};
+ghost use Rattle.judge.specs.Head.{head_answer, told, Begun};
 
 use book::Counts;
 use book::header::{counts_at, counts_fit, layout_fits};
 use book::rules::first_bad_rule;
-use paper::{Answer, BAD_CONDITION, BAD_RULE, BOOK_COUNT, BOOK_HEADER, BOOK_LENGTH, BOOK_SHORT};
+use paper::{BOOK_HEADER, Refusal};
 use texts::first_bad_condition;
 use texts::references::MARK_WORDS;
 
-// 20 to 22.
-pub fn judge_head(image: &[u8]) -> Answer
-    ensures { result ≡ head_answer image.now }
+// 20 to 22, or the counts that the head gives.
+#[tactic(auto, unfolding(crate::specs::Head::head_answer))]
+pub fn judge_head(image: &[u8]) -> Result<Counts, Refusal>
+    ensures answer { told result ≡ head_answer image.now }
+    ensures begun { IfOk result (λ counts. Begun image.now counts) }
 {
     if image.len() < BOOK_HEADER {
-        return paper::refused(BOOK_SHORT, 0, 0);
+        return Err(Refusal::BookShort);
     }
-    let h = counts_at(image);
-    if !counts_fit(h) {
-        return paper::refused(BOOK_COUNT, 0, 0);
+    let counts = counts_at(image);
+    if !counts_fit(counts) {
+        return Err(Refusal::BookCount);
     }
-    if !layout_fits(image, h) {
-        return paper::refused(BOOK_LENGTH, 0, 0);
+    if !layout_fits(image, counts) {
+        return Err(Refusal::BookLength);
     }
-    paper::granted()
+    Ok(counts)
 }
 
-// 23 and 24. Where it gives 0 the image is a book, and the set has the marks that its texts name.
-pub fn judge_body(image: &[u8], counts: Counts, named: &mut [u64; MARK_WORDS]) -> Answer
+// 23 and 24, behind a head that passed. Where it refuses nothing the image is a book, and the set has the marks that its texts name.
+pub fn judge_body(
+    image: &[u8],
+    counts: Counts,
+    named: &mut [u64; MARK_WORDS],
+) -> Result<(), Refusal>
     requires { Begun image.now counts }
-    ensures { (result ≡ image_answer image.now) × (result.code ≡ 0 → NamedIn image.now named.new) }
+    ensures answer { answered result ≡ image_answer image.now }
+    ensures named { OnOk result (NamedIn image.now named.new) }
 {
     let r = first_bad_rule(
         image,
@@ -41,7 +49,7 @@ pub fn judge_body(image: &[u8], counts: Counts, named: &mut [u64; MARK_WORDS]) -
         counts.conditions,
     );
     if r < counts.rules {
-        return paper::refused(BAD_RULE, r, 0);
+        return Err(Refusal::BadRule(r));
     }
     let c = first_bad_condition(
         image,
@@ -52,7 +60,7 @@ pub fn judge_body(image: &[u8], counts: Counts, named: &mut [u64; MARK_WORDS]) -
         named,
     );
     if c < counts.conditions {
-        return paper::refused(BAD_CONDITION, c, 0);
+        return Err(Refusal::BadCondition(c));
     }
-    paper::granted()
+    Ok(())
 }

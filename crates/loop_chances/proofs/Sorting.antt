@@ -144,9 +144,6 @@ pub record Apart (drawn waited named : List ℕ) (k : ℕ) : Type 0 where
   pub none : (j : ℕ) → j < k → meet_word (get_or drawn j 0) (get_or waited j 0) (get_or named j 0) ≡ false
 
 module _ (drawn waited named : List ℕ) where
-  pub apart-first : Apart drawn waited named 0
-  apart-first = record { none = λ j l. absurd (omega arith) }
-
   module _ (k : ℕ) (g : Apart drawn waited named k) (b : Bool) (e : b ≡ meet_word (get_or drawn k 0) (get_or waited k 0) (get_or named k 0)) where
     pub apart-not : k < mark_words → b ≡ true → true ≡ meeting drawn waited named
     unfolding meeting

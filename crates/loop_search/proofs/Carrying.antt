@@ -8,8 +8,8 @@ use native.Mathlib.Omega.{arith}
 use lib.Dec.{eqb, leb, ltb}
 use lib.ListN.{length, get_or, set, length-set, replicate, length-replicate}
 use lib.Seq.{get_or-set_same, get_or-set_other}
-use borrow.Author.Tests.{eqb-true, eqb-false, eq-eqb, ne_eqb, leb-true, le-leb, lt-leb, lt-ltb, le-ltb, ltb-true, not-true}
-use Rattle.paper.specs.Limits.{max_marks, max_conditions}
+use borrow.Author.Tests.{eqb-true, eqb-false, eq-eqb, ne_eqb, leb-true, lt-ltb, le-ltb, not-true}
+use Rattle.paper.specs.Limits.{max_marks}
 use Rattle.general.specs.Cases.{contra, cases, both, either, or_left, or_right, not_so, lt-suc}
 use Rattle.general.specs.Below.{tally}
 use Rattle.general.specs.Scan.{ltb-more}
@@ -23,7 +23,7 @@ use Rattle.book.specs.Image.{rules_in, rule_place, book_of, kind_at, sense_at, n
 use Rattle.book.specs.Marks.{word_bits, has_mark}
 use Rattle.book.specs.WellFormed.{WellFormed}
 use Rattle.rule_order.specs.References.{asked_in, refers-bytes}
-use Rattle.loop_search.specs.Spreading.{reaches, Sources, Begun, AskedAll, from_trigger, from_condition, carried, target_of, Carried, missing}
+use Rattle.loop_search.specs.Spreading.{reaches, Begun, AskedAll, from_trigger, from_condition, carried, target_of, Carried, missing}
 
 -- ---- the sources at the start: the first i are reached from themselves
 
@@ -58,34 +58,7 @@ module _ (base : ℕ) (reached : List ℕ) (i : ℕ) (g : Beginning base reached
   pub beginning-last : word_bits ≤ i → Begun base reached
   beginning-last l = let w = g.within in let z : i ≡ word_bits = omega arith in record { room = g.room; each = λ x d. rw (← z) (g.each x d) }
 
-pub begun-sources : (base : ℕ) (reached : List ℕ) → Begun base reached → Sources reached
-begun-sources base reached g =
-    record { room = g.room; low = λ x i t. ltb-true i word_bits (both (ltb i word_bits) (eqb x (base + i)) (sym (g.each x i) ∙ t)).0 }
-
 -- ---- what one rule carries
-
-module _ (s words : List ℕ) (r : ℕ) where
-  pub trigger-none : kind_at s (rule_place r) < 2 → 0 ≡ from_trigger s words r
-  unfolding from_trigger
-  trigger-none h = rw (lt-leb 2 (kind_at s (rule_place r)) h)
-
-  pub trigger-mark : (m : ℕ) → 2 ≤ kind_at s (rule_place r) → m ≡ number_at s (rule_place r) → get_or words m 0 ≡ from_trigger s words r
-  unfolding from_trigger
-  trigger-mark m h e = rw (le-leb 2 (kind_at s (rule_place r)) h, e)
-
-  pub condition-none : sense_at s (rule_place r) < 1 → 0 ≡ from_condition s words r
-  unfolding from_condition
-  condition-none h = rw (lt-leb 1 (sense_at s (rule_place r)) h)
-
-  pub condition-word : (c : ℕ) → 1 ≤ sense_at s (rule_place r) → c ≡ condition_at s (rule_place r) → get_or words c 0 ≡ from_condition s words r
-  unfolding from_condition
-  condition-word c h e = rw (le-leb 1 (sense_at s (rule_place r)) h, e)
-
-pub condition-few : (s : List ℕ) (r c : ℕ) → WellFormed s → r < rules_in s → 1 ≤ sense_at s (rule_place r) → c ≡ condition_at s (rule_place r) → c < max_conditions
-condition-few s r c w h l e = let i = asked_in s r w h c l e in let m = w.headed.counted.conditions in omega arith
-
-pub carried-is : (s reached asked : List ℕ) (r a b w : ℕ) → a ≡ from_trigger s reached r → b ≡ from_condition s asked r → w ≡ union a b → w ≡ carried s reached asked r
-carried-is s reached asked r a b w p q e = e ∙ rw (p, q)
 
 module _ (s reached asked : List ℕ) (r from t d : ℕ) (p : from ≡ carried s reached asked r) (q : t ≡ target_of s r) (e : d ≡ minus from (get_or reached t 0)) where
   over : d ≡ minus (carried s reached asked r) (get_or reached (target_of s r) 0)

@@ -9,7 +9,6 @@ use native.Mathlib.Omega.{arith}
 use lib.Dec.{eqb, ltb}
 use lib.ListN.{length, get_or, length-set}
 use lib.Seq.{get_or-set_same, get_or-set_other}
-use mir.Val.{bool_byte}
 use borrow.Author.Tests.{eqb-true, eqb-false, ltb-true, ltb-false, not-true}
 use Rattle.paper.specs.Limits.{max_conditions}
 use Rattle.general.specs.Cases.{contra, cases, both, either, neither, or_left, or_right, not_so, lt-suc}
@@ -198,9 +197,6 @@ pub record Spreading (s : List ℕ) (h : Counts) (stage : ℕ) (start reached as
   pub grown : Grown (rules_of s stage) start reached
   pub settled : more ≡ false → Settled s stage reached asked
 
-pub spreading-first : (s : List ℕ) (h : Counts) (stage : ℕ) (reached asked : List ℕ) → Opened s h → Sources reached → length asked ≡ max_conditions → Spreading s h stage reached reached asked true
-spreading-first s h stage reached asked o k l = record { opened = o; sources = k; room = l; grown = grown-first s stage reached; settled = λ t. contra refl t }
-
 module _ (s : List ℕ) (h : Counts) (stage : ℕ) (start reached asked : List ℕ) (more : Bool) (g : Spreading s h stage start reached asked more) (next : List ℕ) (a : AskedAll s reached next)
     (after : List ℕ) (out : Bool) (p : Passed s stage reached next after out) where
   pub spreading-more : Spreading s h stage start after next out
@@ -219,10 +215,3 @@ module _ (s : List ℕ) (h : Counts) (stage : ℕ) (start reached asked : List �
           (carried-takes s reached next g.opened.formed r (rw (count-is s stage) at c.0) a x i e u);
     });
   }
-
-  pub spreading-less : more ≡ true → missing after + bool_byte out < missing reached + bool_byte more
-  spreading-less e = rw e (cases out (λ t. rw t (omega (arith, p.fewer t))) (λ t. rw (t, p.left t) (omega arith)))
-
-pub spreading-last : (s : List ℕ) (h : Counts) (stage : ℕ) (start reached asked : List ℕ) (more : Bool) → Spreading s h stage start reached asked more → more ≡ false
-    → (Grown (rules_of s stage) start reached) × (Settled s stage reached asked)
-spreading-last s h stage start reached asked more g t = (g.grown, g.settled t)

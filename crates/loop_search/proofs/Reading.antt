@@ -6,15 +6,12 @@ use native.Mathlib.Omega.{arith}
 use lib.Dec.{eqb, leb}
 use borrow.Author.Tests.{eqb-true, eqb-false, le-leb, lt-leb}
 use Rattle.general.specs.Cases.{cases}
-use Rattle.book.specs.Image.{marks_in, rules_in, conditions_in, sense_from}
+use Rattle.book.specs.Image.{marks_in, conditions_in, sense_from}
 use Rattle.book.specs.WellRead.{Opened}
 use Rattle.book.specs.declared.Counts.{Counts}
 use Rattle.loop_search.specs.Searching.{asks}
 
 module _ (s : List ℕ) (h : Counts) (o : Opened s h) where
-  pub rules-many : h.rules ≡ rules_in s
-  rules-many = ap (λ (c : Counts). c.rules) o.counts
-
   pub marks-many : h.marks ≡ marks_in s
   marks-many = ap (λ (c : Counts). c.marks) o.counts
 

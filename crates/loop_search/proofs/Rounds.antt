@@ -3,14 +3,15 @@ use mathlib.Core.Path.{◌≡◌, refl, sym, ap, ◌∙◌}
 use mathlib.Core.Logic.{◌≢◌, ⊎_elim, ◌↔◌}
 use mathlib.Core.Bool.{Bool, true, false, ◌&&◌, ◌||◌, and-true, and-false, or-false}
 use mathlib.Core.List.{List}
+use Rattle.std.specs.Prelude.{Some, None}
 use Prim.Native.Nat.{ℕ, ◌+◌, ◌-◌, ◌%◌, ◌≤◌, ◌<◌}
 use native.Mathlib.Omega.{arith}
 use lib.Dec.{eqb, ltb}
 use lib.ListN.{length, replicate, length-replicate}
 use borrow.Author.Tests.{eqb-true, eqb-false, eq-eqb, ne_eqb, ltb-true, ltb-false, lt-ltb}
-use Rattle.paper.specs.Limits.{max_marks, max_conditions}
+use Rattle.paper.specs.Limits.{max_conditions}
 use Rattle.general.specs.Cases.{contra, cases, both, not_so}
-use Rattle.general.specs.Below.{some, some_of, some_at, some-step, first_found, first-none}
+use Rattle.general.specs.Below.{found, some, some_of, some_at, some-step, first_found, first-none}
 use Rattle.sets.specs.Set.{has, only, put_if, lowest}
 use Rattle.sets.specs.Laws.{has-union, has-only, has-empty, lowest-least, lowest-has}
 use Rattle.closure.specs.Closure.{within}
@@ -27,7 +28,7 @@ use Rattle.book.specs.declared.Counts.{Counts}
 use Rattle.rule_order.specs.Rules.{net_of}
 use Rattle.rule_order.specs.Nets.{rules_of, count-is}
 use Rattle.loop_search.specs.Spreading.{reaches, Begun, carried, target_of, Grown, Settled, hit, WithHit, Hits, LowestSource}
-use Rattle.loop_search.specs.Places.{stage_place, stage-place}
+use Rattle.loop_search.specs.Places.{stage_place, found-some, found-none, stage-place}
 use Rattle.loop_search.specs.Searching.{targets-exist}
 use Rattle.loop_search.proofs.Reading.{marks-many}
 use Rattle.loop_search.proofs.Carrying.{carried_gives, carried-takes}
@@ -143,18 +144,16 @@ module _ (s : List ℕ) (h : Counts) (stage base : ℕ) (start reached asked : L
 
 -- ---- all rounds
 
+marks-said : (s : List ℕ) → (book_of s).marks ≡ marks_in s
+unfolding book_of
+marks-said s = refl
+
 pub record Searched (s : List ℕ) (h : Counts) (stage base : ℕ) : Type 0 where
   pub opened : Opened s h
   pub even : base % word_bits ≡ 0
   pub none : (m : ℕ) → m < base → OnLoop (rules_of s stage) m → ⊥
 
-pub searched-first : (s : List ℕ) (h : Counts) (stage : ℕ) → Opened s h → Searched s h stage 0
-searched-first s h stage o = record { opened = o; even = refl; none = λ m l. absurd (omega arith) }
-
 module _ (s : List ℕ) (h : Counts) (stage base : ℕ) (g : Searched s h stage base) where
-  pub searched-room : base < h.marks → base + word_bits ≤ max_marks
-  searched-room l = let e = g.even in let m = g.opened.formed.headed.counted.marks in omega (arith, marks-many s h g.opened)
-
   on-loop : (m : ℕ) → OnLoop (rules_of s stage) m ↔ (within (leads (rules_of s stage)) (marks_in s) m m ≡ true)
   unfolding net_of book_of
   on-loop m = loop-found (rules_of s stage) (marks_in s) (λ r c. targets-exist s g.opened.formed r c.0) m
@@ -172,6 +171,9 @@ module _ (s : List ℕ) (h : Counts) (stage base : ℕ) (g : Searched s h stage 
         (λ x. let y = ltb-false p base x in let z : base + (p - base) ≡ p = omega arith in
         k.none (p - base) (omega arith) (omega arith) (rw z ((on-loop p).1 e))))) ((on-loop (base + i)).0 (k.found l))
 
+    pub searched-some : i < word_bits → Some (base + i) ≡ found (book_of s).marks (stage_place (book_of s) stage)
+    searched-some l = found-some (book_of s).marks (stage_place (book_of s) stage) (base + i) (searched-found l) (rw (marks-said s) (on-loop-low (base + i) (k.found l)))
+
     pub searched-more : word_bits ≤ i → Searched s h stage (base + word_bits)
     searched-more l =
         let e = g.even in
@@ -188,7 +190,13 @@ module _ (s : List ℕ) (h : Counts) (stage base : ℕ) (g : Searched s h stage 
       let e = marks-many s h g.opened in
       e ∙ first-none (marks_in s) (λ m. within (leads (rules_of s stage)) (marks_in s) m m) (λ p m. not_so (λ t. g.none p (omega arith) ((on-loop p).1 t)))
 
+  pub searched-none : h.marks ≤ base → None ≡ found (book_of s).marks (stage_place (book_of s) stage)
+  searched-none l = found-none (book_of s).marks (stage_place (book_of s) stage) (marks-said s ∙ sym (marks-many s h g.opened) ∙ searched-last l)
+
 -- where the running order lists all rules that count, there is no loop
 pub through-place : (s : List ℕ) (h : Counts) (stage : ℕ) (b : Bool) → Opened s h → ((b ≡ true) ↔ NoLoop (rules_of s stage)) → b ≡ true → h.marks ≡ stage_place (book_of s) stage
 unfolding book_of
 through-place s h stage b o e t = marks-many s h o ∙ sym ((stage-place (book_of s) (targets-exist s o.formed) stage).1.0 (e.0 t))
+
+pub through_none : (s : List ℕ) (h : Counts) (stage : ℕ) (b : Bool) → Opened s h → ((b ≡ true) ↔ NoLoop (rules_of s stage)) → b ≡ true → None ≡ found (book_of s).marks (stage_place (book_of s) stage)
+through_none s h stage b o e t = found-none (book_of s).marks (stage_place (book_of s) stage) (marks-said s ∙ sym (marks-many s h o) ∙ through-place s h stage b o e t)

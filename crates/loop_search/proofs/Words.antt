@@ -22,7 +22,7 @@ use Rattle.book.specs.Reading.{span_from}
 use Rattle.book.specs.WellRead.{Opened, span-text}
 use Rattle.book.specs.declared.Counts.{Counts}
 use Rattle.book.specs.declared.Span.{Span}
-use Rattle.loop_search.specs.Spreading.{reaches, Asked, AskedAll}
+use Rattle.loop_search.specs.Spreading.{reaches, Asked}
 use Rattle.loop_search.proofs.Reading.{conditions-many}
 
 pub none-past : (reached : List ℕ) (w : ℕ) → length reached ≡ max_marks → max_marks ≤ w → 0 ≡ get_or reached w 0
@@ -82,9 +82,6 @@ pub record AskedUpto (s reached asked : List ℕ) (c : ℕ) : Type 0 where
   pub within : c ≤ conditions_in s
   pub each : (d : ℕ) → d < c → Asked (text_of (book_of s) d) reached (get_or asked d 0)
 
-pub upto-first : (s reached asked : List ℕ) → length asked ≡ max_conditions → AskedUpto s reached asked 0
-upto-first s reached asked l = record { room = l; within = omega arith; each = λ d h. absurd (omega arith) }
-
 module _ (s reached asked : List ℕ) (c : ℕ) (g : AskedUpto s reached asked c) (h : Counts) (o : Opened s h) where
   pub upto-below : c < h.conditions → c < conditions_in s
   upto-below l = omega (arith, conditions-many s h o)
@@ -103,6 +100,3 @@ module _ (s reached asked : List ℕ) (c : ℕ) (g : AskedUpto s reached asked c
             (λ x. rw (eqb-true d c x, get_or-set_same asked c w 0 (omega arith)) a)
             (λ x. rw (get_or-set_other asked c d w 0 (eqb-false d c x)) (g.each d (let n = eqb-false d c x in omega arith)));
       }
-
-  pub upto-last : h.conditions ≤ c → AskedAll s reached asked
-  upto-last l = record { room = g.room; each = λ d i. g.each d (omega (arith, conditions-many s h o)) }

@@ -1,12 +1,12 @@
 -- The mark that a refused loop is named by: the lowest over all stages. Assumes nothing.
-use Rattle.std.specs.Prelude.{◌≡◌, refl, ◌↔◌, cond, leb, ltb, length}
+use Rattle.std.specs.Prelude.{◌≡◌, refl, ◌↔◌, cond, leb, ltb, length, Some, None}
 use Rattle.std.proofs.Common.{sym}
 use Rattle.std.proofs.Math.Path.{subst}
 use Prim.Native.Nat.{ℕ, zero, suc, ◌≤◌, ◌<◌}
 use native.Mathlib.Omega.{arith}
-use borrow.Author.Tests.{leb-true, leb-false, ltb-true, ltb-false}
+use borrow.Author.Tests.{leb-true, leb-false, ltb-true, ltb-false, lt-ltb, le-ltb}
 use Rattle.general.specs.Cases.{cases, lt-suc}
-use Rattle.general.specs.Below.{first-is}
+use Rattle.general.specs.Below.{first-is, found}
 use Rattle.closure.specs.Closure.{within}
 use Rattle.order_theory.specs.Order.{OnLoop, NoLoop}
 use Rattle.order_theory.specs.Loops.{leads, loop_mark}
@@ -29,6 +29,14 @@ place_below b (suc k) = lesser (place_below b k) (stage_place b k)
 -- the mark that the refusal names, or M: "25 names the lowest mark over all stages"
 unfoldable pub loop_place : Book → ℕ
 loop_place b = place_below b b.stages
+
+-- ---- a place, or none where it is M
+
+pub found-some : (k n m : ℕ) → m ≡ n → m < k → Some m ≡ found k n
+found-some k n m e h = rw (← e, lt-ltb m k h)
+
+pub found-none : (k n : ℕ) → k ≡ n → None ≡ found k n
+found-none k n e = rw (le-ltb n k (omega arith))
 
 -- ---- the lesser of two
 
