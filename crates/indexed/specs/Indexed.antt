@@ -1,12 +1,13 @@
 -- What completing a stage through the index gives, in the request's order of refusals: the answer, the snapshot, and how many rules were evaluated. Assumes nothing.
-use Rattle.std.specs.Prelude.{Bool, cond, List, ℕ, eqb, ltb}
+use Rattle.std.specs.Prelude.{◌≡◌, Bool, cond, List, ℕ, eqb, ltb}
 use Rattle.paper.specs.Limits.{mark_above, no_such_stage, stage_closed, index_unfit}
 use Rattle.paper.specs.Answers.{granted, refusal}
 use Rattle.paper.specs.declared.Answer.{Answer}
 use Rattle.book.specs.Text.{snap_of}
 use Rattle.book.specs.Image.{stages_in, marks_in, book_of}
+use Rattle.book.specs.declared.Counts.{Counts}
 use Rattle.book.specs.declared.Snapshot.{Snapshot}
-use Rattle.judge.specs.Checking.{book_answer}
+use Rattle.judge.specs.Checking.{book_answer, PassesWith}
 use Rattle.runner.specs.Completing.{any_from, through}
 use Rattle.runner.specs.Walks.{looks, goes-run}
 use Rattle.runner.specs.declared.Completion.{Completion}
@@ -18,6 +19,11 @@ use Rattle.indexed.specs.declared.IndexedCompletion.{IndexedCompletion}
 -- "An index is fit exactly if it is what the builder writes for this book."; "34, unfit index, after 26"
 unfoldable pub index_answer : List ℕ → List ℕ → Answer
 index_answer s index = cond (eqb (book_answer s).code 0) (cond (same_bytes index (index_of s)) granted (refusal index_unfit)) (book_answer s)
+
+-- the book passes, these are its counts, and it has this index
+pub record IndexedWith (s index : List ℕ) (h : Counts) : Type 0 where
+  pub book : PassesWith s h
+  pub same : index ≡ index_of s
 
 -- 29 and 30
 unfoldable pub open_answer : List ℕ → List Bool → ℕ → Answer

@@ -4,12 +4,17 @@
 pub mod judging;
 pub mod running;
 
-ghost use Rattle.std.specs.Prelude.{◌≡◌};
-ghost use Rattle.indexed.specs.Indexed.{completing_indexed};
+ghost use Rattle.std.specs.Prelude.{◌≡◌, length, IfOk};
+ghost use Rattle.book.specs.Image.{book_of};
+ghost use Rattle.judge.specs.Head.{told};
+ghost use Rattle.runner.specs.Completing.{through};
+ghost use Rattle.index.specs.Index.{order_of};
+ghost use Rattle.indexed.specs.Indexed.{indexed_answer, completing_indexed};
 
+use crate::judging::{judge_index, judge_marks};
+use crate::running::{Turned, go_through_index};
 use book::Snapshot;
-use book::header::counts_at;
-use paper::Answer;
+use paper::{Answer, Refusal};
 
 // What completing a stage through the index gives: the answer, the snapshot, and how many rules were evaluated, fired or not.
 #[repr(C)]
@@ -20,6 +25,18 @@ pub struct IndexedCompletion {
     pub evaluated: u32,
 }
 
+// 20 to 26, 34, 28, 29, 30, or what every rule of the stage's running order leaves.
+fn completed(book: &[u8], index: &[u8], snapshot: Snapshot, stage: u32) -> Result<Turned, Refusal>
+    ensures answer { told result ≡ indexed_answer book.now index.now snapshot.marks stage }
+    ensures after { IfOk result (λ turned. turned.snapshot.marks ≡ through book.now snapshot.marks stage snapshot.marks (order_of (book_of book.now) stage)) }
+    ensures evaluated { IfOk result (λ turned. turned.evaluated ≡ length (order_of (book_of book.now) stage)) }
+{
+    let counts = judge_index(book, index)?;
+    judge_marks(&snapshot.marks, counts, stage)?;
+    let turned = go_through_index(book, counts, index, &snapshot.marks, snapshot, stage);
+    Ok(turned)
+}
+
 // 20 to 26, 34, 28, 29, 30, the snapshot that was given and 0 rules evaluated, or 0, the snapshot after every rule of the stage's running order had
 // its turn, and how many that were.
 // Cost: the passes of `judge::judge_book` (`judge::check` says which), one over the rules for what counts, two over the rules and one over the texts for
@@ -28,29 +45,16 @@ pub struct IndexedCompletion {
 pub fn complete(book: &[u8], index: &[u8], snapshot: Snapshot, stage: u32) -> IndexedCompletion
     ensures { result ≡ completing_indexed book.now index.now snapshot stage }
 {
-    let fit = judging::judge_index(book, index);
-    if fit.code != 0 {
-        return IndexedCompletion {
-            answer: fit,
+    match completed(book, index, snapshot, stage) {
+        Ok(turned) => IndexedCompletion {
+            answer: paper::granted(),
+            snapshot: turned.snapshot,
+            evaluated: turned.evaluated,
+        },
+        Err(refusal) => IndexedCompletion {
+            answer: Answer::from(refusal),
             snapshot,
             evaluated: 0,
-        };
-    }
-    let h = counts_at(book);
-    let answer = judging::judge_marks(&snapshot.marks, h, stage);
-    if answer.code != 0 {
-        return IndexedCompletion {
-            answer,
-            snapshot,
-            evaluated: 0,
-        };
-    }
-    let start = snapshot.marks;
-    let turned = running::go_through_index(book, h, index, &start, snapshot, stage);
-    let after = turned.snapshot;
-    IndexedCompletion {
-        answer,
-        snapshot: after,
-        evaluated: turned.evaluated,
+        },
     }
 }

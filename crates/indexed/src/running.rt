@@ -7,11 +7,9 @@ ghost use Rattle.book.specs.WellRead.{Opened};
 ghost use Rattle.runner.specs.Completing.{through};
 ghost use Rattle.index.specs.Index.{order_of, index_image, NoLoops};
 
-use book::applying::{alters, applied};
-use book::reader::rule_in;
 use book::{Counts, Snapshot};
-use firing::rule_fires;
 use paper::{INDEX_HEADER, INDEX_RULE, INDEX_STAGE, MAX_MARKS};
+use runner::running::turn;
 
 // The rule that an order has at a place of the index.
 fn entry_at(index: &[u8], at: usize) -> usize
@@ -28,8 +26,7 @@ pub struct Turned {
     pub evaluated: u32,
 }
 
-// The turns of a completion; `start` has the marks at the start of the completion. A rule whose target has its value already cannot alter
-// it, so its condition is not evaluated; one that fires goes through `applied`, whose one store is in place and which copies the marks.
+// The turns of a completion; `start` has the marks at the start of it.
 pub fn go_through_index(
     book: &[u8],
     counts: Counts,
@@ -48,13 +45,8 @@ pub fn go_through_index(
     let mut held = snapshot;
     let mut evaluated = 0;
     for j in 0..many {
-        let rule = rule_in(book, counts, entry_at(index, at + INDEX_RULE * j));
-        if alters(&held.marks, rule) {
-            if rule_fires(book, counts, rule, stage, start, &held.marks) {
-                let next = applied(held, rule);
-                held = next;
-            }
-        }
+        let r = entry_at(index, at + INDEX_RULE * j);
+        turn(book, counts, r, stage, start, &mut held);
         evaluated += 1;
     }
     Turned {

@@ -8,48 +8,48 @@ use native.Mathlib.Omega.{arith}
 use lib.ListN.{length, get_or, drop, drop_of_length-le}
 use lib.Seq.{drop-cons}
 use borrow.Author.Tests.{eq-eqb, ne_eqb, lt-ltb, le-ltb}
-use Rattle.paper.specs.Limits.{max_events, max_rules, max_list, book_header, mark_above, long_list}
+use Rattle.paper.specs.Limits.{max_events, max_rules, max_list, mark_above, long_list}
 use Rattle.paper.specs.Answers.{answer, granted, refusal, place_of}
+use Rattle.paper.specs.Refusals.{answer_of}
 use Rattle.paper.specs.declared.Answer.{Answer}
+use Rattle.paper.specs.declared.Refusal.{Refusal}
 use Rattle.book.specs.Image.{stages_in, marks_in, book_of}
-use Rattle.book.specs.Judging.{counts_of}
 use Rattle.book.specs.WellFormed.{WellFormed}
 use Rattle.book.specs.WellRead.{Opened}
 use Rattle.book.specs.declared.Counts.{Counts}
 use Rattle.book.specs.declared.Snapshot.{Snapshot}
+use Rattle.judge.proofs.Returns.{some-code}
 use Rattle.runner.specs.Completing.{any_from}
-use Rattle.runner.specs.Table.{Passes}
 use Rattle.index.specs.Index.{order_of, index_image, NoLoops}
 use Rattle.index.specs.Reading.{count_small}
-use Rattle.index_builder.specs.Building.{index_of}
-use Rattle.indexed.specs.Indexed.{index_answer, open_answer}
-use Rattle.indexed.specs.IndexedTable.{index-passes, looked-count}
-use Rattle.indexed_list.specs.InList.{completed_marks, granted_of, reached, looked_in, stopping, placed, before_list, completing_list, opens-known, before-passes}
+use Rattle.indexed.specs.Indexed.{index_answer, open_answer, IndexedWith}
+use Rattle.indexed.specs.IndexedTable.{looked-count}
+use Rattle.indexed_list.specs.InList.{completed_marks, granted_of, reached, looked_in, stopping, placed, before_list, completing_list, opens-known}
 use Rattle.indexed_list.specs.declared.ListCompletion.{ListCompletion}
 
 -- ---- before the list
 
 module _ (s index : List ℕ) (marks : List Bool) (many : ℕ) where
-  pub before-index : (a : Answer) → a ≡ index_answer s index → (a.code ≡ 0 → ⊥) → a ≡ before_list s index marks many
+  pub index-stops : (r : Refusal) → answer_of r ≡ index_answer s index → answer_of r ≡ before_list s index marks many
   unfolding before_list
-  before-index a e n = rw (← e, ne_eqb a.code 0 n)
+  index-stops r e = rw (← e, ne_eqb (answer_of r).code 0 (some-code r))
 
-  module _ (o : Answer) (e : o ≡ index_answer s index) (z : o.code ≡ 0) (h : Counts) (c : h ≡ counts_of s) (b : Bool) (f : b ≡ any_from h.marks marks) (a : Answer) where
+  module _ (e : granted ≡ index_answer s index) (h : Counts) (p : IndexedWith s index h) (b : Bool) (f : b ≡ any_from h.marks marks) where
     belongs : b ≡ any_from (marks_in s) marks
-    belongs = f ∙ ap (λ (x : Counts). any_from x.marks marks) c
+    belongs = f ∙ ap (λ (x : Counts). any_from x.marks marks) p.book.counts
 
-    pub before_above : b ≡ true → a ≡ refusal mark_above → a ≡ before_list s index marks many
+    pub before_above : b ≡ true → refusal mark_above ≡ before_list s index marks many
     unfolding before_list
-    before_above t q = q ∙ rw (← e, eq-eqb o.code 0 z, ← belongs, t)
+    before_above t = rw (← e, ← belongs, t)
 
     module _ (t : b ≡ false) where
-      pub before-long : max_list < many → (place : ℕ) → place ≡ place_of many → a ≡ answer long_list place 0 → a ≡ before_list s index marks many
+      pub before-long : max_list < many → (place : ℕ) → place ≡ place_of many → answer long_list place 0 ≡ before_list s index marks many
       unfolding before_list
-      before-long l place p q = q ∙ rw (← e, eq-eqb o.code 0 z, ← belongs, t, lt-ltb max_list many l, p)
+      before-long l place q = rw (← e, ← belongs, t, lt-ltb max_list many l, q)
 
-      pub before-granted : many ≤ max_list → a ≡ granted → a ≡ before_list s index marks many
+      pub before-granted : many ≤ max_list → granted ≡ before_list s index marks many
       unfolding before_list
-      before-granted l q = q ∙ rw (← e, eq-eqb o.code 0 z, ← belongs, t, le-ltb max_list many l)
+      before-granted l = rw (← e, ← belongs, t, le-ltb max_list many l)
 
 -- ---- the walk: j were granted, and what the rest gives from here is what the whole gives from the start
 
@@ -127,34 +127,26 @@ module _ (s : List ℕ) (began : List Bool) (list : List ℕ) where
 pub stages-few : (s : List ℕ) (h : Counts) → Opened s h → h.stages ≤ max_events
 stages-few s h o = rw o.counts o.formed.headed.counted.stages
 
--- what the walk asks of an entry that is granted
+-- what the walk asks of an entry that is open
 pub turn-asks : (s index : List ℕ) (h : Counts) (many : ℕ) → (Opened s h) × (NoLoops (book_of s)) × (index ≡ index_image (book_of s)) × (many ≤ max_list)
-    → (marks : List Bool) (stage : ℕ) (a : Answer) → ((s : List ℕ) → h.stages ≡ stages_in s → a ≡ open_answer s marks stage) → a.code ≡ 0
+    → (marks : List Bool) (stage : ℕ) → ((s : List ℕ) → h.stages ≡ stages_in s → granted ≡ open_answer s marks stage)
     → (Opened s h) × (NoLoops (book_of s)) × (index ≡ index_image (book_of s)) × (stage < h.stages)
-turn-asks s index h many p marks stage a f z =
+turn-asks s index h many p marks stage f =
     let e : h.stages ≡ stages_in s = ap (λ (x : Counts). x.stages) p.0.counts in
-    (p.0, p.1, p.2, rw e (opens-known s marks stage (eq-eqb (open_answer s marks stage).code 0 (sym (ap (λ (x : Answer). x.code) (f s e)) ∙ z))))
+    (p.0, p.1, p.2, rw e (opens-known s marks stage (eq-eqb (open_answer s marks stage).code 0 (sym (ap (λ (x : Answer). x.code) (f s e))))))
 
 -- ---- the whole call
 
-module _ (s index : List ℕ) (marks : List Bool) (many : ℕ) (a : Answer) (e : a ≡ before_list s index marks many) (z : a.code ≡ 0) where
-  begins : Passes s × (index ≡ index_of s) × (many ≤ max_list)
-  begins =
-      let (x, l) = before-passes s index marks many (sym (ap (λ (v : Answer). v.code) e) ∙ z) in
-      let (p, q) = index-passes s index x in
-      (p, q, l)
+pub walk_begins : (s index : List ℕ) (h : Counts) (many : ℕ) → IndexedWith s index h → many ≤ max_list
+    → (Opened s h) × (NoLoops (book_of s)) × (index ≡ index_image (book_of s)) × (many ≤ max_list)
+walk_begins s index h many p l = (record { formed = p.book.passes.formed; counts = p.book.counts }, p.book.passes.acyclic, p.same, l)
 
-  pub list-headed : book_header ≤ length s
-  list-headed = begins.0.formed.headed.long
-
-  pub walk_begins : (h : Counts) → h ≡ counts_of s → (Opened s h) × (NoLoops (book_of s)) × (index ≡ index_image (book_of s)) × (many ≤ max_list)
-  walk_begins h c = let (p, q, l) = begins in (record { formed = p.formed; counts = c }, p.acyclic, q, l)
-
-module _ (s index : List ℕ) (snapshot : Snapshot) (list : List ℕ) (a : Answer) (e : a ≡ before_list s index snapshot.marks (length list)) where
-  pub list-refused : (a.code ≡ 0 → ⊥) → record { answer = a; granted = 0; snapshot = snapshot; evaluated = 0 } ≡ completing_list s index snapshot list
+module _ (s index : List ℕ) (snapshot : Snapshot) (list : List ℕ) where
+  pub list-refused : (r : Refusal) → answer_of r ≡ before_list s index snapshot.marks (length list)
+      → record { answer = answer_of r; granted = 0; snapshot = snapshot; evaluated = 0 } ≡ completing_list s index snapshot list
   unfolding completing_list
-  list-refused n = rw (← e, ne_eqb a.code 0 n)
+  list-refused r e = rw (← e, ne_eqb (answer_of r).code 0 (some-code r))
 
-  pub list-walked : a.code ≡ 0 → (r : ListCompletion) → r ≡ Walks s snapshot.marks list → r ≡ completing_list s index snapshot list
+  pub list-walked : granted ≡ before_list s index snapshot.marks (length list) → (r : ListCompletion) → r ≡ Walks s snapshot.marks list → r ≡ completing_list s index snapshot list
   unfolding completing_list
-  list-walked z r q = q ∙ rw (← e, eq-eqb a.code 0 z)
+  list-walked e r q = q ∙ rw (← e)

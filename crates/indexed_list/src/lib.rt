@@ -6,8 +6,8 @@ pub mod lists;
 ghost use Rattle.std.specs.Prelude.{◌≡◌};
 ghost use Rattle.indexed_list.specs.InList.{completing_list};
 
+use crate::lists::{judge_before, walk_list};
 use book::Snapshot;
-use book::header::counts_at;
 use paper::Answer;
 
 // What completing a list of stages gives: the answer, how many were granted, the snapshot reached, and how many rules the granted ones evaluated.
@@ -27,15 +27,13 @@ pub struct ListCompletion {
 pub fn complete_list(book: &[u8], index: &[u8], snapshot: Snapshot, list: &[u32]) -> ListCompletion
     ensures { result ≡ completing_list book.now index.now snapshot list.now }
 {
-    let before = lists::judge_before(book, index, &snapshot.marks, list.len());
-    if before.code != 0 {
-        return ListCompletion {
-            answer: before,
+    match judge_before(book, index, &snapshot.marks, list.len()) {
+        Ok(counts) => walk_list(book, counts, index, snapshot, list),
+        Err(refusal) => ListCompletion {
+            answer: Answer::from(refusal),
             granted: 0,
             snapshot,
             evaluated: 0,
-        };
+        },
     }
-    let h = counts_at(book);
-    lists::walk_list(book, h, index, snapshot, list)
 }

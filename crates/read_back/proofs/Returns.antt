@@ -27,18 +27,11 @@ use Rattle.derived.specs.Sizes.{conditions-length}
 use Rattle.deriver.specs.Deriving.{derived_image, found-fit}
 use Rattle.judge.specs.Checking.{book_answer, BookPasses, passes-granted}
 use Rattle.judge.proofs.Checking.{book-passes}
-use Rattle.judge.specs.Head.{head_answer, head-refused}
-use Rattle.judge.proofs.Returns.{book-refused}
 use Rattle.derived_same.specs.Same.{roleless}
 use Rattle.gathering.specs.Gathering.{gathered}
 use Rattle.read_back.specs.ReadingBack.{chart_behind, from_chart, read_back_answer, reading_back}
 use Rattle.read_back.specs.Written.{written_for, refused_back}
 use Rattle.read_back.specs.Flat.{ReadBack}
-
--- ---- 20 to 22
-
-pub judged-head : (s : List ℕ) (a : Answer) → a ≡ head_answer s → (a.code ≡ 0 → ⊥) → a ≡ book_answer s
-judged-head s a e n = book-refused s a (head-refused s a e n) n
 
 -- ---- whether the deriver writes the book for the chart
 

@@ -6,16 +6,16 @@ pub mod judging;
 ghost use Rattle.std.specs.Prelude.{◌≡◌, replicate};
 ghost use Rattle.paper.specs.Limits.{max_events};
 ghost use Rattle.paper.specs.Answers.{granted};
-ghost use Rattle.wide.specs.Number.{rows_of};
-ghost use Rattle.derived_same.specs.Same.{roleless};
+ghost use Rattle.paper.specs.Refusals.{answer_of};
+ghost use Rattle.flat_chart.specs.Numbers.{lent_of};
+ghost use Rattle.derived_same.specs.Same.{without_roles};
 ghost use Rattle.read_back.specs.Numbers.{back_of};
 ghost use Rattle.read_back.specs.ReadingBack.{reading_back};
 ghost use Rattle.read_back.specs.Written.{written_for, refused_back};
 
-use book::header::counts_at;
-use flat_chart::FlatChart;
-use paper::{Answer, MAX_EVENTS, NOT_DERIVED};
-use wide::TABLE;
+use book::reader::BookReader;
+use flat_chart::{FlatChart, LentChart};
+use paper::{Answer, Refusal};
 
 #[repr(C)]
 #[derive(Clone, Copy)]
@@ -24,35 +24,19 @@ pub struct ReadBack {
     pub chart: FlatChart,
 }
 
-// Whether the chart of these tables, which names no roles, is fit and the deriver writes this book for it.
-fn written_for<'a>(
-    book: &[u8],
-    count: u32,
-    conditions: &'a [u64; TABLE],
-    responses: &'a [u64; TABLE],
-    milestones: &'a [u64; TABLE],
-    includes: &'a [u64; TABLE],
-    excludes: &'a [u64; TABLE],
-    roles: &'a [u8; MAX_EVENTS],
-) -> bool
-    requires { roles.now ≡ replicate max_events 0 }
-    ensures { result ≡ written_for (roleless count (rows_of conditions.now) (rows_of responses.now) (rows_of milestones.now) (rows_of includes.now) (rows_of excludes.now)) book.now }
+// Whether the chart, which names no roles, is fit and the deriver writes this book for it.
+fn written_for(book: &[u8], chart: LentChart<'_>) -> bool
+    requires { chart.roles.now ≡ replicate max_events 0 }
+    ensures { result ≡ written_for (without_roles (lent_of chart.entry)) book.now }
 {
-    if !flat_chart::tables_fit(
-        count, conditions, responses, milestones, includes, excludes, roles,
-    ) {
-        return false;
-    }
-    derived_same::derived_same(
-        book, count, conditions, responses, milestones, includes, excludes,
-    )
+    chart.is_fit() && derived_same::derived_same(book, chart)
 }
 
 // Whatever was gathered is put away.
-fn refuse(out: &mut ReadBack, answer: Answer)
-    ensures { back_of out.new ≡ refused_back answer }
+fn refuse(out: &mut ReadBack, refusal: Refusal)
+    ensures { back_of out.new ≡ refused_back (answer_of refusal) }
 {
-    out.answer = answer;
+    out.answer = Answer::from(refusal);
     out.chart = FlatChart::empty();
 }
 
@@ -64,29 +48,22 @@ pub fn read_back_into(book: &[u8], out: &mut ReadBack)
     requires { back_of out.old ≡ refused_back granted }
     ensures { back_of out.new ≡ reading_back book.now }
 {
-    let foreign = paper::refused(NOT_DERIVED, 0, 0);
-    let judged = judging::judge_whole(book);
-    if judged.code != 0 {
-        return refuse(out, judged);
+    let counts = match judging::judge_whole(book) {
+        Ok(counts) => counts,
+        Err(refusal) => return refuse(out, refusal),
+    };
+    if counts.conditions != counts.stages {
+        return refuse(out, Refusal::NotDerived);
     }
-    let h = counts_at(book);
-    if h.conditions != h.stages {
-        return refuse(out, foreign);
+    let reader = BookReader {
+        image: book,
+        counts,
+    };
+    gathering::gather_into(reader, &mut out.chart);
+    if !written_for(book, out.chart.lend()) {
+        return refuse(out, Refusal::NotDerived);
     }
-    gathering::gather_into(book, h, &mut out.chart);
-    if !written_for(
-        book,
-        out.chart.count,
-        &out.chart.conditions,
-        &out.chart.responses,
-        &out.chart.milestones,
-        &out.chart.includes,
-        &out.chart.excludes,
-        &out.chart.roles,
-    ) {
-        return refuse(out, foreign);
-    }
-    out.answer = judged;
+    out.answer = paper::granted();
 }
 
 // The same, handed back. Stack: 41 KiB more.

@@ -5,7 +5,7 @@ use Rattle.paper.specs.Answers.{granted, refusal}
 use Rattle.paper.specs.declared.Answer.{Answer}
 use Rattle.general.specs.Below.{some}
 use Rattle.order_theory.specs.Pass.{fit_pass}
-use Rattle.order_theory.specs.Snapshots.{run_l}
+use Rattle.order_theory.specs.Snapshots.{step_l, run_l}
 use Rattle.book.specs.Text.{snap_of}
 use Rattle.book.specs.Image.{stages_in, marks_in, book_of}
 use Rattle.book.specs.declared.Snapshot.{Snapshot}
@@ -37,6 +37,10 @@ unfoldable pub completion_answer : List ℕ → List ℕ → List Bool → ℕ �
 completion_answer s order marks stage = cond (eqb (order_answer s order stage).code 0) (snapshot_answer (marks_in s) marks stage) (order_answer s order stage)
 
 -- ---- the snapshot
+
+-- one rule's turn in the marks as they stand: where it fires, its target is set or cleared
+abbrev pub turned : List ℕ → List Bool → ℕ → List Bool → ℕ → List Bool
+turned s start stage marks r = step_l (rules_of s stage) (acts_of (book_of s) (snap_of start) stage) marks r
 
 -- "Completing an open stage goes through a given order. A rule fires if its trigger holds and its condition holds in the snapshot as it now
 -- stands. A firing rule sets or clears its target."

@@ -1,5 +1,5 @@
 -- Old books: a rule that is left out for a stage cannot fire in that stage's completion, so that leaving it out changes no snapshot. Assumes nothing.
-use Rattle.std.specs.Prelude.{◌≡◌, true, false, ◌&&◌, ℕ}
+use Rattle.std.specs.Prelude.{◌≡◌, false, ℕ}
 use Rattle.std.proofs.Math.Path.{refl}
 use Rattle.std.proofs.Common.{sym, ap, ◌∙◌}
 use mathlib.Core.List.{List, [], ◌∷◌}
@@ -9,9 +9,9 @@ use Rattle.order_theory.specs.Settle.{Acts, step, run}
 use Rattle.order_theory.specs.Fewer.{all_counted, LeavesOut, counted_of}
 use Rattle.order_theory.proofs.Fewer.{fewer-all, left_out, fewer-fit}
 use Rattle.book.specs.Text.{Snap, snap_of}
-use Rattle.book.specs.Book.{Book, rule_of, text_of}
+use Rattle.book.specs.Book.{Book, rule_of}
 use Rattle.book.specs.Image.{book_of}
-use Rattle.book.specs.Firing.{triggered, allowed, fires, fires-local}
+use Rattle.book.specs.Firing.{triggered, fires, fires-local}
 use Rattle.book.specs.declared.Snapshot.{Snapshot}
 use Rattle.book.specs.declared.Trigger.{Trigger}
 use Rattle.book.specs.declared.Trigger.TheVariants.{None, Completed, BecomeYes, BecomeNo}

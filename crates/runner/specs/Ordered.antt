@@ -1,11 +1,9 @@
 -- What an answer 0 says of the book, the stage and the order, and which refusal each test gives. Assumes nothing.
-use Rattle.std.specs.Prelude.{◌≡◌, Bool, true, false, not, ◌&&◌, ℕ, ◌+◌, ◌≤◌, ◌<◌, eqb, ltb, leb, length, get_or}
-use Rattle.std.proofs.Common.{sym, ◌∙◌, arith}
-use Rattle.std.proofs.Math.Path.{ap}
+use Rattle.std.specs.Prelude.{◌≡◌, Bool, true, false, ◌&&◌, ℕ, ◌+◌, ◌≤◌, ◌<◌, eqb, ltb, leb, length, get_or}
+use Rattle.std.proofs.Common.{sym, arith}
 use mathlib.Core.List.{List}
-use borrow.Author.Tests.{eqb-true, eqb-false, eq-eqb, ne_eqb, ltb-true, le-leb, leb-true, not-true, not-false}
-use Rattle.paper.specs.Limits.{max_marks, order_unfit, mark_above, no_such_stage, stage_closed}
-use Rattle.paper.specs.Answers.{granted, refusal}
+use borrow.Author.Tests.{eqb-true, eqb-false, ne_eqb, ltb-true, le-leb, leb-true}
+use Rattle.paper.specs.Limits.{max_marks, order_unfit, no_such_stage}
 use Rattle.paper.specs.declared.Answer.{Answer}
 use Rattle.general.specs.Cases.{cases}
 use Rattle.general.specs.Below.{some_of, some-none}
@@ -14,12 +12,13 @@ use Rattle.order_theory.specs.Pass.{fit_pass}
 use Rattle.order_theory.proofs.Pass.{fit-pass}
 use Rattle.order_theory.proofs.Index.{fit_at}
 use Rattle.book.specs.Text.{snap_of}
-use Rattle.book.specs.Image.{stages_in, marks_in, rules_in}
-use Rattle.book.specs.declared.Snapshot.{Snapshot}
+use Rattle.book.specs.Image.{stages_in, rules_in}
+use Rattle.book.specs.Judging.{counts_of}
+use Rattle.book.specs.declared.Counts.{Counts}
 use Rattle.rule_order.specs.Nets.{rules_of, count-is}
 use Rattle.judge.specs.Checking.{book_answer, BookPasses}
 use Rattle.judge.proofs.Checking.{book-passes}
-use Rattle.runner.specs.Completing.{fitted, order_answer, any_from, snapshot_answer, completion_answer, through, completing}
+use Rattle.runner.specs.Completing.{fitted, order_answer, any_from}
 
 -- ---- the book and the order
 
@@ -28,6 +27,11 @@ pub record Ordered (s order : List ℕ) (stage : ℕ) : Type 0 where
   pub passes : BookPasses s
   pub known : stage < stages_in s
   pub fit : Fit (rules_of s stage) order
+
+-- the same, and these are the book's counts
+pub record OrderedWith (s order : List ℕ) (stage : ℕ) (h : Counts) : Type 0 where
+  pub ordered : Ordered s order stage
+  pub counts : h ≡ counts_of s
 
 pub fitted-all : (a : Answer) (known fits : Bool) → (fitted a known fits).code ≡ 0 → (a.code ≡ 0) × (known ≡ true) × (fits ≡ true)
 unfolding fitted
@@ -76,43 +80,3 @@ unfolding any_from
 scanned-none marks m x c h =
     sym (some-none max_marks (λ y. leb m y && snap_of marks y)
     (λ y k. cases (leb m y) (λ e. rw (e, c.none y (leb-true m y e) (omega arith))) (λ e. rw e)))
-
-module _ (M stage : ℕ) (marks : List Bool) where
-  pub above-answer : (b : Bool) (a : Answer) → b ≡ any_from M marks → b ≡ true → a ≡ refusal mark_above → a ≡ snapshot_answer M marks stage
-  unfolding snapshot_answer
-  above-answer b a e t q = q ∙ rw (← e, t)
-
-  module _ (b : Bool) (e : b ≡ any_from M marks) (t : b ≡ false) where
-    pub closed-answer : (a : Answer) → not (snap_of marks stage) ≡ true → a ≡ refusal stage_closed → a ≡ snapshot_answer M marks stage
-    unfolding snapshot_answer
-    closed-answer a n q = q ∙ rw (← e, t, not-true (snap_of marks stage) n)
-
-    pub open-answer : (a : Answer) → not (snap_of marks stage) ≡ false → a ≡ granted → a ≡ snapshot_answer M marks stage
-    unfolding snapshot_answer
-    open-answer a n q = q ∙ rw (← e, t, not-false (snap_of marks stage) n)
-
--- ---- the whole call
-
-module _ (s order : List ℕ) (snapshot : Snapshot) (stage : ℕ) where
-  refusing : (a : Answer) → a ≡ completion_answer s order snapshot.marks stage → (a.code ≡ 0 → ⊥) → record { answer = a; snapshot = snapshot } ≡ completing s order snapshot stage
-  unfolding completing
-  refusing a e n = rw (← e, ne_eqb a.code 0 n)
-
-  pub order-refused : (a : Answer) → a ≡ order_answer s order stage → (a.code ≡ 0 → ⊥) → record { answer = a; snapshot = snapshot } ≡ completing s order snapshot stage
-  unfolding completion_answer
-  order-refused a e n = refusing a (rw (← e, ne_eqb a.code 0 n)) n
-
-  module _ (o : Answer) (e : o ≡ order_answer s order stage) (z : o.code ≡ 0) (M : ℕ) (q : M ≡ marks_in s) (a : Answer) (f : a ≡ snapshot_answer M snapshot.marks stage) where
-    then-answer : a ≡ completion_answer s order snapshot.marks stage
-    unfolding completion_answer
-    then-answer = f ∙ rw (← e, eq-eqb o.code 0 z, q)
-
-    pub snapshot-refused : (a.code ≡ 0 → ⊥) → record { answer = a; snapshot = snapshot } ≡ completing s order snapshot stage
-    snapshot-refused n = refusing a then-answer n
-
-    pub completed-so : (after : Snapshot) → a.code ≡ 0 → after.marks ≡ through s snapshot.marks stage snapshot.marks order
-        → record { answer = a; snapshot = after } ≡ completing s order snapshot stage
-    unfolding completing
-    completed-so after n g =
-        let y : after ≡ record { marks = through s snapshot.marks stage snapshot.marks order } = ap (λ (m : List Bool). record { marks = m }) g in
-        rw (← then-answer, eq-eqb a.code 0 n, ← y)

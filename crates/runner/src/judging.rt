@@ -1,104 +1,57 @@
 // What is refused before a rule has its turn: 20 to 26, 29 and 27 of the book, the stage and the order, 28 and 30 of the snapshot.
-ghost use Rattle.std.specs.Prelude.{◌≡◌, ◌<◌};
+ghost use Rattle.std.specs.Prelude.{◌≡◌, ◌<◌, IfOk};
 ghost use Rattle.paper.specs.Limits.{max_marks};
-ghost use Rattle.judge.specs.Head.{Begun};
+ghost use Rattle.paper.specs.Refusals.{answered};
+ghost use Rattle.judge.specs.Head.{told};
 ghost use Rattle.runner.specs.Completing.{order_answer, any_from, snapshot_answer};
+ghost use Rattle.runner.specs.Ordered.{OrderedWith};
 
 use book::Counts;
-use book::header::counts_at;
-use judge::image::judge_head;
 use judge::judge_book;
 use ordering::fit::order_fits;
-use paper::{
-    Answer, MARK_ABOVE, MAX_CONDITIONS, MAX_MARKS, NO_SUCH_STAGE, ORDER_UNFIT, STAGE_CLOSED,
-};
-use texts::references::MARK_WORDS;
-use unwritten::written::RULE_WORDS;
+use paper::{MAX_MARKS, Refusal};
+use unwritten::Scratch;
 
-// 23 to 26, 29 and 27, behind a head that passed.
-fn judge_order_in(
-    book: &[u8],
-    counts: Counts,
-    order: &[u32],
-    stage: u32,
-    targeted: &mut [u32; MAX_MARKS],
-    waits: &mut [u64; MARK_WORDS],
-    written: &mut [u64; RULE_WORDS],
-    free: &mut [u32; MAX_CONDITIONS],
-) -> Answer
-    requires { Begun book.now counts }
-    ensures { result ≡ order_answer book.now order.now stage }
+// 20 to 26, 29 and 27, or the counts of a book that passes, has the stage, and with which the order is fit.
+pub fn judge_order(book: &[u8], order: &[u32], stage: u32) -> Result<Counts, Refusal>
+    ensures answer { told result ≡ order_answer book.now order.now stage }
+    ensures ordered { IfOk result (λ counts. OrderedWith book.now order.now stage counts) }
 {
-    let answer = judge_book(book, counts, targeted, waits, written, free);
-    if answer.code != 0 {
-        return answer;
-    }
+    let mut scratch = Scratch::empty();
+    let counts = judge_book(book, &mut scratch)?;
     if counts.stages <= stage {
-        return paper::refused(NO_SUCH_STAGE, 0, 0);
+        return Err(Refusal::NoSuchStage);
     }
     let rules = counts.rules as usize;
-    if order_fits(book, rules, stage, targeted, waits, written, free, order) {
-        return paper::granted();
+    if !order_fits(book, rules, stage, &mut scratch, order) {
+        return Err(Refusal::OrderUnfit);
     }
-    paper::refused(ORDER_UNFIT, 0, 0)
-}
-
-// The arrays that a book and an order are judged in.
-fn judge_order_of(book: &[u8], counts: Counts, order: &[u32], stage: u32) -> Answer
-    requires { Begun book.now counts }
-    ensures { result ≡ order_answer book.now order.now stage }
-{
-    let mut targeted = [0u32; MAX_MARKS];
-    let mut waits = [0u64; MARK_WORDS];
-    let mut written = [0u64; RULE_WORDS];
-    let mut free = [0u32; MAX_CONDITIONS];
-    judge_order_in(
-        book,
-        counts,
-        order,
-        stage,
-        &mut targeted,
-        &mut waits,
-        &mut written,
-        &mut free,
-    )
-}
-
-// 20 to 26, 29 and 27.
-pub fn judge_order(book: &[u8], order: &[u32], stage: u32) -> Answer
-    ensures { result ≡ order_answer book.now order.now stage }
-{
-    let judged = judge_head(book);
-    if judged.code != 0 {
-        return judged;
-    }
-    judge_order_of(book, counts_at(book), order, stage)
+    Ok(counts)
 }
 
 // Whether a mark from m on is yes.
 pub fn any_from(marks: &[bool; MAX_MARKS], m: usize) -> bool
     ensures { result ≡ any_from m marks.now }
 {
-    let mut x = m;
-    while x < MAX_MARKS {
+    for x in m..MAX_MARKS {
         if marks[x] {
             return true;
         }
-        x += 1;
     }
     false
 }
 
 // 28 and 30, of a stage that the book has.
-pub fn judge_snapshot(marks: &[bool; MAX_MARKS], most: u32, stage: u32) -> Answer
+#[tactic(auto, unfolding(crate::specs::Completing::snapshot_answer))]
+pub fn judge_snapshot(marks: &[bool; MAX_MARKS], most: u32, stage: u32) -> Result<(), Refusal>
     requires { stage < max_marks }
-    ensures { result ≡ snapshot_answer most marks.now stage }
+    ensures { answered result ≡ snapshot_answer most marks.now stage }
 {
     if any_from(marks, most as usize) {
-        return paper::refused(MARK_ABOVE, 0, 0);
+        return Err(Refusal::MarkAbove);
     }
     if !marks[stage as usize] {
-        return paper::refused(STAGE_CLOSED, 0, 0);
+        return Err(Refusal::StageClosed);
     }
-    paper::granted()
+    Ok(())
 }

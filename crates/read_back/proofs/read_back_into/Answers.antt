@@ -1,33 +1,29 @@
 -- Each return by its law, and what the calls ask for. Assumes nothing.
 use Rattle.std.specs.Prelude.{not}
-use Rattle.std.proofs.Common.{ap}
-use Rattle.read_back.specs.Flat.{ReadBack}
-use Rattle.read_back.proofs.Returns.{back-judged, back-headed, back-uneven, back-opened, back-roles, back-foreign, back-granted}
+use Rattle.std.proofs.Common.{◌≡◌, ap, ◌∙◌, refl}
+use Rattle.flat_chart.specs.Flat.{FlatChart}
+use Rattle.flat_chart.specs.Numbers.{flat_of}
+use Rattle.derived_same.specs.Same.{without_roles}
+use Rattle.judge.proofs.Returns.{some-code}
+use Rattle.read_back.specs.Written.{written_for}
+use Rattle.read_back.proofs.Returns.{back-judged, back-uneven, back-roles, back-foreign, back-granted}
 use Rattle.read_back.proofs.read_back_into.Goals as goal
 
-pub returns-then-judged-ne0 : goal.returns-then-judged-ne0
-returns-then-judged-ne0 c = back-judged _ _ c.judge_whole-judged.ensures c.if-judged-ne0.true _ c.refuse.ensures
+pub returns-in-Err : goal.returns-in-Err
+returns-in-Err c = back-judged _ _ c.in-Err.ensures.answer (some-code _) _ c.refuse.ensures
 
-pub counts_at-h-requires : goal.counts_at-h-requires
-counts_at-h-requires c = back-headed _ _ c.judge_whole-judged.ensures c.if-judged-ne0.false
-
-pub returns-then-h : goal.returns-then-h
-returns-then-h c =
-    back-uneven _ _ c.judge_whole-judged.ensures c.if-judged-ne0.false _ c.counts_at-h.ensures c.if-h.true _ c.refused-foreign.ensures _ c.refuse-then-h.ensures
-
-pub gather_into-requires : goal.gather_into-requires
-gather_into-requires c =
-    let o = back-opened _ _ c.judge_whole-judged.ensures c.if-judged-ne0.false _ c.counts_at-h.ensures c.if-h.false in
-    (o.0, o.1, ap (λ (r : ReadBack). r.chart) c.requires)
+pub returns-then-counts : goal.returns-then-counts
+returns-then-counts c = back-uneven _ _ c.in-Ok.ensures.answer refl _ c.in-Ok.ensures.passes.counts c.if-counts.true _ refl _ c.refuse-then-counts.ensures
 
 pub written_for-requires : goal.written_for-requires
-written_for-requires c = back-roles c.args.book.now _ c.judge_whole-judged.ensures c.if-judged-ne0.false _ c.gather_into.ensures
+written_for-requires c = ap (λ (d : FlatChart). d.roles) c.lend.ensures ∙ back-roles c.args.book.now _ c.in-Ok.ensures.answer refl _ c.gather_into.ensures
 
 pub returns-then-not-written_for : goal.returns-then-not-written_for
 returns-then-not-written_for c =
-    back-foreign _ _ c.judge_whole-judged.ensures c.if-judged-ne0.false _ c.gather_into.ensures _ c.written_for.ensures
-    (ap not c.if-not-written_for.true) _ c.refused-foreign.ensures _ c.refuse-then-not-written_for.ensures
+    let w = c.written_for.ensures ∙ ap (λ (d : FlatChart). written_for (without_roles d) c.args.book.now) c.lend.ensures in
+    back-foreign _ _ c.in-Ok.ensures.answer refl _ c.gather_into.ensures _ w (ap not c.if-not-written_for.true) _ refl _ c.refuse-then-not-written_for.ensures
 
 pub returns : goal.returns
 returns c =
-    back-granted _ _ c.judge_whole-judged.ensures c.if-judged-ne0.false _ c.gather_into.ensures _ c.written_for.ensures (ap not c.if-not-written_for.false)
+    let w = c.written_for.ensures ∙ ap (λ (d : FlatChart). written_for (without_roles d) c.args.book.now) c.lend.ensures in
+    rw c.granted-out.ensures (back-granted _ _ c.in-Ok.ensures.answer refl _ c.gather_into.ensures _ w (ap not c.if-not-written_for.false))
