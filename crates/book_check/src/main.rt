@@ -26,10 +26,6 @@ const INPUT: usize = STAGE
     + WORD_SIZE * MAX_WORDS
     + 1;
 
-fn wide(n: u32) -> u64 {
-    n as u64
-}
-
 // The first numbers of the room, which are the running order, behind the word `order`.
 fn order_line(
     rt: &impl Print,
@@ -43,10 +39,8 @@ fn order_line(
     ensures err { OnErr result (Full (6 + 21 * rules) at buffer.old buffer.new) }
 {
     let mut next = printing::text(rt, buffer, at, b"order")?;
-    let mut i = 0;
-    while i < rules {
-        next = printing::named(rt, buffer, next, b" ", wide(order[i]))?;
-        i += 1;
+    for number in &order[..rules] {
+        next = printing::named(rt, buffer, next, b" ", u64::from(*number))?;
     }
     printing::text(rt, buffer, next, b"\n")
 }

@@ -11,7 +11,7 @@ ghost use Rattle.condition_lines.specs.Text.{word_text, condition_line};
 ghost use Rattle.condition_lines.specs.Writers.{condition_line_at, ConditionsIn};
 
 use book::Counts;
-use book::reader::condition_in;
+use book::reader::BookReader;
 use paper::{AND, NOT, OR, WORD_SIZE};
 
 // The three operators by name, a mark by its number.
@@ -33,14 +33,9 @@ fn words_text(room: &mut [u8], at: usize, image: &[u8], from: usize, count: u32)
     ensures { Wrote room.old at (packed word_text (words_from image.now from count)) result room.new }
 {
     let mut next = at;
-    let mut i: u32 = 0;
-    while i < count {
-        next = word_text(
-            room,
-            next,
-            wire::u16_at(image, from + WORD_SIZE * i as usize),
-        );
-        i += 1;
+    for i in 0..count {
+        let word = wire::u16_at(image, from + WORD_SIZE * i as usize);
+        next = word_text(room, next, word);
     }
     next
 }
@@ -68,12 +63,10 @@ pub fn condition_lines(room: &mut [u8], at: usize, image: &[u8], h: Counts) -> u
 {
     let words = book::header::words_from(h.rules, h.conditions);
     let mut next = at;
-    let mut c: u32 = 0;
-    while c < h.conditions {
-        let text = condition_in(image, h, c as usize);
+    for c in 0..h.conditions {
+        let text = BookReader { image, counts: h }.condition(c as usize);
         let from = words + WORD_SIZE * text.start as usize;
         next = condition_line(room, next, image, c, from, text.count);
-        c += 1;
     }
     next
 }

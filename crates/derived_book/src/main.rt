@@ -54,25 +54,12 @@ fn derive(chart: FlatChart, room: &mut [u8]) -> Derived
     Derived { answer, bytes }
 }
 
-fn write_first(rt: &impl Print, room: &[u8], n: usize) -> std::io::Result<()>
-    requires { n ≤ length room.now }
-{
-    rt.write_all(&room[..n])
-}
-
-fn refused(rt: &impl Print, answer: Answer) -> std::io::Result<()> {
-    let mut buffer = [0u8; printing::ROOM];
-    let at = printing::answer(rt, &mut buffer, 0, b"refused", answer)?;
-    printing::finish(rt, buffer, at)
-}
-
 fn write_book(rt: &impl Print, chart: FlatChart, room: &mut [u8; BOOK]) -> std::io::Result<()> {
     let derived = derive(chart, room);
-    let answer = derived.answer;
-    if answer.code != 0 {
-        return refused(rt, answer);
+    if derived.answer.code != 0 {
+        return printing::refused(rt, derived.answer);
     }
-    write_first(rt, room, derived.bytes)
+    rt.write_all(&room[..derived.bytes])
 }
 
 // A read or a write that fails ends the program with its error.
@@ -80,9 +67,8 @@ fn main(rt: HostRuntime) -> std::io::Result<()> {
     let mut input = [0u8; INPUT];
     let n = printing::read_full(&mut rt.stdin(), &mut input)?;
     let reading = chart::read(&input[..n]);
-    let answer = reading.answer;
-    if answer.code != 0 {
-        return refused(&rt, answer);
+    if reading.answer.code != 0 {
+        return printing::refused(&rt, reading.answer);
     }
     let mut room = [0u8; BOOK];
     write_book(&rt, reading.chart, &mut room)

@@ -56,12 +56,10 @@ fn image_text(room: &mut [u8], image: &[u8]) -> usize
     ensures { Wrote room.old 0 (image_text image.now) result room.new }
 {
     let reading = chart::read(image);
-    let answer = reading.answer;
-    if answer.code != 0 {
-        return single_lines::refusal_line(room, answer);
+    if reading.answer.code != 0 {
+        return single_lines::refusal_line(room, reading.answer);
     }
-    let chart = reading.chart;
-    chart_text(room, chart)
+    chart_text(room, reading.chart)
 }
 
 // The listing of a chart from the start of the room, and its length in bytes, which is never 0.

@@ -66,12 +66,6 @@ fn mend_both(image: &[u8], chart: &mut [u8], list: &mut [u8]) -> Written
     }
 }
 
-fn write_first(rt: &impl Print, room: &[u8], n: usize) -> std::io::Result<()>
-    requires { n ≤ length room.now }
-{
-    rt.write_all(&room[..n])
-}
-
 fn print_line(rt: &impl Print, answer: Answer, entries: u32) -> std::io::Result<()> {
     let mut buffer = [0u8; printing::ROOM];
     let a = printing::text(rt, &mut buffer, 0, b"mended")?;
@@ -91,6 +85,6 @@ fn main(rt: HostRuntime) -> std::io::Result<()> {
     let mut list = [0u8; LIST];
     let written = mend_both(&input[..n], &mut chart, &mut list);
     print_line(&rt, written.answer, written.entries)?;
-    write_first(&rt, &chart, written.chart)?;
-    write_first(&rt, &list, written.list)
+    rt.write_all(&chart[..written.chart])?;
+    rt.write_all(&list[..written.list])
 }

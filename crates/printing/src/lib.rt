@@ -57,10 +57,8 @@ pub fn text(rt: &impl Print, buffer: &mut [u8; ROOM], at: usize, s: &[u8]) -> st
     ensures err { OnErr result (Full (length s.now) at buffer.old buffer.new) }
 {
     let mut next = at;
-    let mut i = 0;
-    while i < s.len() {
-        next = byte(rt, buffer, next, s[i])?;
-        i += 1;
+    for b in s {
+        next = byte(rt, buffer, next, *b)?;
     }
     Ok(next)
 }
@@ -102,6 +100,13 @@ pub fn answer(
     let d = named(rt, buffer, c, b" ", a.place as u64)?;
     let e = named(rt, buffer, d, b" ", a.other as u64)?;
     text(rt, buffer, e, b"\n")
+}
+
+// Writes the line of a refusal, where nothing else is printed.
+pub fn refused(rt: &impl Print, a: Answer) -> std::io::Result<()> {
+    let mut buffer = [0u8; ROOM];
+    let at = answer(rt, &mut buffer, 0, b"refused", a)?;
+    finish(rt, buffer, at)
 }
 
 // The line of a book's five counts.

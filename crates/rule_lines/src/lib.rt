@@ -9,7 +9,7 @@ ghost use Rattle.writing.specs.Writers.{Space};
 ghost use Rattle.rule_lines.specs.Text.{trigger_text, sense_text, effect_text, rule_line};
 ghost use Rattle.rule_lines.specs.Writers.{rule_line_at};
 
-use book::reader::rule_in;
+use book::reader::BookReader;
 use book::{Counts, Rule, Sense, Trigger};
 
 // A derived book's rules wait for a completion or for nothing.
@@ -18,10 +18,8 @@ fn trigger_text(room: &mut [u8], at: usize, trigger: Trigger) -> usize
     ensures { Wrote room.old at (trigger_text trigger) result room.new }
 {
     match trigger {
-        Trigger::None => at,
         Trigger::Completed(e) => writing::named(room, at, b" on ", e as u32),
-        Trigger::BecomeYes(_) => at,
-        Trigger::BecomeNo(_) => at,
+        Trigger::None | Trigger::BecomeYes(_) | Trigger::BecomeNo(_) => at,
     }
 }
 
@@ -41,9 +39,10 @@ fn effect_text(room: &mut [u8], at: usize, effect: bool, target: u16) -> usize
     ensures { Wrote room.old at (effect_text effect target) result room.new }
 {
     if effect {
-        return writing::named(room, at, b" set ", target as u32);
+        writing::named(room, at, b" set ", target as u32)
+    } else {
+        writing::named(room, at, b" clear ", target as u32)
     }
-    writing::named(room, at, b" clear ", target as u32)
 }
 
 fn rule_line(room: &mut [u8], at: usize, i: u32, rule: Rule) -> usize
@@ -51,10 +50,8 @@ fn rule_line(room: &mut [u8], at: usize, i: u32, rule: Rule) -> usize
     ensures { Wrote room.old at (rule_line i rule) result room.new }
 {
     let a = writing::number(room, at, i);
-    let trigger = rule.trigger;
-    let sense = rule.sense;
-    let b = trigger_text(room, a, trigger);
-    let c = sense_text(room, b, sense);
+    let b = trigger_text(room, a, rule.trigger);
+    let c = sense_text(room, b, rule.sense);
     let d = effect_text(room, c, rule.effect, rule.target);
     writing::text(room, d, b"\n")
 }
@@ -64,10 +61,9 @@ pub fn rule_lines(room: &mut [u8], at: usize, image: &[u8], h: Counts) -> usize
     ensures { Wrote room.old at (flat h.rules (rule_line_at image.now)) result room.new }
 {
     let mut next = at;
-    let mut i: u32 = 0;
-    while i < h.rules {
-        next = rule_line(room, next, i, rule_in(image, h, i as usize));
-        i += 1;
+    for i in 0..h.rules {
+        let rule = BookReader { image, counts: h }.rule(i as usize);
+        next = rule_line(room, next, i, rule);
     }
     next
 }

@@ -1,10 +1,12 @@
 -- What each writer leaves behind, in the form in which the code meets it, and runs behind runs. Assumes nothing.
-use Rattle.std.specs.Prelude.{ℕ, zero, suc, ◌+◌, ◌/◌, ◌%◌, ◌≤◌, ◌<◌, ◌≡◌, refl, ltb, length, set, get_or, drop}
-use Rattle.std.proofs.Common.{sym, ◌∙◌, add-suc, add-zero, add-one, arith, drop-cons, lt-ltb, le-ltb, ltb-false}
+use Rattle.std.specs.Prelude.{ℕ, zero, suc, ◌+◌, ◌/◌, ◌%◌, ◌≤◌, ◌<◌, ◌≡◌, refl, ltb, length}
+use Rattle.std.proofs.Common.{sym, ◌∙◌, arith, lt-ltb, le-ltb, ltb-false}
 use Rattle.std.proofs.Math.Path.{ap}
 use mathlib.Core.List.{List, [], ◌∷◌, ◌++◌}
-use Rattle.std.proofs.lemmas.List.Edits.{sets}
-use Rattle.std.proofs.Math.Seq.{length-sets, drop-length}
+use Rattle.std.proofs.lemmas.List.Edits.{sets-eq}
+use Rattle.std.proofs.Math.Seq.{take-length}
+use Rattle.std.proofs.lemmas.Slice.{put_mid-paste}
+use borrow.Rule.Slice.PartMut.{put_mid}
 use Rattle.general.specs.Cases.{cases}
 use Rattle.general.specs.Lists.{flat, packed}
 use Rattle.general.specs.Writing.{Fits, Wrote, then, fits-first, fits-then}
@@ -15,31 +17,14 @@ use Rattle.writing.specs.Text.{digit, decimal_in, decimal}
 pub record Space (room : List ℕ) (at : ℕ) (text : List ℕ) : Type 0 where
   pub fits : Fits room at text
 
--- ---- a text, byte by byte: what is left of it, written from here, gives what the whole gives from the start
+-- ---- a text copied into the room
 
-module _ (room₀ : List ℕ) (at : ℕ) (s : List ℕ) where
-  pub record Copied (i : ℕ) (room : List ℕ) : Type 0 where
-    pub few : i ≤ length s
-    pub holds : sets room (at + i) (drop i s) ≡ sets room₀ at s
-
-  pub copied-start : Copied 0 room₀
-  copied-start = record { few = omega arith; holds = rw (add-zero at) }
-
-  module _ (i : ℕ) (room : List ℕ) (inv : Copied i room) where
-    pub copied-length : length room ≡ length room₀
-    copied-length = sym (length-sets room (at + i) (drop i s)) ∙ ap length inv.holds ∙ length-sets room₀ at s
-
-    pub copied-place : Space room₀ at s → i < length s → at + i < length room
-    copied-place f h = let l : length room ≡ length room₀ = copied-length in omega arith
-
-    pub copied_more : i < length s → Copied (i + 1) (set room (at + i) (get_or s i 0))
-    copied_more h = record { few = omega arith; holds = rw (add-one i, add-suc at i) (rw (drop-cons s i 0 h) at inv.holds) }
-
-    pub copied-done : length s ≤ i → Wrote room₀ at s (at + length s) room
-    copied-done h =
-        let l : i ≤ length s = inv.few in
-        let e : i ≡ length s = omega arith in
-        record { place = refl; holds = rw (e, drop-length s) at inv.holds }
+pub copied : (room s after : List ℕ) (at k : ℕ) → Space room at s → k ≡ length s → after ≡ s → Wrote room at s (at + length s) (put_mid at k room after)
+copied room s after at k f e c =
+    record {
+      place = refl;
+      holds = put_mid-paste at k room after s (length s) c (sym e) refl ∙ rw take-length (sym (sets-eq s room at f.fits));
+    }
 
 -- ---- a number, digit behind digit
 

@@ -18,12 +18,9 @@ pub fn text(room: &mut [u8], at: usize, s: &[u8]) -> usize
     requires { Space room.old at s.now }
     ensures { Wrote room.old at s.now result room.new }
 {
-    let mut i = 0;
-    while i < s.len() {
-        room[at + i] = s[i];
-        i += 1;
-    }
-    at + s.len()
+    let next = at + s.len();
+    room[at..next].copy_from_slice(s);
+    next
 }
 
 // A number in decimal.
@@ -32,10 +29,11 @@ pub fn number(room: &mut [u8], at: usize, n: u32) -> usize
     ensures { Wrote room.old at (decimal n) result room.new }
 {
     if n < 10 {
-        return byte(room, at, 48 + n as u8);
+        byte(room, at, b'0' + n as u8)
+    } else {
+        let next = number(room, at, n / 10);
+        byte(room, next, b'0' + (n % 10) as u8)
     }
-    let next = number(room, at, n / 10);
-    byte(room, next, 48 + (n % 10) as u8)
 }
 
 // A word, and a number behind it.

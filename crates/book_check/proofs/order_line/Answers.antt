@@ -8,11 +8,11 @@ returns-in_err-next-clause-err g c = on-err c.from_residual.result (full-more c.
 
 pub returns-in_err-next-2-clause-err : goal.returns-in_err-next-2-clause-err
 returns-in_err-next-2-clause-err g c =
-    on-err c.from_residual-in_err-next-2.result (full-more (full-then c.loop-i.invariant.2 c.in_err-next-2.ensures.err) (omega (arith, c.loop-i-test.true)))
+    on-err c.from_residual-in_err-next-2.result (full-more (full-then c.loop-number.invariant.1 c.in_err-next-2.ensures.err) (omega arith))
 
-pub loop-i-preserved : goal.loop-i-preserved
-loop-i-preserved g c =
-    (c.in_ok-next-2.ensures.ok, omega (arith, c.loop-i-test.true), put-more (put-then c.loop-i.invariant.2 c.in_ok-next-2.ensures.put) (omega arith))
+pub loop-number-preserved : goal.loop-number-preserved
+loop-number-preserved g c =
+    (c.in_ok-next-2.ensures.ok, put-more (put-then c.loop-number.invariant.1 c.in_ok-next-2.ensures.put) (omega arith))
 
 pub returns-clause-err : goal.returns-clause-err
-returns-clause-err g c = full-last-call _ _ _ c.text-2.result c.loop-i.invariant.2 (omega (arith, c.loop-i.invariant.1)) c.text-2.ensures.err
+returns-clause-err g c = full-last-call _ _ _ c.text-2.result c.loop-number.invariant.1 (omega arith) c.text-2.ensures.err
