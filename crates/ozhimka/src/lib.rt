@@ -26,6 +26,7 @@ ghost use Rattle.mend.specs.Calling.{mending, mended_room, changes_room};
 use book::Snapshot;
 use chart::Reading;
 use deriver::Matched;
+use flat_chart::LentChart;
 use graph::Marking;
 use graph::steps::{Finished, OpenCount, OpenTest, Step};
 use indexed::IndexedCompletion;
@@ -62,9 +63,16 @@ pub extern "C" fn ozhimka_execute_in<'a>(
 ) -> Step
     ensures { step_of result ≡ executing (chart_of count (rows_of conditions.now) (rows_of responses.now) (rows_of milestones.now) (rows_of includes.now) (rows_of excludes.now) roles.now) (marks_of marking) event role }
 {
-    marking.execute_in(
-        count, conditions, responses, milestones, includes, excludes, roles, event, role,
-    )
+    let chart = LentChart {
+        count,
+        conditions,
+        responses,
+        milestones,
+        includes,
+        excludes,
+        roles,
+    };
+    marking.execute_in(chart, event, role)
 }
 
 #[unsafe(no_mangle)]
@@ -81,9 +89,16 @@ pub extern "C" fn ozhimka_open_test_in<'a>(
 ) -> OpenTest
     ensures { test_of result ≡ opening (chart_of count (rows_of conditions.now) (rows_of responses.now) (rows_of milestones.now) (rows_of includes.now) (rows_of excludes.now) roles.now) (marks_of marking) tested }
 {
-    marking.open_test_in(
-        count, conditions, responses, milestones, includes, excludes, roles, tested,
-    )
+    let chart = LentChart {
+        count,
+        conditions,
+        responses,
+        milestones,
+        includes,
+        excludes,
+        roles,
+    };
+    marking.open_test_in(chart, tested)
 }
 
 #[unsafe(no_mangle)]
@@ -99,9 +114,16 @@ pub extern "C" fn ozhimka_count_open_in<'a>(
 ) -> OpenCount
     ensures { result ≡ counting (chart_of count (rows_of conditions.now) (rows_of responses.now) (rows_of milestones.now) (rows_of includes.now) (rows_of excludes.now) roles.now) (marks_of marking) }
 {
-    marking.count_in(
-        count, conditions, responses, milestones, includes, excludes, roles,
-    )
+    let chart = LentChart {
+        count,
+        conditions,
+        responses,
+        milestones,
+        includes,
+        excludes,
+        roles,
+    };
+    marking.count_in(chart)
 }
 
 #[unsafe(no_mangle)]
@@ -117,9 +139,16 @@ pub extern "C" fn ozhimka_finished_in<'a>(
 ) -> Finished
     ensures { result ≡ finishing (chart_of count (rows_of conditions.now) (rows_of responses.now) (rows_of milestones.now) (rows_of includes.now) (rows_of excludes.now) roles.now) (marks_of marking) }
 {
-    marking.finished_in(
-        count, conditions, responses, milestones, includes, excludes, roles,
-    )
+    let chart = LentChart {
+        count,
+        conditions,
+        responses,
+        milestones,
+        includes,
+        excludes,
+        roles,
+    };
+    marking.finished_in(chart)
 }
 
 #[unsafe(no_mangle)]
@@ -135,9 +164,16 @@ pub extern "C" fn ozhimka_matching_in<'a>(
 ) -> Matched
     ensures { result ≡ matching_of (chart_of count (rows_of conditions.now) (rows_of responses.now) (rows_of milestones.now) (rows_of includes.now) (rows_of excludes.now) roles.now) (marks_of marking) }
 {
-    deriver::marks::matching_in(
-        marking, count, conditions, responses, milestones, includes, excludes, roles,
-    )
+    let chart = LentChart {
+        count,
+        conditions,
+        responses,
+        milestones,
+        includes,
+        excludes,
+        roles,
+    };
+    deriver::marks::matching_in(marking, chart)
 }
 
 #[unsafe(no_mangle)]
@@ -153,9 +189,16 @@ pub extern "C" fn ozhimka_derive_in<'a>(
 ) -> Answer
     ensures { (result ≡ deriving_answer (chart_of count (rows_of conditions.now) (rows_of responses.now) (rows_of milestones.now) (rows_of includes.now) (rows_of excludes.now) roles.now) (length room.old)) × (room.new ≡ derived_room (chart_of count (rows_of conditions.now) (rows_of responses.now) (rows_of milestones.now) (rows_of includes.now) (rows_of excludes.now) roles.now) room.old) }
 {
-    deriver::derive_in(
-        count, conditions, responses, milestones, includes, excludes, roles, room,
-    )
+    let chart = LentChart {
+        count,
+        conditions,
+        responses,
+        milestones,
+        includes,
+        excludes,
+        roles,
+    };
+    deriver::derive_in(chart, room)
 }
 
 #[unsafe(no_mangle)]
@@ -172,9 +215,16 @@ pub extern "C" fn ozhimka_derive_smaller_in<'a>(
 ) -> Smaller
     ensures { (result ≡ deriving_smaller (chart_of count (rows_of conditions.now) (rows_of responses.now) (rows_of milestones.now) (rows_of includes.now) (rows_of excludes.now) roles.now) (marks_of start) (length room.old)) × (room.new ≡ smaller_room (chart_of count (rows_of conditions.now) (rows_of responses.now) (rows_of milestones.now) (rows_of includes.now) (rows_of excludes.now) roles.now) (marks_of start) room.old) }
 {
-    smaller_deriver::derive_smaller_in(
-        start, count, conditions, responses, milestones, includes, excludes, roles, room,
-    )
+    let chart = LentChart {
+        count,
+        conditions,
+        responses,
+        milestones,
+        includes,
+        excludes,
+        roles,
+    };
+    smaller_deriver::derive_smaller_in(start, chart, room)
 }
 
 // The record is event and role in turn.
@@ -192,9 +242,16 @@ pub extern "C" fn ozhimka_replay_in<'a>(
 ) -> Replayed
     ensures { replayed_of result ≡ replaying (chart_of count (rows_of conditions.now) (rows_of responses.now) (rows_of milestones.now) (rows_of includes.now) (rows_of excludes.now) roles.now) (marks_of start) recorded.now }
 {
-    replay::replay_in(
-        count, conditions, responses, milestones, includes, excludes, roles, start, recorded,
-    )
+    let chart = LentChart {
+        count,
+        conditions,
+        responses,
+        milestones,
+        includes,
+        excludes,
+        roles,
+    };
+    replay::replay_in(chart, start, recorded)
 }
 
 #[unsafe(no_mangle)]
@@ -212,10 +269,16 @@ pub extern "C" fn ozhimka_strike_in<'a>(
 ) -> Struck
     ensures { struck_of result ≡ striking (chart_of count (rows_of conditions.now) (rows_of responses.now) (rows_of milestones.now) (rows_of includes.now) (rows_of excludes.now) roles.now) (marks_of start) recorded.now position }
 {
-    replay::strike_in(
-        count, conditions, responses, milestones, includes, excludes, roles, start, recorded,
-        position,
-    )
+    let chart = LentChart {
+        count,
+        conditions,
+        responses,
+        milestones,
+        includes,
+        excludes,
+        roles,
+    };
+    replay::strike_in(chart, start, recorded, position)
 }
 
 #[unsafe(no_mangle)]
