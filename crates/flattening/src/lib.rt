@@ -2,11 +2,12 @@
 // and the groups above it; and the roles that it takes from them.
 #![tactic(auto)]
 
-ghost use Rattle.std.specs.Prelude.{◌≡◌, ◌≤◌, ◌<◌};
-ghost use Rattle.paper.specs.Limits.{max_nodes};
+ghost use Rattle.std.specs.Prelude.{◌≡◌, ℕ, ◌+◌, ◌≤◌, ◌<◌, length, get_or};
+ghost use Rattle.paper.specs.Limits.{max_nodes, max_events, node_size};
 ghost use Rattle.sets.specs.Set.{union};
 ghost use Rattle.wide.specs.Number.{number};
-ghost use Rattle.flattening.specs.Rows.{node_rows, Empty, take_in};
+ghost use Rattle.records.specs.Image.{node_at};
+ghost use Rattle.flattening.specs.Rows.{node_rows, Empty, take_in, flagged_by};
 ghost use Rattle.flattening.specs.Order.{Ordered};
 ghost use Rattle.flattening.specs.Meaning.{Ground};
 
@@ -69,14 +70,26 @@ fn add_roles(roles: u8, own: u8) -> u8
     roles | own
 }
 
+// The events whose flags have a digit, of nodes that lie within the bytes, whatever the header says.
+pub fn flagged(image: &[u8], nodes: &[usize; MAX_EVENTS], events: usize, digit: usize) -> Set
+    requires { (events ≤ max_events) × ((e : ℕ) → e < events → node_at (get_or nodes.now e 0) + node_size ≤ length image.now) }
+    ensures { number result ≡ flagged_by image.now nodes.now digit events }
+{
+    let mut set = wide::empty();
+    for e in 0..events {
+        let flags = records::flags_of(image, nodes[e]) as u64;
+        set = wide::put_if(set, e, sets::member(flags, digit));
+    }
+    set
+}
+
 impl<'a> Layout<'a> {
-    ghost use Rattle.std.specs.Prelude.{length, get_or, replicate};
-    ghost use Rattle.paper.specs.Limits.{max_events};
+    ghost use Rattle.std.specs.Prelude.{replicate};
     ghost use Rattle.sets.specs.Set.{only};
     ghost use Rattle.wide.specs.Number.{rows_of};
     ghost use Rattle.records.specs.Image.{parent_of};
     ghost use Rattle.flattening.specs.Flattening.{kind_number, flat_table, role_table};
-    ghost use Rattle.flattening.specs.Rows.{Entered, Members, add_to, Gathered, in_row, with_parent, Has, Handed, Between, names_role, Flat, flagged_by};
+    ghost use Rattle.flattening.specs.Rows.{Entered, Members, add_to, Gathered, in_row, with_parent, Has, Handed, Between, names_role, Flat};
     ghost use Rattle.flattening.specs.Kinds.{kind_of_code};
 
     // ---- the events at or below each node
@@ -254,11 +267,6 @@ impl<'a> Layout<'a> {
     pub fn flagged(self, digit: usize) -> Set
         ensures { number result ≡ flagged_by self.entry.image.bytes.now self.entry.nodes.now digit self.entry.events }
     {
-        let mut set = wide::empty();
-        for e in 0..self.events {
-            let flags = self.image.flags_of(self.nodes[e]) as u64;
-            set = wide::put_if(set, e, sets::member(flags, digit));
-        }
-        set
+        flagged(self.image.bytes, self.nodes, self.events, digit)
     }
 }

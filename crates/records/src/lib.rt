@@ -1,9 +1,9 @@
 // The chart image's fields, and the tests of its header and of its records.
 #![tactic(auto)]
 
-ghost use Rattle.std.specs.Prelude.{◌≡◌, ◌≤◌, ◌<◌, length};
-ghost use Rattle.paper.specs.Limits.{max_nodes, max_relations, chart_header, flags_byte};
-ghost use Rattle.records.specs.Image.{nodes, relations, relation_at, out_of_range, misplaced, Whole};
+ghost use Rattle.std.specs.Prelude.{◌≡◌, ◌+◌, ◌≤◌, ◌<◌, length};
+ghost use Rattle.paper.specs.Limits.{max_nodes, max_relations, chart_header, node_size, flags_byte, relation_size};
+ghost use Rattle.records.specs.Image.{nodes, relations, node_at, parent_of, flags_of, state_of, roles_at, relation_at, from_of, to_of, kind_of, out_of_range, misplaced, Whole};
 
 use paper::{
     CHART_HEADER, FLAGS_BYTE, KINDS, MAX_FLAGS, MAX_NODES, MAX_RELATIONS, NO_PARENT, NODE_SIZE,
@@ -49,6 +49,38 @@ pub fn relation_count(image: &[u8]) -> usize
     wire::u16_at(image, RELATION_COUNT_AT) as usize
 }
 
+// ---- a field of a record that lies within the bytes, whatever the header says
+
+pub fn parent_of(image: &[u8], i: usize) -> u16
+    requires { node_at i + node_size ≤ length image.now }
+    ensures { result ≡ parent_of image.now i }
+{
+    wire::u16_at(image, CHART_HEADER + NODE_SIZE * i)
+}
+
+pub fn flags_of(image: &[u8], i: usize) -> u16
+    requires { node_at i + node_size ≤ length image.now }
+    ensures { result ≡ flags_of image.now i }
+{
+    wire::u16_at(image, CHART_HEADER + NODE_SIZE * i + FLAGS_AT)
+}
+
+// The lower byte of the flags.
+pub fn state_of(image: &[u8], i: usize) -> u16
+    requires { node_at i + node_size ≤ length image.now }
+    ensures { result ≡ state_of image.now i }
+{
+    flags_of(image, i) % FLAGS_BYTE
+}
+
+// The upper byte of the flags.
+pub fn roles_of(image: &[u8], i: usize) -> u8
+    requires { node_at i + node_size ≤ length image.now }
+    ensures { (result ≡ roles_at image.now i) × (result < flags_byte) }
+{
+    (flags_of(image, i) / FLAGS_BYTE) as u8
+}
+
 // Where relation k stands, behind n nodes.
 fn relation_at(n: usize, k: usize) -> usize
     requires { (n ≤ max_nodes) × (k ≤ max_relations) }
@@ -56,6 +88,29 @@ fn relation_at(n: usize, k: usize) -> usize
 {
     CHART_HEADER + NODE_SIZE * n + RELATION_SIZE * k
 }
+
+pub fn from_of(image: &[u8], n: usize, k: usize) -> u16
+    requires { (n ≡ nodes image.now) × (relation_at n k + relation_size ≤ length image.now) × (n ≤ max_nodes) × (k ≤ max_relations) }
+    ensures { result ≡ from_of image.now k }
+{
+    wire::u16_at(image, relation_at(n, k))
+}
+
+pub fn to_of(image: &[u8], n: usize, k: usize) -> u16
+    requires { (n ≡ nodes image.now) × (relation_at n k + relation_size ≤ length image.now) × (n ≤ max_nodes) × (k ≤ max_relations) }
+    ensures { result ≡ to_of image.now k }
+{
+    wire::u16_at(image, relation_at(n, k) + TO_AT)
+}
+
+pub fn kind_of(image: &[u8], n: usize, k: usize) -> u16
+    requires { (n ≡ nodes image.now) × (relation_at n k + relation_size ≤ length image.now) × (n ≤ max_nodes) × (k ≤ max_relations) }
+    ensures { result ≡ kind_of image.now k }
+{
+    wire::u16_at(image, relation_at(n, k) + KIND_AT)
+}
+
+// ---- the tests of the header
 
 // Whether a count is out of range.
 #[tactic(auto, unfolding(crate::specs::Image::out_of_range))]
@@ -80,22 +135,24 @@ pub fn misplaced(image: &[u8], n: usize, k: usize) -> bool
         || image.len() != relation_at(n, k)
 }
 
+// ---- the records of an image whose header is right
+
 impl<'a> ChartImage<'a> {
     ghost use Rattle.general.specs.Below.{first, found};
-    ghost use Rattle.records.specs.Image.{parent_of, flags_of, state_of, roles_at, from_of, to_of, kind_of, bad_node_at, bad_relation_at};
+    ghost use Rattle.records.specs.Image.{bad_node_at, bad_relation_at};
 
     pub fn parent_of(self, i: usize) -> u16
         requires { i < self.nodes }
         ensures { result ≡ parent_of self.entry.bytes.now i }
     {
-        wire::u16_at(self.bytes, CHART_HEADER + NODE_SIZE * i)
+        parent_of(self.bytes, i)
     }
 
     pub fn flags_of(self, i: usize) -> u16
         requires { i < self.nodes }
         ensures { result ≡ flags_of self.entry.bytes.now i }
     {
-        wire::u16_at(self.bytes, CHART_HEADER + NODE_SIZE * i + FLAGS_AT)
+        flags_of(self.bytes, i)
     }
 
     // The lower byte of the flags.
@@ -103,7 +160,7 @@ impl<'a> ChartImage<'a> {
         requires { i < self.nodes }
         ensures { result ≡ state_of self.entry.bytes.now i }
     {
-        self.flags_of(i) % FLAGS_BYTE
+        state_of(self.bytes, i)
     }
 
     // The upper byte of the flags.
@@ -111,28 +168,28 @@ impl<'a> ChartImage<'a> {
         requires { i < self.nodes }
         ensures { (result ≡ roles_at self.entry.bytes.now i) × (result < flags_byte) }
     {
-        (self.flags_of(i) / FLAGS_BYTE) as u8
+        roles_of(self.bytes, i)
     }
 
     pub fn from_of(self, k: usize) -> u16
         requires { k < self.relations }
         ensures { result ≡ from_of self.entry.bytes.now k }
     {
-        wire::u16_at(self.bytes, relation_at(self.nodes, k))
+        from_of(self.bytes, self.nodes, k)
     }
 
     pub fn to_of(self, k: usize) -> u16
         requires { k < self.relations }
         ensures { result ≡ to_of self.entry.bytes.now k }
     {
-        wire::u16_at(self.bytes, relation_at(self.nodes, k) + TO_AT)
+        to_of(self.bytes, self.nodes, k)
     }
 
     pub fn kind_of(self, k: usize) -> u16
         requires { k < self.relations }
         ensures { result ≡ kind_of self.entry.bytes.now k }
     {
-        wire::u16_at(self.bytes, relation_at(self.nodes, k) + KIND_AT)
+        kind_of(self.bytes, self.nodes, k)
     }
 
     #[tactic(auto, unfolding(crate::specs::Image::bad_node_at))]

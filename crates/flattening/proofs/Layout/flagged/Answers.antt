@@ -1,10 +1,5 @@
-use Rattle.std.proofs.Common.{◌∙◌}
-use Rattle.sets.specs.Collecting.{collect-none}
-use Rattle.flattening.specs.Rows.{flag-more}
+use Rattle.flattening.proofs.Earlier.{flags-in}
 use Rattle.flattening.proofs.Layout.flagged.Goals as goal
 
-pub loop-e-init : goal.loop-e-init
-loop-e-init c = c.empty-set.ensures ∙ collect-none _
-
-pub loop-e-preserved : goal.loop-e-preserved
-loop-e-preserved c = flag-more c.args.self.image.bytes.now c.args.self.nodes.now c.args.digit _ _ _ _ _ c.loop-e.invariant c.flags_of-flags.ensures c.member.ensures c.put_if-set.ensures
+pub flagged-requires : goal.flagged-requires
+flagged-requires c = (c.args.self.known.few, flags-in c.args.self.known)
