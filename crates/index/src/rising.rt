@@ -15,7 +15,6 @@ use book::header::words_from;
 use book::reader::condition_in;
 use book::rules::{CONDITION_AT, NUMBER_AT, SENSE_AS_WRITTEN, SENSE_AT, TRIGGER_BECOME_YES};
 use paper::{BOOK_HEADER, MAX_CONDITIONS, MAX_MARKS, RULE_SIZE, WORD_SIZE};
-use unwritten::Scratch;
 use unwritten::waiting::target_of;
 
 // For each mark how many rules there are up to the last that targets it, 0 where none does. One pass over the rules.
@@ -110,16 +109,21 @@ fn text_ascends(image: &[u8], r: usize, asked: &[u32; MAX_CONDITIONS]) -> bool
     asked[c] <= r as u32
 }
 
-// Whether no rule refers to its own target or to that of a later rule, in lent scratch: two passes over the rules and one over the texts.
-pub fn ascends(image: &[u8], head: Counts, scratch: &mut Scratch) -> bool
+// Whether no rule refers to its own target or to that of a later rule, in two lent arrays: two passes over the rules and one over the texts.
+pub fn ascends(
+    image: &[u8],
+    head: Counts,
+    last: &mut [u32; MAX_MARKS],
+    asked: &mut [u32; MAX_CONDITIONS],
+) -> bool
     requires { Opened image.now head }
     ensures { result ≡ true → (stage : ℕ) → Rising (rules_of image.now stage) }
 {
     let rules = head.rules as usize;
-    last_targets(image, rules, &mut scratch.targeted);
-    last_texts(image, head, &scratch.targeted, &mut scratch.free);
+    last_targets(image, rules, last);
+    last_texts(image, head, last, asked);
     for r in 0..rules {
-        if !mark_ascends(image, r, &scratch.targeted) || !text_ascends(image, r, &scratch.free) {
+        if !mark_ascends(image, r, last) || !text_ascends(image, r, asked) {
             return false;
         }
     }

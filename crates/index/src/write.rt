@@ -156,7 +156,7 @@ fn put_orders(
     ensures { Wrote room.old at (flat head.stages (order_bytes (book_of image.now))) result room.new }
 {
     let rules = head.rules as usize;
-    let rising = ascends(image, head, scratch);
+    let rising = ascends(image, head, &mut scratch.targeted, &mut scratch.free);
     let places = Places::of(image, rules);
     let mut next = at;
     for stage in 0..head.stages {

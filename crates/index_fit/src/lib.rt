@@ -125,7 +125,7 @@ fn orders_same(
     ensures { result ≡ stands_at index.now at (flat head.stages (order_bytes (book_of image.now))) }
 {
     let rules = head.rules as usize;
-    let rising = ascends(image, head, scratch);
+    let rising = ascends(image, head, &mut scratch.targeted, &mut scratch.free);
     let mut next = at;
     for stage in 0..head.stages {
         let counted = sizes.order_size(stage as usize);
