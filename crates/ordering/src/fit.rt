@@ -34,8 +34,8 @@ pub fn order_fits(
     if order.len() != counted {
         return false;
     }
-    for &entry in order {
-        let r = entry as usize;
+    for j in 0..counted {
+        let r = entry_of(order, j);
         if rules <= r {
             return false;
         }
