@@ -36,17 +36,17 @@ impl<'a> BookReader<'a> {
     }
 }
 
-// The same of an image and its counts.
+// With plain parameters: whoever calls these has no reader at hand.
 pub fn rule_in(image: &[u8], counts: Counts, i: usize) -> Rule
     requires { rule_place i + rule_size ≤ length image.now }
     ensures { result ≡ rule_from image.now (rule_place i) }
 {
-    rule_at(image, i)
+    open(image, counts).rule(i)
 }
 
 pub fn condition_in(image: &[u8], counts: Counts, c: usize) -> Span
     requires { condition_place counts.rules c + condition_size ≤ length image.now }
     ensures { result ≡ span_from image.now (condition_place counts.rules c) }
 {
-    condition_at(image, counts.rules, c)
+    open(image, counts).condition(c)
 }
