@@ -54,7 +54,7 @@ fn mend_judged(bytes: &[u8], chart: &mut [u8], list: &mut [u8]) -> Result<u32, R
 }
 
 // Mends the chart into one room and writes each change into the other, or refuses and writes nothing.
-// Cost: one walk over the nodes for the loops, some passes over the nodes, three over the relations. Stack: about 2 KiB.
+// Cost: one walk over the nodes for the loops, some passes over the nodes, three over the relations. Stack: about 3 KiB.
 pub fn mend(image: &[u8], chart: &mut [u8], list: &mut [u8]) -> Mended
     ensures { (result ≡ mending image.now (length chart.old) (length list.old)) × (chart.new ≡ mended_room image.now chart.old list.old) × (list.new ≡ changes_room image.now chart.old list.old) }
 {
